@@ -3,7 +3,7 @@ use Rattle.std.proofs.Common.{◌≡◌, ℕ, ◌<◌, true, nat_lt, [], ◌∷�
 use Rattle.std.proofs.lemmas.Bool.{ltb-true}
 use Rattle.aes_block.specs.Field.{octets, times, sub_byte}
 use Rattle.aes_block.specs.Cipher.{mixed}
-use Rattle.aes_block.specs.Turned.{look, turned, plain, first_sum, second_sum, first_place, second_place, looked, once, twice, plain_box, of_kept, of_last}
+use Rattle.aes_block.specs.Turned.{look, turned, plain, first_sum, second_sum, first_place, second_place, looked, once, twice, plain_box, of_turned, of_last}
 use Rattle.aes_block.specs.declared.tables.TheConstants.{S_BOX}
 use Rattle.aes_block.proofs.Octets.{same_at}
 use Rattle.aes_block.proofs.Sbox.{get_or_S_BOX, times_three, sub_byte_lt}
@@ -77,7 +77,7 @@ constants_meet a b d s c k =
 -- one octet after a full round
 pub mixed_octet : (a b c d k : ℕ) → a < 256 → b < 256 → c < 256 → d < 256
     → plain (bit_xor (bit_xor (bit_xor (bit_xor (twice a) (once b)) (once d)) (bit_xor (twice b) (once c))) k)
-    ≡ bit_xor (mixed (sub_byte (plain a)) (sub_byte (plain b)) (sub_byte (plain c)) (sub_byte (plain d))) (of_kept k)
+    ≡ bit_xor (mixed (sub_byte (plain a)) (sub_byte (plain b)) (sub_byte (plain c)) (sub_byte (plain d))) (of_turned k)
 unfolding mixed
 mixed_octet a b c d k ha hb hc hd =
     rw (
@@ -102,8 +102,8 @@ last_octet a k h = rw (plain_box_is a h) (xor_ends (sub_byte (plain a)) 0x63 k)
 -- ---- keys
 
 -- an octet of a key, kept and back
-pub kept_octet : (k : ℕ) → bit_xor k 0x63 < 256 → of_kept (turned (bit_xor k 0x63)) ≡ k
-kept_octet k h = ap (λ x. bit_xor x 0x63) (plain_turned (bit_xor k 0x63) h) ∙ xor_twice k 0x63
+pub turned_octet : (k : ℕ) → bit_xor k 0x63 < 256 → of_turned (turned (bit_xor k 0x63)) ≡ k
+turned_octet k h = ap (λ x. bit_xor x 0x63) (plain_turned (bit_xor k 0x63) h) ∙ xor_twice k 0x63
 
 -- the S-box of an octet in the standard's basis
 pub substituted : (b : ℕ) → b < 256 → turned b < 256 → bit_xor (plain_box (turned b)) 0x63 ≡ sub_byte b

@@ -6,10 +6,10 @@ use lib.Lanes.{zip2, Each1}
 use Rattle.aes_block.specs.Field.{sub_byte}
 use Rattle.aes_block.specs.KeySchedule.{word_of, change_at, xor_words, joined, round_key}
 use Rattle.aes_block.specs.Cipher.{entry}
-use Rattle.aes_block.specs.Turned.{all, turned, plain_box, of_kept, of_last, each_column, columns_on, sums_of_two, sums_of_four}
+use Rattle.aes_block.specs.Turned.{all, turned, plain_box, of_turned, of_last, each_column, columns_on, sums_of_two, sums_of_four}
 use Rattle.aes_block.specs.declared.key_schedule.TheConstants.{ROUND_CONSTANTS}
-use Rattle.aes_block.proofs.Sixteen.{spread, lane_fits}
-use Rattle.aes_block.proofs.Basis.{kept_octet, substituted, turned-lt}
+use Rattle.aes_block.proofs.Sixteen.{spread, lane_bounded}
+use Rattle.aes_block.proofs.Basis.{turned_octet, substituted, turned-lt}
 use Rattle.aes_block.proofs.Xor.{xor_twice}
 use Rattle.aes_block.proofs.Lanewise.{state_of_same}
 use Rattle.aes_block.proofs.Schedule.{get_or_ROUND_CONSTANTS, change_at_first, next_key}
@@ -18,15 +18,15 @@ use Rattle.aes_block.proofs.Schedule.{get_or_ROUND_CONSTANTS, change_at_first, n
 with_constant : (key : List ℕ) → length key ≡ 16 → zip2 bit_xor key (replicate 16 0x63) ≡ all (λ b. bit_xor b 0x63) key
 with_constant key long = ap (λ v. zip2 bit_xor v (replicate 16 0x63)) (spread key long)
 
-pub kept_is : (key r : List ℕ) → length key ≡ 16 → Each1 (Fits w8) key → r ≡ all turned (zip2 bit_xor key (replicate 16 0x63)) → all of_kept r ≡ key
-kept_is key r long fits e =
-    ap (all of_kept) (e ∙ ap (all turned) (with_constant key long))
-    ∙ state_of_same (λ row column. of_kept (turned (bit_xor (entry key row column) 0x63))) (λ row column. entry key row column)
-    (λ row column. kept_octet (entry key row column) (xor_lt 8 (entry key row column) 0x63 (lane_fits key (row + 4 * column) fits) (lit< tt)))
+pub is_turned : (key r : List ℕ) → length key ≡ 16 → Each1 (Fits w8) key → r ≡ all turned (zip2 bit_xor key (replicate 16 0x63)) → all of_turned r ≡ key
+is_turned key r long fits e =
+    ap (all of_turned) (e ∙ ap (all turned) (with_constant key long))
+    ∙ state_of_same (λ row column. of_turned (turned (bit_xor (entry key row column) 0x63))) (λ row column. entry key row column)
+    (λ row column. turned_octet (entry key row column) (xor_lt 8 (entry key row column) 0x63 (lane_bounded key (row + 4 * column) fits) (lit< tt)))
     ∙ sym (spread key long)
 
-pub kept_last_is : (key : List ℕ) → length key ≡ 16 → all of_last (zip2 bit_xor key (replicate 16 0x63)) ≡ key
-kept_last_is key long =
+pub preserved_last_is : (key : List ℕ) → length key ≡ 16 → all of_last (zip2 bit_xor key (replicate 16 0x63)) ≡ key
+preserved_last_is key long =
     ap (all of_last) (with_constant key long)
     ∙ state_of_same (λ row column. of_last (bit_xor (entry key row column) 0x63)) (λ row column. entry key row column)
     (λ row column. xor_twice (entry key row column) 0x63)
@@ -37,7 +37,7 @@ substituted_are o t p fits et ep =
     ap (λ v. zip2 bit_xor v (replicate 16 0x63)) (ep ∙ ap (all plain_box) et)
     ∙ state_of_same (λ row column. bit_xor (plain_box (turned (entry o row column))) 0x63) (λ row column. sub_byte (entry o row column))
     (λ row column.
-    let fit : entry o row column < 256 = lane_fits o (row + 4 * column) fits in
+    let fit : entry o row column < 256 = lane_bounded o (row + 4 * column) fits in
     substituted (entry o row column) fit (turned-lt (entry o row column) fit))
 
 pub columns_added : (state one two : List ℕ) → length state ≡ 16 → one ≡ columns_on 1 state → two ≡ columns_on 2 (zip2 bit_xor state one)

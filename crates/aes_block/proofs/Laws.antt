@@ -2,7 +2,7 @@
 use Rattle.std.proofs.Common.{◌≡◌, ℕ, ◌<◌, eqb, true, cond, ◌&&◌, nat_lt, List, length, refl, sym, ◌∙◌, map, arith}
 use Rattle.std.proofs.lemmas.Bool.{ltb-true, eq-eqb, eqb-true, ne_eqb, and_parts, cond-true, cond-false}
 use Rattle.aes_block.proofs.Octets.{same_at}
-use Rattle.aes_block.specs.Field.{times, octets, inverse, InversesStandAlone}
+use Rattle.aes_block.specs.Field.{times, octets, inverse, InversesAreUnique}
 use Rattle.aes_block.specs.Cipher.{add_round_key, aes128}
 
 -- an encryption has sixteen octets
@@ -27,8 +27,8 @@ inverse_test : map (λ b. cond (eqb b 0) true (nat_lt (inverse b) 256 && eqb (ti
 unfolding times inverse
 inverse_test = refl
 
-pub inverses_stand_alone : InversesStandAlone
-inverses_stand_alone b some fits =
+pub inverses_are_unique : InversesAreUnique
+inverses_are_unique b some fits =
     let tested : cond (eqb b 0) true (nat_lt (inverse b) 256 && eqb (times b (inverse b)) 1) ≡ true =
     same_at (λ x. cond (eqb x 0) true (nat_lt (inverse x) 256 && eqb (times x (inverse x)) 1)) (λ _. true) b inverse_test fits in
     let both = and_parts (nat_lt (inverse b) 256) (eqb (times b (inverse b)) 1) (sym (cond-false (eqb b 0) _ _ (ne_eqb b 0 (omega arith))) ∙ tested) in

@@ -10,10 +10,10 @@ pub spread : (xs : List ℕ) → length xs ≡ 16 → xs ≡ all (λ b. b) xs
 spread xs long = fill_by_all (λ i. get_or xs i 0) xs 16 0 long (λ _ _. refl)
 
 -- a lane is an octet
-pub lane_fits : (xs : List ℕ) (i : ℕ) → Each1 (Fits w8) xs → get_or xs i 0 < 256
-lane_fits [] i h = omega arith
-lane_fits (x ∷ xs) zero h = h.0.fits
-lane_fits (x ∷ xs) (suc i) h = lane_fits xs i h.1
+pub lane_bounded : (xs : List ℕ) (i : ℕ) → Each1 (Fits w8) xs → get_or xs i 0 < 256
+lane_bounded [] i h = omega arith
+lane_bounded (x ∷ xs) zero h = h.0.fits
+lane_bounded (x ∷ xs) (suc i) h = lane_bounded xs i h.1
 
 -- a look-up at each place
 swz_look : (table js : List ℕ) (i : ℕ) → i + length js ≤ 16 → swz_l w8 16 table i js ≡ map (look table) js

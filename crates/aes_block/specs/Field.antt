@@ -32,8 +32,8 @@ pub record IsTheInverse (b c : ℕ) : Type 0 where
   pub alone : (other : ℕ) → other < 256 → times b other ≡ 1 → other ≡ c
 
 -- every octet but 0 has one inverse, and it is this
-abbrev pub InversesStandAlone : Type 0
-InversesStandAlone = (b : ℕ) → 0 < b → b < 256 → IsTheInverse b (inverse b)
+abbrev pub InversesAreUnique : Type 0
+InversesAreUnique = (b : ℕ) → 0 < b → b < 256 → IsTheInverse b (inverse b)
 
 -- bit i of the affine map's answer (5.1.1)
 abbrev pub affine_bit : ℕ → ℕ → ℕ

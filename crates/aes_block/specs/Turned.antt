@@ -3,7 +3,7 @@
 use Rattle.std.specs.Prelude.{ℕ, ◌≡◌, ◌<◌, ◌+◌, ◌-◌, ◌/◌, ◌%◌, ◌*◌, nat_le, nat_lt, ◌||◌, IsTrue, if◌then◌else◌, List, [], ◌∷◌, slice_index, slice_index_or, bit_and, bit_xor}
 use Rattle.aes_block.specs.KeySchedule.{round_key}
 use Rattle.aes_block.specs.Cipher.{entry, state_of}
-use Rattle.aes_block.specs.declared.key_schedule.KeptKey.{KeptKey}
+use Rattle.aes_block.specs.declared.key_schedule.TurnedKey.{TurnedKey}
 use Rattle.aes_block.specs.declared.lanes.TheConstants.{TURN_LOWER, TURN_UPPER, INVERSES, QUOTIENTS, ONCE_FIRST, ONCE_SECOND, TWICE_FIRST, TWICE_SECOND, PLAIN_FIRST, PLAIN_SECOND}
 
 -- each octet of a state through f
@@ -81,8 +81,8 @@ unfoldable pub plain_box : ℕ → ℕ
 plain_box b = looked PLAIN_FIRST PLAIN_SECOND b
 
 -- an octet of a round key, which is kept in the turned basis with the constant of the affine map added
-abbrev pub of_kept : ℕ → ℕ
-of_kept b = bit_xor (plain b) 0x63
+abbrev pub of_turned : ℕ → ℕ
+of_turned b = bit_xor (plain b) 0x63
 
 -- an octet of the last round key, which is kept with that constant added
 abbrev pub of_last : ℕ → ℕ
@@ -110,7 +110,7 @@ abbrev pub each_column : (ℕ → ℕ) → List ℕ
 each_column octet = state_of (λ row column. octet row)
 
 -- these are the key's round keys, as they are kept: the first as it is, then those of the nine full rounds and the last
-pub record AreKept (key : List ℕ) (full : List KeptKey) (last : List ℕ) : Type 0 where
+pub record AreTurned (key : List ℕ) (full : List TurnedKey) (last : List ℕ) : Type 0 where
   pub first_is : round_key key 0 ≡ key
-  pub full_are : (r : ℕ) → r < 9 → (d : KeptKey) → all of_kept (slice_index_or full r d).lanes ≡ round_key key (r + 1)
+  pub full_are : (r : ℕ) → r < 9 → (d : TurnedKey) → all of_turned (slice_index_or full r d).lanes ≡ round_key key (r + 1)
   pub last_is : all of_last last ≡ round_key key 10

@@ -4,7 +4,7 @@ ghost use Rattle.std.specs.Prelude.{◌≡◌, ℕ, ◌+◌, ◌*◌, ◌%◌, �
 ghost use Rattle.aes_block.specs.Field.{sub_byte};
 ghost use Rattle.aes_block.specs.KeySchedule.{word_of, change_at, round_key};
 ghost use Rattle.aes_block.specs.Cipher.{entry};
-ghost use Rattle.aes_block.specs.Turned.{all, of_kept, of_last, columns_on, sums_of_four, each_column};
+ghost use Rattle.aes_block.specs.Turned.{all, of_turned, of_last, columns_on, sums_of_four, each_column};
 
 use crate::lanes::{invert, turn};
 use std::simd::prelude::*;
@@ -95,23 +95,23 @@ pub(crate) fn next_round_key(round: usize, key: u8x16) -> u8x16
 
 // A round key as the full rounds take it: in the turned basis, with the constant of the affine map added.
 #[derive(Clone, Copy, Drop)]
-pub(crate) struct KeptKey {
+pub(crate) struct TurnedKey {
     pub(crate) lanes: u8x16,
 }
 
 // A round key, to be kept for a full round.
 #[inline(always)]
-pub(crate) fn kept(key: u8x16) -> KeptKey
-    ensures { all of_kept result.lanes ≡ key }
+pub(crate) fn kept(key: u8x16) -> TurnedKey
+    ensures { all of_turned result.lanes ≡ key }
 {
-    KeptKey {
+    TurnedKey {
         lanes: turn(key ^ u8x16::splat(AFFINE_CONSTANT)),
     }
 }
 
 // A round key, to be kept for the last round: with the constant of the affine map added.
 #[inline(always)]
-pub(crate) fn kept_last(key: u8x16) -> u8x16
+pub(crate) fn turned_last(key: u8x16) -> u8x16
     ensures { all of_last result ≡ key }
 {
     key ^ u8x16::splat(AFFINE_CONSTANT)

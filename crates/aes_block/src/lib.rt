@@ -6,7 +6,7 @@
 ghost use Rattle.std.specs.Prelude.{◌≡◌};
 ghost use Rattle.aes_block.specs.Cipher.{aes128};
 
-use crate::key_schedule::{KeptKey, kept, kept_last, next_round_key};
+use crate::key_schedule::{TurnedKey, kept, next_round_key, turned_last};
 use crate::rounds::{begin, full_round, last_round};
 use std::marker::Model;
 use std::simd::prelude::*;
@@ -20,7 +20,7 @@ mod tables;
 mod word_schedule;
 
 pub use by_tables::TableAes128;
-pub use inverses::inverses_stand_alone;
+pub use inverses::inverses_are_unique;
 
 /// The octets of a block (FIPS 197, section 3.4).
 pub const BLOCK_LEN: usize = 16;
@@ -32,19 +32,19 @@ pub const BLOCK_LEN: usize = 16;
 #[derive(Drop)]
 pub struct Aes128 {
     key: u8x16,
-    full_keys: [KeptKey; 9],
+    full_keys: [TurnedKey; 9],
     last_key: u8x16,
 }
 
 impl Model for Aes128 {
     ghost use Rattle.std.specs.Prelude.{List, ℕ};
-    ghost use Rattle.aes_block.specs.Turned.{AreKept};
+    ghost use Rattle.aes_block.specs.Turned.{AreTurned};
 
     ghost Value = { List ℕ };
 
     ghost view = { λ a. a.key };
 
-    ghost invariant = { λ a. AreKept a.key a.full_keys a.last_key };
+    ghost invariant = { λ a. AreTurned a.key a.full_keys a.last_key };
 }
 
 impl Aes128 {
@@ -53,7 +53,7 @@ impl Aes128 {
         ensures { result ≡ key.now }
     {
         let first = u8x16::from_array(*key);
-        let mut full_keys = [KeptKey { lanes: first }; 9];
+        let mut full_keys = [TurnedKey { lanes: first }; 9];
         let mut round_key = first;
         for round in 0..9 {
             let next = next_round_key(round, round_key);
@@ -63,7 +63,7 @@ impl Aes128 {
         Aes128 {
             key: first,
             full_keys,
-            last_key: kept_last(next_round_key(9, round_key)),
+            last_key: turned_last(next_round_key(9, round_key)),
         }
     }
 

@@ -4,7 +4,7 @@
 ghost use Rattle.std.specs.Prelude.{◌≡◌};
 ghost use Rattle.aes_block.specs.Cipher as cipher;
 ghost use Rattle.aes_block.specs.Cipher.{state_of, add_round_key, full_round_of, last_round_of};
-ghost use Rattle.aes_block.specs.Turned.{all, plain, of_kept, of_last, mixed_lanes};
+ghost use Rattle.aes_block.specs.Turned.{all, plain, of_turned, of_last, mixed_lanes};
 ghost use Rattle.aes_block.specs.Turned as turned;
 
 use crate::lanes::{invert, turn};
@@ -55,7 +55,7 @@ pub(crate) fn begin(block: u8x16, key: u8x16) -> u8x16
 // affine map is in the kept key, since MIXCOLUMNS leaves a state of equal octets as it is.
 #[inline(always)]
 pub(crate) fn full_round(state: u8x16, kept: u8x16) -> u8x16
-    ensures { all plain result ≡ full_round_of (all plain state) (all of_kept kept) }
+    ensures { all plain result ≡ full_round_of (all plain state) (all of_turned kept) }
 {
     let halves = invert(shift_rows(state));
     mix_columns(halves.once(), halves.twice()) ^ kept

@@ -69,8 +69,8 @@ module _ {S : Type 0} (shown : Shown S) where
     pub split : text ≡ front ++ rest
     pub appends : Appends shown (Ok tt) before now front
 
-  pub appending_begins : (now : S) (text : List ℕ) → Appending now now text text
-  appending_begins now text = record { front = []; split = refl; appends = appends_none tt now }
+  pub appending_starts : (now : S) (text : List ℕ) → Appending now now text text
+  appending_starts now text = record { front = []; split = refl; appends = appends_none tt now }
 
   -- one more piece was written
   pub appending_next : (before now after : S) (text rest piece more : List ℕ) → rest ≡ piece ++ more → Appending before now text rest

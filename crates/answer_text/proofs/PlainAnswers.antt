@@ -25,7 +25,7 @@ use Rattle.answer_text.specs.Pieces.{hex_text}
 use Rattle.answer_text.specs.Psk.{psk_note}
 use Rattle.answer_text.proofs.Plain.{is_within, plain, through, within_join, decimal_within, decimal_first}
 use Rattle.answer_text.proofs.PlainGpsk.{gpsk_within, gpsk_plain}
-use Rattle.answer_text.proofs.PlainKeys.{begins_result, no_result, hex_line_plain, sealed_plain}
+use Rattle.answer_text.proofs.PlainKeys.{starts_result, no_result, hex_line_plain, sealed_plain}
 use Rattle.answer_text.proofs.PlainPsk.{psk_within, psk_plain}
 use Rattle.answer_text.proofs.PlainWords.{cause_within, hex_within, either_within}
 
@@ -52,45 +52,45 @@ note_within kind body =
     (either_within (kind == expanded_kind) (expanded_note (expanded_of body)) (message_text kind body) (expanded_within (expanded_of body)) (message_within kind body)))
 
 typed_plain : (number : ℕ) (code : List ℕ) (id kind : ℕ) (body : List ℕ) (whole octets : ℕ) → is_within code ≡ true
-    → plain begins_result true (typed_text number code id kind body whole octets) ≡ true
+    → plain starts_result true (typed_text number code id kind body whole octets) ≡ true
 unfolding typed_text
 typed_plain number code id kind body whole octets h =
-    decimal_first begins_result no_result number _
-    (through begins_result code _ h
-    (through begins_result (decimal id) _ (decimal_within id)
-    (through begins_result (decimal kind) _ (decimal_within kind)
-    (through begins_result (decimal whole) _ (decimal_within whole)
-    (through begins_result (decimal (octets - whole)) _ (decimal_within (octets - whole))
-    (through begins_result (note_text kind body) _ (note_within kind body) refl))))))
+    decimal_first starts_result no_result number _
+    (through starts_result code _ h
+    (through starts_result (decimal id) _ (decimal_within id)
+    (through starts_result (decimal kind) _ (decimal_within kind)
+    (through starts_result (decimal whole) _ (decimal_within whole)
+    (through starts_result (decimal (octets - whole)) _ (decimal_within (octets - whole))
+    (through starts_result (note_text kind body) _ (note_within kind body) refl))))))
 
-end_line_plain : (number : ℕ) (code : List ℕ) (id whole octets : ℕ) → is_within code ≡ true → plain begins_result true (end_line_text number code id whole octets) ≡ true
+end_line_plain : (number : ℕ) (code : List ℕ) (id whole octets : ℕ) → is_within code ≡ true → plain starts_result true (end_line_text number code id whole octets) ≡ true
 end_line_plain number code id whole octets h =
-    decimal_first begins_result no_result number _
-    (through begins_result code _ h
-    (through begins_result (decimal id) _ (decimal_within id)
-    (through begins_result (decimal whole) _ (decimal_within whole)
-    (through begins_result (decimal (octets - whole)) _ (decimal_within (octets - whole)) refl))))
+    decimal_first starts_result no_result number _
+    (through starts_result code _ h
+    (through starts_result (decimal id) _ (decimal_within id)
+    (through starts_result (decimal whole) _ (decimal_within whole)
+    (through starts_result (decimal (octets - whole)) _ (decimal_within (octets - whole)) refl))))
 
-value_plain : (number : ℕ) (value : PacketValue) (whole octets : ℕ) → plain begins_result true (value_text number value whole octets) ≡ true
+value_plain : (number : ℕ) (value : PacketValue) (whole octets : ℕ) → plain starts_result true (value_text number value whole octets) ≡ true
 value_plain number (request id kind body) whole octets = typed_plain number (codes "request") id kind body whole octets refl
 value_plain number (response id kind body) whole octets = typed_plain number (codes "response") id kind body whole octets refl
 value_plain number (success id) whole octets = end_line_plain number (codes "success") id whole octets refl
 value_plain number (failure id) whole octets = end_line_plain number (codes "failure") id whole octets refl
 
-packet_by_plain : (number : ℕ) (octets : List ℕ) (x : Result PacketValue Cause) → plain begins_result true (packet_text_by number octets x) ≡ true
-packet_by_plain number octets (Err cause) = decimal_first begins_result no_result number _ (through begins_result (cause_word cause) _ (cause_within cause) refl)
+packet_by_plain : (number : ℕ) (octets : List ℕ) (x : Result PacketValue Cause) → plain starts_result true (packet_text_by number octets x) ≡ true
+packet_by_plain number octets (Err cause) = decimal_first starts_result no_result number _ (through starts_result (cause_word cause) _ (cause_within cause) refl)
 packet_by_plain number octets (Ok value) = value_plain number value (length (spelled value)) (length octets)
 
-pub packet_plain : (number : ℕ) (octets : List ℕ) → plain begins_result true (packet_text number octets) ≡ true
+pub packet_plain : (number : ℕ) (octets : List ℕ) → plain starts_result true (packet_text number octets) ≡ true
 unfolding packet_text
 packet_plain number octets = packet_by_plain number octets (packet_of octets)
 
-pub packets_plain : (packets malformed : ℕ) → plain begins_result true (packets_text packets malformed) ≡ true
+pub packets_plain : (packets malformed : ℕ) → plain starts_result true (packets_text packets malformed) ≡ true
 unfolding packets_text
 packets_plain packets malformed =
-    through begins_result (decimal packets) _ (decimal_within packets) (through begins_result (decimal malformed) _ (decimal_within malformed) refl)
+    through starts_result (decimal packets) _ (decimal_within packets) (through starts_result (decimal malformed) _ (decimal_within malformed) refl)
 
-pub key_plain : (asked : KeyLine) → plain begins_result true (key_text asked) ≡ true
+pub key_plain : (asked : KeyLine) → plain starts_result true (key_text asked) ≡ true
 unfolding key_text
 key_plain (asked.Aes key block) = hex_line_plain (codes "aes") (aes128 key block) refl
 key_plain (asked.Cmac key text) = hex_line_plain (codes "cmac") (aes_cmac key text) refl

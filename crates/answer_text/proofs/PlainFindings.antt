@@ -6,7 +6,7 @@ use Rattle.capture_check.specs.declared.finding.Finding.TheVariants.{Good, Malfo
 use Rattle.capture_check.proofs.Names.{Names}
 use Rattle.answer_text.specs.Findings.{finding_text, findings_text}
 use Rattle.answer_text.proofs.Plain.{is_within, plain, through, decimal_within, decimal_first}
-use Rattle.answer_text.proofs.PlainKeys.{begins_result}
+use Rattle.answer_text.proofs.PlainKeys.{starts_result}
 use Rattle.answer_text.proofs.PlainWords.{cause_within}
 
 -- a line that begins with its number begins with no such octet, where no digit is one
@@ -21,7 +21,7 @@ finding_plain begins no_digit number (TagGood name) h = decimal_first begins no_
 finding_plain begins no_digit number NoKey h = decimal_first begins no_digit number _ refl
 finding_plain begins no_digit number NoContext h = decimal_first begins no_digit number _ refl
 
-pub findings_plain : (packets findings : ℕ) → plain begins_result true (findings_text packets findings) ≡ true
+pub findings_plain : (packets findings : ℕ) → plain starts_result true (findings_text packets findings) ≡ true
 unfolding findings_text
 findings_plain packets findings =
-    through begins_result (decimal packets) _ (decimal_within packets) (through begins_result (decimal findings) _ (decimal_within findings) refl)
+    through starts_result (decimal packets) _ (decimal_within packets) (through starts_result (decimal findings) _ (decimal_within findings) refl)

@@ -109,9 +109,9 @@ module _ {S : Type 0} (shown : Shown S) where
       puts_text result before after held now text (text ++ []) (sym (append-nil text)) (puts_both result done before mid after held between now text [] a b)
 
   -- a text is held
-  pub puts_held : (done : Unit {0}) (before : S) (held now text : List ℕ) → now ≡ held ++ text → Puts shown (Ok done) before before held now text
+  pub puts_stored : (done : Unit {0}) (before : S) (held now text : List ℕ) → now ≡ held ++ text → Puts shown (Ok done) before before held now text
   unfolding Puts
-  puts_held done before held now text e = record {
+  puts_stored done before held now text e = record {
     front = [];
     rest = held ++ text;
     split = refl;
@@ -126,7 +126,7 @@ module _ {S : Type 0} (shown : Shown S) where
   pub puts_with : (result : Result (Unit {0}) Failed) (before after : S) (held between now text : List ℕ) → between ≡ held ++ text
       → Puts shown result before after between now [] → Puts shown result before after held now text
   puts_with result before after held between now text e p =
-      puts_sent result tt before before after held between now text (puts_held tt before held between text e) p
+      puts_sent result tt before before after held between now text (puts_stored tt before held between text e) p
 
   -- what is held was written
   pub puts_written : (done all : Unit {0}) (before after : S) (held now : List ℕ) → now ≡ [] → Appends shown (Ok all) before after held
@@ -201,8 +201,8 @@ module _ {S : Type 0} (shown : Shown S) where
     pub split : text ≡ front ++ rest
     pub puts : Puts shown (Ok tt) before now held holds front
 
-  pub putting_begins : (now : S) (held text : List ℕ) → Putting now now held held text text
-  putting_begins now held text = record { front = []; split = refl; puts = puts_held tt now held held [] (sym (append-nil held)) }
+  pub putting_starts : (now : S) (held text : List ℕ) → Putting now now held held text text
+  putting_starts now held text = record { front = []; split = refl; puts = puts_stored tt now held held [] (sym (append-nil held)) }
 
   -- one more piece was put
   pub putting_next : (before now after : S) (held holds next text rest piece more : List ℕ) → rest ≡ piece ++ more → Putting before now held holds text rest
@@ -231,4 +231,4 @@ module _ {S : Type 0} (shown : Shown S) where
   pub putting_over : (before now : S) (held holds text rest : List ℕ) → Putting before now held holds text rest → rest ≡ []
       → Puts shown (Ok tt) before now held holds text
   putting_over before now held holds text rest a e =
-      putting_ends (Ok tt) before now now held holds holds text rest a (puts_text (Ok tt) now now holds holds rest [] e (puts_held tt now holds holds [] (sym (append-nil holds))))
+      putting_ends (Ok tt) before now now held holds holds text rest a (puts_text (Ok tt) now now holds holds rest [] e (puts_stored tt now holds holds [] (sym (append-nil holds))))

@@ -14,13 +14,13 @@ abbrev pub has_mark : List ℕ → Bool → List ℕ → Bool
 has_mark mark begins [] = false
 has_mark mark begins (o ∷ text) = (begins && begins_with mark (o ∷ text)) || has_mark mark (o == 10) text
 
-begins_itself : (mark rest : List ℕ) → begins_with (mark ++ (10 ∷ [])) (mark ++ (10 ∷ rest)) ≡ true
-begins_itself [] rest = refl
-begins_itself (m ∷ mark) rest = and_from (m == m) (begins_with (mark ++ (10 ∷ [])) (mark ++ (10 ∷ rest))) (eq-eqb m m refl) (begins_itself mark rest)
+starts_itself : (mark rest : List ℕ) → begins_with (mark ++ (10 ∷ [])) (mark ++ (10 ∷ rest)) ≡ true
+starts_itself [] rest = refl
+starts_itself (m ∷ mark) rest = and_from (m == m) (begins_with (mark ++ (10 ∷ [])) (mark ++ (10 ∷ rest))) (eq-eqb m m refl) (starts_itself mark rest)
 
 has_first : (line rest : List ℕ) → has_mark (line ++ (10 ∷ [])) true (line ++ (10 ∷ rest)) ≡ true
 has_first [] rest = refl
-has_first (l ∷ line) rest = or_left _ _ (begins_itself (l ∷ line) rest)
+has_first (l ∷ line) rest = or_left _ _ (starts_itself (l ∷ line) rest)
 
 has_later : (mark passed rest : List ℕ) (begins : Bool) → has_mark mark true rest ≡ true → has_mark mark begins (passed ++ (10 ∷ rest)) ≡ true
 has_later mark [] rest begins h = or_right _ _ h

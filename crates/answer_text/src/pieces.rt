@@ -77,7 +77,7 @@ fn put_octets<W: Sink>(sink: &mut W, line: &mut LineBuffer, octets: &[u8]) -> Re
 }
 
 /// Appends octets to a line, which mostly has room for them. This is short, so that it is compiled into its callers.
-#[tactic(auto, using(crate::proofs::Putting::puts_held))]
+#[tactic(auto, using(crate::proofs::Putting::puts_stored))]
 fn put_short<W: Sink>(sink: &mut W, line: &mut LineBuffer, octets: &[u8]) -> Result<(), Failed>
     ensures { Puts W.shown result sink.old sink.new line.old line.new octets.now }
 {

@@ -9,7 +9,7 @@ use Rattle.tag_book.specs.declared.book.TagsVerdict.{TagsVerdict}
 use Rattle.tag_book.specs.declared.book.TagsVerdict.TheVariants as tags
 use Rattle.eap_world.specs.declared.verdict.Verdict.{Verdict}
 use Rattle.eap_world.specs.declared.verdict.Verdict.TheVariants as verdict
-use Rattle.world_laws.proofs.BeginsOnce.{begins_once}
+use Rattle.world_laws.proofs.StartsOnce.{starts_once}
 use Rattle.world_laws.proofs.HonestRuns.{honest_ends_agree}
 use Rattle.bulk_run.specs.Conversation.{setup_at, setup_with}
 use Rattle.bulk_run.specs.Summing.{BrokenWhereApart, CountsWell, counts_of, drawn_each, ended_at, events_of}
@@ -57,7 +57,7 @@ counts_well w once agrees = record {
 each_well : (number place : ℕ) → CountsWell (counts_of (ended_at number place))
 unfolding ended_at setup_at
 each_well number place =
-    counts_well _ (begins_once (setup_at number place) (events_of (setup_at number place) number (place + 96)) refl refl)
+    counts_well _ (starts_once (setup_at number place) (events_of (setup_at number place) number (place + 96)) refl refl)
     (honest_ends_agree (setup_at number place) (events_of (setup_at number place) number (place + 96)) (whole_at number place))
 
 both_well : (one other : Summary) → CountsWell one → CountsWell other → CountsWell (plus one other)

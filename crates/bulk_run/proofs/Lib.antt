@@ -1,5 +1,5 @@
 -- Objects that are kept are of the same methods.
-pub mod Kept
+pub mod TwoRecords
 -- The draws go on place by place.
 pub mod Drawing
 -- What the start and a step of a world leave.

@@ -9,7 +9,7 @@ use Rattle.eap_world.specs.World.{sent_packet, one_if, sent_by, sent_to, start_c
 use Rattle.eap_world.specs.declared.told.Counts.{Counts}
 use Rattle.eap_world.specs.declared.told.Named.{Named}
 use Rattle.eap_world.specs.declared.told.Brief.{Brief}
-use Rattle.bulk_run.specs.Going.{AreFew, sent_after}
+use Rattle.bulk_run.specs.RunningEnd.{AreFew, sent_after}
 
 none_more : (sent : List Sent) → length (sent ++ []) ≡ length sent
 none_more sent = let e = length-append {A = Sent} sent [] in omega (arith, e)

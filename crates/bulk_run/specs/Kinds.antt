@@ -18,6 +18,6 @@ abbrev pub HaveSameKinds : {P S : Type 0} → (P → PeerShown) → (S → Serve
 HaveSameKinds peer_shown server_shown peer server peer_after server_after =
     kinds_of peer_shown server_shown peer_after server_after ≡ kinds_of peer_shown server_shown peer server
 
-abbrev pub KeepsKinds : {P S : Type 0} → (P → PeerShown) → (S → ServerShown) → WorldValue P S → WorldValue P S → Type 0
-KeepsKinds peer_shown server_shown before after =
+abbrev pub PreservesKinds : {P S : Type 0} → (P → PeerShown) → (S → ServerShown) → WorldValue P S → WorldValue P S → Type 0
+PreservesKinds peer_shown server_shown before after =
     HaveSameKinds peer_shown server_shown before.peer.methods before.server.methods after.peer.methods after.server.methods

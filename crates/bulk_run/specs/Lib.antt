@@ -5,6 +5,6 @@ pub mod Conversation
 -- The summary of the conversations of a number.
 pub mod Summing
 -- What a step does to a world.
-pub mod Going
+pub mod RunningEnd
 -- The objects of both ends, by their methods.
 pub mod Kinds

@@ -5,16 +5,16 @@ ghost use Rattle.login_setup.specs.declared.setup.Setup.{Setup};
 ghost use Rattle.eap_method.specs.Peer.{peer_kinds, have_each};
 ghost use Rattle.eap_method.specs.Server.{server_kinds};
 ghost use Rattle.eap_world.specs.Run.{run_of};
-ghost use Rattle.eap_world.specs.World.{HasObjects, now_of, world_made};
-ghost use Rattle.bulk_run.specs.Kinds.{KeepsKinds, HaveSameKinds};
+ghost use Rattle.eap_world.specs.World.{HasObjects, now_of, initial_world};
+ghost use Rattle.bulk_run.specs.Kinds.{PreservesKinds, HaveSameKinds};
 ghost use Rattle.bulk_run.specs.Conversation.{login_methods, alice, known_with, deliveries, chances};
 ghost use Rattle.bulk_run.specs.Draws.{state_at};
-ghost use Rattle.bulk_run.specs.Going.{AreFew};
+ghost use Rattle.bulk_run.specs.RunningEnd.{AreFew};
 ghost use Rattle.bulk_run.specs.Summing.{counts_of, drawn_each, drawn_for_events, ended_at, events_of, IsAtMost};
 
 use crate::draws::Draws;
 use crate::summary::Summary;
-use crate::turn::{begin, take, take_chosen};
+use crate::turn::{begin, step_chosen, take};
 use eap_method::{PeerMethod, ServerMethod};
 use eap_world::{Memory, Methods, World};
 use login_setup::{Accepts, Event, Later, Mode, PeerSetup, ServerSetup, Setup, User, Users};
@@ -29,7 +29,7 @@ const SERVER: &[u8] = b"srv";
 
 /// The conversation that begins at the present place of the draws. It takes the objects, which begin
 /// again, and returns them; `counts` is its result. `Memory` comes only for want of memory.
-#[tactic(auto, using(crate::proofs::Kept::same_kinds))]
+#[tactic(auto, using(crate::proofs::TwoRecords::same_kinds))]
 pub fn converse<P: PeerMethod, S: ServerMethod>(
     alloc: Global,
     number: u32,
@@ -111,16 +111,16 @@ fn talk<P: PeerMethod, S: ServerMethod>(
     requires few { AreFew world.old.counts 0 }
     requires objects { HasObjects P.peer_shown S.server_shown world.old }
     ensures run { IfOk result (λ done. (setup : Setup) (place : ℕ)
-        → now_of P.peer_shown S.server_shown world.old ≡ world_made setup → draws.old.state ≡ state_at number place
+        → now_of P.peer_shown S.server_shown world.old ≡ initial_world setup → draws.old.state ≡ state_at number place
         → now_of P.peer_shown S.server_shown world.new ≡ run_of setup (events_of setup number place)) }
     ensures stands { IfOk result (λ done. (place : ℕ) → draws.old.state ≡ state_at number place
         → draws.new.state ≡ state_at number (place + drawn_for_events number)) }
     ensures few { IfOk result (λ done. AreFew world.new.counts 40) }
-    ensures kinds { IfOk result (λ done. KeepsKinds P.peer_shown S.server_shown world.old world.new) }
+    ensures kinds { IfOk result (λ done. PreservesKinds P.peer_shown S.server_shown world.old world.new) }
 {
     let mut packets = begin(world)?;
     if number % 2 == 0 {
-        take_chances(world, &mut packets, draws)
+        step_by_chance(world, &mut packets, draws)
     } else {
         deliver_all(world, &mut packets)
     }
@@ -138,7 +138,7 @@ fn deliver_all<P: PeerMethod, S: ServerMethod>(
     ensures run { IfOk result (λ done. (setup : Setup) → now_of P.peer_shown S.server_shown world.old ≡ run_of setup []
         → now_of P.peer_shown S.server_shown world.new ≡ run_of setup (deliveries 7)) }
     ensures few { IfOk result (λ done. AreFew world.new.counts 7) }
-    ensures kinds { IfOk result (λ done. KeepsKinds P.peer_shown S.server_shown world.old world.new) }
+    ensures kinds { IfOk result (λ done. PreservesKinds P.peer_shown S.server_shown world.old world.new) }
 {
     for passed in 0..7_u32 {
         take(world, packets, &Event::Deliver { number: passed + 1 })?;
@@ -147,7 +147,7 @@ fn deliver_all<P: PeerMethod, S: ServerMethod>(
 }
 
 /// Takes 40 turns, of which each draws two octets, and the events that they choose.
-fn take_chances<P: PeerMethod, S: ServerMethod>(
+fn step_by_chance<P: PeerMethod, S: ServerMethod>(
     world: &mut World<P, S>,
     packets: &mut u32,
     draws: &mut Draws,
@@ -162,12 +162,12 @@ fn take_chances<P: PeerMethod, S: ServerMethod>(
     ensures stands { IfOk result (λ done. (number place : ℕ) → draws.old.state ≡ state_at number place
         → draws.new.state ≡ state_at number (place + 80)) }
     ensures few { IfOk result (λ done. AreFew world.new.counts 40) }
-    ensures kinds { IfOk result (λ done. KeepsKinds P.peer_shown S.server_shown world.old world.new) }
+    ensures kinds { IfOk result (λ done. PreservesKinds P.peer_shown S.server_shown world.old world.new) }
 {
     for _ in 0..40_u32 {
         let v = draws.octet();
         let u = draws.octet();
-        take_chosen(world, packets, v, u)?;
+        step_chosen(world, packets, v, u)?;
     }
     Ok(())
 }

@@ -2,7 +2,7 @@
 
 ghost use Rattle.std.specs.Prelude.{◌≡◌, ◌+◌, ℕ};
 ghost use Rattle.eap_world.specs.World.{now_of};
-ghost use Rattle.bulk_run.specs.Going.{AreFew};
+ghost use Rattle.bulk_run.specs.RunningEnd.{AreFew};
 ghost use Rattle.bulk_run.specs.Summing.{counts_of, nothing_counted, plus, IsAtMost};
 
 use eap_method::{PeerMethod, ServerMethod};

@@ -164,7 +164,8 @@ fn request_is_read_back(secret: &[u8], other: &[u8]) -> bool
     requires other { length other.now ≤ 64 }
 {
     let packet = write_request(secret, 7, &[0x22; 16], b"alice", b"", IDENTITY);
-    let front = b"\x01\x07\0\x39\"\"\"\"\"\"\"\"\"\"\"\"\"\"\"\"\x01\x07alice\x4f\x0c\x02\0\0\x0a\x01alice\x50\x12";
+    let front =
+        b"\x01\x07\0\x39\"\"\"\"\"\"\"\"\"\"\"\"\"\"\"\"\x01\x07alice\x4f\x0c\x02\0\0\x0a\x01alice\x50\x12";
     let Ok(view) = read_radius(packet.as_slice()) else {
         return false;
     };
@@ -180,7 +181,14 @@ fn reply_is_read_back(secret: &[u8], other: &[u8]) -> bool
     requires secret { length secret.now ≤ 64 }
     requires other { length other.now ≤ 64 }
 {
-    let packet = write_reply(secret, RadiusKind::Accept, 7, &[0x22; 16], b"", b"\x03\0\0\x04");
+    let packet = write_reply(
+        secret,
+        RadiusKind::Accept,
+        7,
+        &[0x22; 16],
+        b"",
+        b"\x03\0\0\x04",
+    );
     let Ok(view) = read_radius(packet.as_slice()) else {
         return false;
     };
@@ -200,7 +208,9 @@ fn radius_packets_are_read_back(rt: HostRuntime) {
 #[test]
 fn lines_are_read_whole(rt: HostRuntime) {
     let packet: Result<Option<Octets<2000>>, _> = read_packet_line(b"03020004");
-    assert!(rt; matches!(&packet, Ok(Some(octets)) if octets.as_slice() == b"\x03\x02\0\x04".as_slice()));
+    assert!(rt;
+        matches!(&packet, Ok(Some(octets)) if octets.as_slice() == b"\x03\x02\0\x04".as_slice())
+    );
     assert!(rt; matches!(&read_packet_line(b"# none"), Ok(None)));
     assert!(rt; matches!(&read_key_line(b"name 00"), Ok(Some(_))));
 }

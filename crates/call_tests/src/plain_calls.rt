@@ -230,7 +230,12 @@ fn in_world<P: PeerMethod, S: ServerMethod>(
     let is_judged = world.tags() == TagsVerdict::Honest && world.result() == Verdict::Agree;
     let methods = world.into_methods();
     let are_back = methods.peer.len() == 2 && methods.server.len() == 2;
-    is_over & is_counted & is_judged & are_back & are_equal(&peer, &server) & sent.is(login.lengths, false)
+    is_over
+        & is_counted
+        & is_judged
+        & are_back
+        & are_equal(&peer, &server)
+        & sent.is(login.lengths, false)
 }
 
 /// Between the peer and the stand-alone server.
@@ -243,7 +248,12 @@ fn between_machines<P: PeerMethod, S: ServerMethod>(
     requires both { HasBoth P.peer_shown S.server_shown methods }
 {
     let mut peer = PeerMachine::new(setup.peer, methods.peer);
-    let mut server = ServerMachine::new(setup.server, setup.first_id, setup.max_retrans, methods.server);
+    let mut server = ServerMachine::new(
+        setup.server,
+        setup.first_id,
+        setup.max_retrans,
+        methods.server,
+    );
     if server.started() || server.is_backend() {
         return false;
     }
@@ -304,9 +314,10 @@ fn input_of(packet: &Packet) -> EndInput {
 fn between_pipes<P: PeerMethod, S: ServerMethod>(methods: Methods<P, S>, login: Login) -> bool
     requires both { HasBoth P.peer_shown S.server_shown methods }
 {
-    let (Some(setup), Some((server_setup, first_id, max_retrans))) =
-        (peer_settings(), server_settings(login))
-    else {
+    let (Some(setup), Some((server_setup, first_id, max_retrans))) = (
+        peer_settings(),
+        server_settings(login),
+    ) else {
         return false;
     };
     let mut peer = PeerPipe::new(setup, methods.peer);

@@ -20,14 +20,14 @@ last_of_more shown before (first ∷ rest) packet =
     rw (last_of_more shown (before ++ first ∷ []) rest packet, append_assoc before (first ∷ []) rest)
     (or_assoc (shown (before ++ first ∷ rest) packet) (last_shown shown (before ++ first ∷ []) rest) (shown before first))
 
-or_holds : {A : Type 0} (Q : A → Type 0) (x y : Option A) → IfSome x Q → IfSome y Q → IfSome (option_or x y) Q
-or_holds Q None y h k = k
-or_holds Q (Some a) y h k = h
+either_satisfies : {A : Type 0} (Q : A → Type 0) (x y : Option A) → IfSome x Q → IfSome y Q → IfSome (option_or x y) Q
+either_satisfies Q None y h k = k
+either_satisfies Q (Some a) y h k = h
 
 -- what holds of one that is shown holds of the last that is
-pub last_holds : {A : Type 0} (Q : A → Type 0) (shown : List Captured → Captured → Option A) (each : (before : List Captured) (packet : Captured) → IfSome (shown before packet) Q)
+pub last_satisfies : {A : Type 0} (Q : A → Type 0) (shown : List Captured → Captured → Option A) (each : (before : List Captured) (packet : Captured) → IfSome (shown before packet) Q)
     (before packets : List Captured) → IfSome (last_shown shown before packets) Q
 unfolding last_shown
-last_holds Q shown each before [] = tt
-last_holds Q shown each before (packet ∷ rest) =
-    or_holds Q (last_shown shown (before ++ packet ∷ []) rest) (shown before packet) (last_holds Q shown each (before ++ packet ∷ []) rest) (each before packet)
+last_satisfies Q shown each before [] = tt
+last_satisfies Q shown each before (packet ∷ rest) =
+    either_satisfies Q (last_shown shown (before ++ packet ∷ []) rest) (shown before packet) (last_satisfies Q shown each (before ++ packet ∷ []) rest) (each before packet)

@@ -8,6 +8,6 @@ pub mod Names
 mod GpskLaws
 mod PskLaws
 -- What is kept of a list of packets and one more, and the names that findings tell, by each method.
-pub mod Keeping
+pub mod Preserving
 -- The findings of worked packets.
 mod Worked

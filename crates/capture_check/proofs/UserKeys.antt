@@ -11,10 +11,10 @@ found_here true y x rest e = inl (refl, same_Some y x e)
 found_here false y x rest e = inr e
 
 -- what holds of each element holds of the one found, and so does the test
-pub found_holds : {X : Type 0} (p : X → Bool) (P : X → Type 0) (xs : List X) (x : X) → All P xs → find p xs ≡ Some x → P x × (p x ≡ true)
-found_holds p P [] x all e = absurd cc
-found_holds p P (y ∷ ys) x all e =
+pub found_satisfies : {X : Type 0} (p : X → Bool) (P : X → Type 0) (xs : List X) (x : X) → All P xs → find p xs ≡ Some x → P x × (p x ≡ true)
+found_satisfies p P [] x all e = absurd cc
+found_satisfies p P (y ∷ ys) x all e =
     elim (found_here (p y) y x (find p ys) e) [
       | inl h ↦ (subst P h.1 (All-head P y ys all), subst (λ z. p z ≡ true) h.1 h.0)
-      | inr h ↦ found_holds p P ys x (All-tail P y ys all) h
+      | inr h ↦ found_satisfies p P ys x (All-tail P y ys all) h
     ]

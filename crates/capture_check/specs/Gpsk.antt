@@ -15,7 +15,7 @@ use Rattle.gpsk_messages.specs.Reading.{read_of}
 use Rattle.login_keys.specs.Gpsk.{gpsk_keys_of}
 use Rattle.eap_method.specs.GpskTags.{is_tagged}
 use Rattle.capture_check.specs.Captured.{Captured, last_shown}
-use Rattle.capture_check.specs.Heard.{Heard, heard_of, typed}
+use Rattle.capture_check.specs.Classified.{Classified, classified_of, typed}
 use Rattle.capture_check.specs.Tags.{tag_finding, if_right}
 use Rattle.capture_check.specs.declared.finding.Finding.{Finding}
 use Rattle.capture_check.specs.declared.finding.Finding.TheVariants.{Good, Malformed, TagGood, NoKey, NoContext}
@@ -31,13 +31,13 @@ is_gpsk_astray to_peer (gpsk4 pd mac) = to_peer
 is_gpsk_astray to_peer (fail code) = false
 is_gpsk_astray to_peer (protected_fail code mac) = false
 
-abbrev pub gpsk_heard : Bool → Result Message Cause → Result Message Cause
-gpsk_heard to_peer (Err cause) = Err cause
-gpsk_heard to_peer (Ok message) = if is_gpsk_astray to_peer message then Err WrongOp else Ok message
+abbrev pub gpsk_from_sender : Bool → Result Message Cause → Result Message Cause
+gpsk_from_sender to_peer (Err cause) = Err cause
+gpsk_from_sender to_peer (Ok message) = if is_gpsk_astray to_peer message then Err WrongOp else Ok message
 
 -- the message that Type-Data is, if it goes the right way
 abbrev pub gpsk_read : Bool → List ℕ → Result Message Cause
-gpsk_read to_peer body = gpsk_heard to_peer (read_of None body)
+gpsk_read to_peer body = gpsk_from_sender to_peer (read_of None body)
 
 -- GPSK-2 needs no packet before it: its fields name the user and give the keys (sections 4 and 9)
 
@@ -58,13 +58,13 @@ unfoldable pub gpsk_login_in : List User → List ℕ → List ℕ → List ℕ 
 gpsk_login_in users id_p id_s rand_p rand_s suite =
     option_map (λ user. gpsk_login_of user id_p id_s rand_p rand_s suite) (user_of users id_p gpsk_kind)
 
-abbrev pub login_begins : Option GpskLogin → Message → Result GpskLogin Finding
-login_begins None message = Err NoKey
-login_begins (Some login) message = if_right (is_tagged_in login message) login
+abbrev pub login_starts : Option GpskLogin → Message → Result GpskLogin Finding
+login_starts None message = Err NoKey
+login_starts (Some login) message = if_right (is_tagged_in login message) login
 
 -- the login that a GPSK-2 with the right MAC begins, or the finding of one without
-unfoldable pub gpsk_begins : List User → List ℕ → List ℕ → List ℕ → List ℕ → Suite → Message → Result GpskLogin Finding
-gpsk_begins users id_p id_s rand_p rand_s suite message = login_begins (gpsk_login_in users id_p id_s rand_p rand_s suite) message
+unfoldable pub gpsk_starts : List User → List ℕ → List ℕ → List ℕ → List ℕ → Suite → Message → Result GpskLogin Finding
+gpsk_starts users id_p id_s rand_p rand_s suite message = login_starts (gpsk_login_in users id_p id_s rand_p rand_s suite) message
 
 -- a later message belongs to the last login that GPSK-2 began
 unfoldable pub gpsk_follows : Option GpskLogin → Message → Finding
@@ -72,16 +72,16 @@ gpsk_follows None message = NoContext
 gpsk_follows (Some login) message = tag_finding login.name (is_tagged_in login message)
 
 -- the finding of a message that begins a login, or not
-abbrev pub gpsk_told : Result GpskLogin Finding → Finding
-gpsk_told (Ok login) = TagGood login.name
-gpsk_told (Err finding) = finding
+abbrev pub gpsk_verdict : Result GpskLogin Finding → Finding
+gpsk_verdict (Ok login) = TagGood login.name
+gpsk_verdict (Err finding) = finding
 
 -- GPSK-1 and GPSK-Fail have no tag; GPSK-2 is judged under the keys of its own fields, the others under those of the
 -- last GPSK-2 whose tag was good
 abbrev pub gpsk_tag_finding : List User → Option GpskLogin → Message → Finding
 gpsk_tag_finding users login (gpsk1 id_s rand_s list) = Good
 gpsk_tag_finding users login (gpsk2 id_p id_s rand_p rand_s list suite pd mac) =
-    gpsk_told (gpsk_begins users id_p id_s rand_p rand_s suite (gpsk2 id_p id_s rand_p rand_s list suite pd mac))
+    gpsk_verdict (gpsk_starts users id_p id_s rand_p rand_s suite (gpsk2 id_p id_s rand_p rand_s list suite pd mac))
 gpsk_tag_finding users login (gpsk3 rand_p rand_s id_s suite pd mac) = gpsk_follows login (gpsk3 rand_p rand_s id_s suite pd mac)
 gpsk_tag_finding users login (gpsk4 pd mac) = gpsk_follows login (gpsk4 pd mac)
 gpsk_tag_finding users login (fail code) = Good
@@ -95,20 +95,20 @@ gpsk_finding users login (Ok message) = gpsk_tag_finding users login message
 -- the login that a GPSK-2 with a good tag begins
 abbrev pub gpsk2_of : List User → Result Message Cause → Option GpskLogin
 gpsk2_of users (Ok (gpsk2 id_p id_s rand_p rand_s list suite pd mac)) =
-    result_ok (gpsk_begins users id_p id_s rand_p rand_s suite (gpsk2 id_p id_s rand_p rand_s list suite pd mac))
+    result_ok (gpsk_starts users id_p id_s rand_p rand_s suite (gpsk2 id_p id_s rand_p rand_s list suite pd mac))
 gpsk2_of users read = None
 
 -- the same of what a packet is
-abbrev pub gpsk2_in : List User → Heard → Option GpskLogin
+abbrev pub gpsk2_in : List User → Classified → Option GpskLogin
 gpsk2_in users (typed to_peer kind body) = if kind == gpsk_kind then gpsk2_of users (gpsk_read to_peer body) else None
 gpsk2_in users heard = None
 
 -- the login of the last GPSK-2 of a list whose tag is good
 unfoldable pub last_gpsk2 : List User → List Captured → Option GpskLogin
-last_gpsk2 users packets = last_shown (λ before packet. gpsk2_in users (heard_of packet.to_peer packet.octets)) [] packets
+last_gpsk2 users packets = last_shown (λ before packet. gpsk2_in users (classified_of packet.to_peer packet.octets)) [] packets
 
 -- a packet that begins a login takes the place of the one before
-abbrev pub gpsk_after : List User → Option GpskLogin → Heard → Option GpskLogin
+abbrev pub gpsk_after : List User → Option GpskLogin → Classified → Option GpskLogin
 gpsk_after users login heard = option_or (gpsk2_in users heard) login
 
 -- SK has KS octets

@@ -1,7 +1,7 @@
 pub mod Captured
-pub mod Heard
+pub mod Classified
 pub mod Tags
 pub mod Gpsk
 pub mod Psk
-pub mod Kept
+pub mod CaptureContext
 pub mod Finding

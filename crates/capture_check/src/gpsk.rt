@@ -3,11 +3,11 @@
 ghost use Rattle.std.specs.Prelude.{◌≡◌, ◌≤◌, length, All, IsTrue, None, Some, Ok};
 ghost use Rattle.std.specs.Option.{option_or};
 ghost use Rattle.std.specs.Result.{result_ok};
-ghost use Rattle.login_setup.specs.Setup.{fits_kind};
+ghost use Rattle.login_setup.specs.Setup.{is_valid_for};
 ghost use Rattle.octet_lists.specs.Suite.{ks_of};
 ghost use Rattle.octet_lists.specs.Sizes.{max_name};
 ghost use Rattle.gpsk_messages.specs.Message.{message_of, spelled, IsGpsk};
-ghost use Rattle.capture_check.specs.Gpsk.{gpsk2_of, gpsk_finding, gpsk_follows, gpsk_login_in, gpsk_read, gpsk_tag_finding, gpsk_told, is_gpsk_astray, is_tagged_in, login_begins, HasKey};
+ghost use Rattle.capture_check.specs.Gpsk.{gpsk2_of, gpsk_finding, gpsk_follows, gpsk_login_in, gpsk_read, gpsk_tag_finding, gpsk_verdict, is_gpsk_astray, is_tagged_in, login_starts, HasKey};
 
 use crate::finding::Finding;
 use eap_packet::Cause;
@@ -56,7 +56,7 @@ fn is_tagged(login: &GpskLogin, view: &GpskMessage, body: &[u8]) -> bool
 /// The login of the user whom GPSK-2 names, or None if there is no such user.
 #[tactic(auto, unfolding(crate::specs::Gpsk::gpsk_login_in, crate::specs::Gpsk::gpsk_login_of), using(crate::proofs::GpskLaws::key_is_long))]
 fn login_in(users: &Users, gpsk2: &Gpsk2) -> Option<GpskLogin>
-    requires keys { All (λ user. IsTrue (fits_kind user.kind user.psk)) users.now }
+    requires keys { All (λ user. IsTrue (is_valid_for user.kind user.psk)) users.now }
     requires peer_name { length gpsk2.now.id_p.now ≤ max_name }
     requires server_name { length gpsk2.now.id_s.now ≤ max_name }
     ensures login { result ≡ gpsk_login_in users.now gpsk2.now.id_p.now gpsk2.now.id_s.now
@@ -88,11 +88,11 @@ fn login_in(users: &Users, gpsk2: &Gpsk2) -> Option<GpskLogin>
 /// The finding of a GPSK-2 of this login, which is kept if the MAC is right.
 fn begin(kept: &mut Option<GpskLogin>, login: GpskLogin, view: &GpskMessage, body: &[u8]) -> Finding
     requires key { length login.sk ≡ ks_of login.suite }
-    requires kept_key { HasKey kept.old }
+    requires key_before { HasKey kept.old }
     requires spelled { body.now ≡ spelled (message_of view.now) }
-    ensures finding { result ≡ gpsk_told (login_begins (Some login) (message_of view.now)) }
-    ensures kept { kept.new ≡ option_or (result_ok (login_begins (Some login) (message_of view.now))) kept.old }
-    ensures key_kept { HasKey kept.new }
+    ensures finding { result ≡ gpsk_verdict (login_starts (Some login) (message_of view.now)) }
+    ensures kept { kept.new ≡ option_or (result_ok (login_starts (Some login) (message_of view.now))) kept.old }
+    ensures key_after { HasKey kept.new }
 {
     if !is_tagged(&login, view, body) {
         return Finding::TagBad;
@@ -122,14 +122,14 @@ fn follow(login: &Option<GpskLogin>, view: &GpskMessage, body: &[u8]) -> Finding
 }
 
 /// The finding of a message, which the Type-Data encodes. A login that it begins is kept.
-#[tactic(auto, unfolding(crate::specs::Gpsk::gpsk_begins))]
+#[tactic(auto, unfolding(crate::specs::Gpsk::gpsk_starts))]
 fn judge(login: &mut Option<GpskLogin>, users: &Users, view: &GpskMessage, body: &[u8]) -> Finding
-    requires keys { All (λ user. IsTrue (fits_kind user.kind user.psk)) users.now }
+    requires keys { All (λ user. IsTrue (is_valid_for user.kind user.psk)) users.now }
     requires key { HasKey login.old }
     requires read { IsGpsk None (message_of view.now) body.now }
     ensures finding { result ≡ gpsk_tag_finding users.now login.old (message_of view.now) }
     ensures kept { login.new ≡ option_or (gpsk2_of users.now (Ok (message_of view.now))) login.old }
-    ensures key_kept { HasKey login.new }
+    ensures key_after { HasKey login.new }
 {
     match view {
         GpskMessage::M1(_) => Finding::Good,
@@ -151,11 +151,11 @@ pub fn judge_body(
     to_peer: bool,
     body: &[u8],
 ) -> Finding
-    requires keys { All (λ user. IsTrue (fits_kind user.kind user.psk)) users.now }
+    requires keys { All (λ user. IsTrue (is_valid_for user.kind user.psk)) users.now }
     requires key { HasKey login.old }
     ensures finding { result ≡ gpsk_finding users.now login.old (gpsk_read to_peer body.now) }
     ensures kept { login.new ≡ option_or (gpsk2_of users.now (gpsk_read to_peer body.now)) login.old }
-    ensures key_kept { HasKey login.new }
+    ensures key_after { HasKey login.new }
 {
     match read_gpsk_message(body, None) {
         Err(cause) => Finding::Malformed(cause),

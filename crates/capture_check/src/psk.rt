@@ -2,11 +2,11 @@
 
 ghost use Rattle.std.specs.Prelude.{◌≡◌, length, All, IsTrue, Some, Ok};
 ghost use Rattle.std.specs.Option.{option_or};
-ghost use Rattle.login_setup.specs.Setup.{fits_kind};
+ghost use Rattle.login_setup.specs.Setup.{is_valid_for};
 ghost use Rattle.login_keys.specs.Psk.{psk_long_of};
 ghost use Rattle.psk_messages.specs.Message.{message_of, AreFields};
 ghost use Rattle.eap_method.specs.PskTags.{header_of, is_sealed};
-ghost use Rattle.capture_check.specs.Psk.{follows_in, is_psk_astray, psk1_of, psk2_of, psk3_follows, psk4_follows, psk_begins, psk_finding, psk_login_of, psk_read, psk_tag_finding, user_begins};
+ghost use Rattle.capture_check.specs.Psk.{follows_in, is_psk_astray, psk1_of, psk2_of, psk3_follows, psk4_follows, psk_starts, psk_finding, psk_login_of, psk_read, psk_tag_finding, user_starts};
 
 use crate::finding::Finding;
 use cmac_mac::CmacKey;
@@ -20,7 +20,7 @@ use psk_messages::{Channel, HEADER, Psk2, Psk3, Psk4, PskMessage, read_psk_messa
 
 /// What is kept of a PSK-1 (RFC 4764 section 5.1).
 #[derive(Drop)]
-pub struct KeptPsk1 {
+pub struct StoredPsk1 {
     pub rand_s: [u8; 16],
     pub id_s: Identity,
 }
@@ -38,8 +38,8 @@ pub struct PskLogin {
 
 /// What is kept of the messages: of each kind the last one.
 #[derive(Drop)]
-pub struct PskKept {
-    pub psk1: Option<KeptPsk1>,
+pub struct PskContext {
+    pub psk1: Option<StoredPsk1>,
     pub psk2: Option<PskLogin>,
 }
 
@@ -61,7 +61,7 @@ fn login_of(
     user: &User,
     ak: &CmacKey,
     kdk: &[u8; 16],
-    psk1: &KeptPsk1,
+    psk1: &StoredPsk1,
     rand_p: &[u8; 16],
 ) -> PskLogin
     requires ak { ak.now ≡ (psk_long_of user.now.psk).ak }
@@ -80,10 +80,10 @@ fn login_of(
 }
 
 /// The login that a PSK-2 of this user with the right MAC_P begins, else `TagBad`.
-fn begin_user(user: &User, psk1: &KeptPsk1, psk2: &Psk2) -> Result<PskLogin, Finding>
+fn start_psk_login(user: &User, psk1: &StoredPsk1, psk2: &Psk2) -> Result<PskLogin, Finding>
     requires key { length user.now.psk ≡ 16 }
     ensures { result
-        ≡ user_begins (Some user.now) psk1.now psk2.now.rand_p psk2.now.mac psk2.now.id_p.now }
+        ≡ user_starts (Some user.now) psk1.now psk2.now.rand_p psk2.now.mac psk2.now.id_p.now }
 {
     let PskLong { ak, kdk } = psk_long(&array_of(user.psk.as_slice()));
     let ak = CmacKey::new(&ak);
@@ -99,10 +99,10 @@ fn begin_user(user: &User, psk1: &KeptPsk1, psk2: &Psk2) -> Result<PskLogin, Fin
 /// The login that a PSK-2 with the right MAC_P begins, else its finding: `NoContext` if there was no
 /// PSK-1 or its RAND_S is another, `NoKey` if there is no user of its ID_P, `TagBad` if MAC_P is
 /// wrong.
-#[tactic(auto, unfolding(crate::specs::Psk::psk_begins), using(crate::proofs::PskLaws::key_is_short))]
-fn begin(users: &Users, psk1: &Option<KeptPsk1>, psk2: &Psk2) -> Result<PskLogin, Finding>
-    requires keys { All (λ user. IsTrue (fits_kind user.kind user.psk)) users.now }
-    ensures { result ≡ psk_begins users.now psk1.now
+#[tactic(auto, unfolding(crate::specs::Psk::psk_starts), using(crate::proofs::PskLaws::key_is_short))]
+fn begin(users: &Users, psk1: &Option<StoredPsk1>, psk2: &Psk2) -> Result<PskLogin, Finding>
+    requires keys { All (λ user. IsTrue (is_valid_for user.kind user.psk)) users.now }
+    ensures { result ≡ psk_starts users.now psk1.now
         psk2.now.rand_s psk2.now.rand_p psk2.now.mac psk2.now.id_p.now }
 {
     match psk1 {
@@ -113,7 +113,7 @@ fn begin(users: &Users, psk1: &Option<KeptPsk1>, psk2: &Psk2) -> Result<PskLogin
             }
             match users.find(psk2.id_p, PSK_KIND) {
                 None => Err(Finding::NoKey),
-                Some(user) => begin_user(user, psk1, psk2),
+                Some(user) => start_psk_login(user, psk1, psk2),
             }
         }
     }
@@ -176,8 +176,8 @@ fn follow4(login: &Option<PskLogin>, header: &[u8], psk4: &Psk4) -> Finding
 
 /// The finding of a message in a packet with this header. A PSK-1, and a login that PSK-2 begins, are
 /// kept.
-fn judge(kept: &mut PskKept, users: &Users, header: &[u8], view: &PskMessage) -> Finding
-    requires keys { All (λ user. IsTrue (fits_kind user.kind user.psk)) users.now }
+fn judge(kept: &mut PskContext, users: &Users, header: &[u8], view: &PskMessage) -> Finding
+    requires keys { All (λ user. IsTrue (is_valid_for user.kind user.psk)) users.now }
     requires fields { AreFields (message_of view.now) }
     ensures finding { result ≡ psk_tag_finding users.now kept.old header.now (message_of view.now) }
     ensures first { kept.new.psk1 ≡ option_or (psk1_of (Ok (message_of view.now))) kept.old.psk1 }
@@ -185,7 +185,7 @@ fn judge(kept: &mut PskKept, users: &Users, header: &[u8], view: &PskMessage) ->
 {
     match view {
         PskMessage::P1(psk1) => {
-            let first = KeptPsk1 {
+            let first = StoredPsk1 {
                 rand_s: psk1.rand_s,
                 id_s: Octets::of(psk1.id_s),
             };
@@ -214,13 +214,13 @@ fn header_of<'a>(octets: &'a [u8]) -> &'a [u8]
 
 /// The finding of Type-Data of a packet with these octets, and what counts of it is kept.
 pub fn judge_body(
-    kept: &mut PskKept,
+    kept: &mut PskContext,
     users: &Users,
     to_peer: bool,
     octets: &[u8],
     body: &[u8],
 ) -> Finding
-    requires keys { All (λ user. IsTrue (fits_kind user.kind user.psk)) users.now }
+    requires keys { All (λ user. IsTrue (is_valid_for user.kind user.psk)) users.now }
     ensures finding { result ≡ psk_finding users.now kept.old octets.now (psk_read to_peer body.now) }
     ensures first { kept.new.psk1 ≡ option_or (psk1_of (psk_read to_peer body.now)) kept.old.psk1 }
     ensures login { kept.new.psk2 ≡ option_or (psk2_of users.now kept.old.psk1 (psk_read to_peer body.now)) kept.old.psk2 }

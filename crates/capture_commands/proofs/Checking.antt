@@ -13,11 +13,11 @@ use Rattle.request_text.proofs.CaptureSteps.{Follows, Header, Passed, NewUser, A
 use Rattle.text_tables.proofs.Adding.{with_user-all}
 use Rattle.capture_check.specs.Captured.{Captured}
 use Rattle.capture_check.specs.Finding.{finding_of}
-use Rattle.capture_check.specs.Kept.{kept_of}
-use Rattle.capture_check.proofs.Keeping.{kept_of_none, kept_of_next}
-use Rattle.command_driver.specs.Commands.{Took, answer}
-use Rattle.capture_commands.specs.Check.{CheckNow, silent, packet_took, item_took, line_took, check_took, check_closing, nothing_checked, check_answer}
-use Rattle.capture_commands.specs.CheckSteps.{first_check, silent_step, packet_step, item_step, line_step, step_took, step_closing, kept_in}
+use Rattle.capture_check.specs.CaptureContext.{context_of}
+use Rattle.capture_check.proofs.Preserving.{preserved_of_none, preserved_of_next}
+use Rattle.command_driver.specs.Commands.{LineResult, answer}
+use Rattle.capture_commands.specs.Check.{CheckNow, silent, packet_result_of, item_result_of, line_result_of, checking_result, check_closing, nothing_checked, check_answer}
+use Rattle.capture_commands.specs.CheckSteps.{first_check, silent_step, packet_step, item_step, line_step, check_step, step_closing, kept_in}
 use Rattle.capture_commands.specs.declared.check.Check.{Check}
 
 -- before the line `packets` there is no packet
@@ -33,35 +33,35 @@ pub record IsOrderly (c : CheckNow) : Type 0 where
   pub names : All (λ user. is_printable user.name ≡ true) c.reader.users
 
 -- what a line brings, with what is kept after it
-abbrev kept_took : Took CheckNow → Took Check
-kept_took t = record { text = t.text; ruling = t.ruling; after = kept_in t.after }
+abbrev preserved_result : LineResult CheckNow → LineResult Check
+preserved_result t = record { text = t.text; ruling = t.ruling; after = kept_in t.after }
 
 -- a line brings the same by what is kept, and leaves the capture orderly
-pub record StepsAlike (c : CheckNow) (one : Took CheckNow) (two : Took Check) : Type 0 where
-  pub alike : two ≡ kept_took one
+pub record StepsAlike (c : CheckNow) (one : LineResult CheckNow) (two : LineResult Check) : Type 0 where
+  pub alike : two ≡ preserved_result one
   pub orderly : IsOrderly one.after
 
-silent_alike : (c : CheckNow) (reader : Capture) → kept_of c.reader.users c.before ≡ kept_of reader.users c.before →
-    silent_step (kept_in c) reader ≡ kept_took (silent c reader)
+silent_alike : (c : CheckNow) (reader : Capture) → context_of c.reader.users c.before ≡ context_of reader.users c.before →
+    silent_step (kept_in c) reader ≡ preserved_result (silent c reader)
 silent_alike c reader e = rw e refl
 
 packet_alike : (c : CheckNow) (reader : Capture) (to_peer : Bool) (octets : List ℕ) → c.reader.users ≡ reader.users →
     packet_step (kept_in c) reader to_peer octets
-    ≡ kept_took (packet_took c reader (record { to_peer = to_peer; octets = octets }) (finding_of reader.users c.before to_peer octets))
+    ≡ preserved_result (packet_result_of c reader (record { to_peer = to_peer; octets = octets }) (finding_of reader.users c.before to_peer octets))
 unfolding finding_of
 packet_alike c reader to_peer octets e =
     let packet : Captured = record { to_peer = to_peer; octets = octets } in
-    rw (e, kept_of_next reader.users c.before to_peer octets, length-append c.before (packet ∷ [])) refl
+    rw (e, preserved_of_next reader.users c.before to_peer octets, length-append c.before (packet ∷ [])) refl
 
-no_packets : (users others : List User) (before : List Captured) → before ≡ [] → kept_of users before ≡ kept_of others before
-no_packets users others before e = rw (e, kept_of_none users, kept_of_none others) refl
+no_packets : (users others : List User) (before : List Captured) → before ≡ [] → context_of users before ≡ context_of others before
+no_packets users others before e = rw (e, preserved_of_none users, preserved_of_none others) refl
 
 module _ (users : List User) (before : List Captured) (findings : ℕ) where
   abbrev at : Phase → CheckNow
   at p = record { reader = record { phase = p; users = users }; before = before; findings = findings }
 
   follows_alike : (p : Phase) (out : CaptureLine) → Follows users p out → IsOrderly (at p) →
-      StepsAlike (at p) (item_took (at p) out.after out.item) (item_step (kept_in (at p)) out.after out.item)
+      StepsAlike (at p) (item_result_of (at p) out.after out.item) (item_step (kept_in (at p)) out.after out.item)
   follows_alike _ _ Header h = record {
     alike = silent_alike (at phase.Unread) (record { phase = phase.Settings; users = [] }) (no_packets users [] before (h.early));
     orderly = record { early = h.early; names = All-nil _ };
@@ -79,33 +79,33 @@ module _ (users : List User) (before : List Captured) (findings : ℕ) where
   follows_alike _ _ AllPackets h = record { alike = refl; orderly = record { early = tt; names = h.names } }
 
 line_alike : (c : CheckNow) (x : Result CaptureLine LineFault) → ((out : CaptureLine) → x ≡ Ok out → Follows c.reader.users c.reader.phase out) → IsOrderly c →
-    StepsAlike c (line_took c x) (line_step (kept_in c) x)
+    StepsAlike c (line_result_of c x) (line_step (kept_in c) x)
 line_alike c (Err fault) follows h = record { alike = refl; orderly = h }
 line_alike c (Ok out) follows h = follows_alike c.reader.users c.before c.findings c.reader.phase out (follows out refl) h
 
-pub took_alike : (c : CheckNow) (l : List ℕ) → IsOrderly c → StepsAlike c (check_took c l) (step_took (kept_in c) l)
-unfolding check_took step_took
-took_alike c l h = line_alike c (read_line c.reader l) (line_follows c.reader l) h
+pub result_alike : (c : CheckNow) (l : List ℕ) → IsOrderly c → StepsAlike c (checking_result c l) (check_step (kept_in c) l)
+unfolding checking_result check_step
+result_alike c l h = line_alike c (read_line c.reader l) (line_follows c.reader l) h
 
 closing_alike : (c : CheckNow) → step_closing (kept_in c) ≡ check_closing c
 unfolding check_closing step_closing
 closing_alike c = refl
 
-answers_alike : (ls : Lines) (n : ℕ) (c : CheckNow) → IsOrderly c → answer step_took step_closing n (kept_in c) ls ≡ answer check_took check_closing n c ls
+answers_alike : (ls : Lines) (n : ℕ) (c : CheckNow) → IsOrderly c → answer check_step step_closing n (kept_in c) ls ≡ answer checking_result check_closing n c ls
 unfolding answer
 answers_alike ended n c h = rw (closing_alike c) refl
 answers_alike too_long n c h = refl
 answers_alike too_much n c h = refl
 answers_alike (line l rest) n c h =
-    let step = took_alike c l h in
-    rw (step.alike, answers_alike rest (n + 1) (check_took c l).after (step.orderly)) refl
+    let step = result_alike c l h in
+    rw (step.alike, answers_alike rest (n + 1) (checking_result c l).after (step.orderly)) refl
 
-pub begins_orderly : IsOrderly nothing_checked
-begins_orderly = record { early = refl; names = All-nil _ }
+pub starts_orderly : IsOrderly nothing_checked
+starts_orderly = record { early = refl; names = All-nil _ }
 
-begun_kept : first_check ≡ kept_in nothing_checked
-begun_kept = rw (kept_of_none []) refl
+first_as_check : first_check ≡ kept_in nothing_checked
+first_as_check = rw (preserved_of_none []) refl
 
 -- the answer to an input
-pub check_answers : (octets : List ℕ) → answer step_took step_closing 0 first_check (lines octets) ≡ check_answer octets
-check_answers octets = rw begun_kept (answers_alike (lines octets) 0 nothing_checked begins_orderly)
+pub check_answers : (octets : List ℕ) → answer check_step step_closing 0 first_check (lines octets) ≡ check_answer octets
+check_answers octets = rw first_as_check (answers_alike (lines octets) 0 nothing_checked starts_orderly)

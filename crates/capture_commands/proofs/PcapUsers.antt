@@ -3,7 +3,7 @@ use Rattle.std.proofs.Common.{◌≡◌, ℕ, ◌≤◌, List, [], ◌∷◌, Bo
 use Rattle.std.proofs.lemmas.Bool.{and_parts, leb-true, ne_eqb}
 use Rattle.std.specs.Prelude.{nat_le}
 use Rattle.std.specs.Str.{bytes_eq}
-use Rattle.login_setup.specs.Setup.{fits_kind}
+use Rattle.login_setup.specs.Setup.{is_valid_for}
 use Rattle.login_setup.specs.declared.users.User.{User}
 use Rattle.text_tables.specs.UserWords.{is_visible, users_named, read_as}
 use Rattle.text_tables.proofs.NamedUsers.{IsNamed, all_named}
@@ -32,5 +32,5 @@ pcap_named (word ∷ rest) users e = then_named (bytes_eq word (codes "pcap")) r
 pub pcap_names : (words : List (List ℕ)) (users : List User) → pcap_users words ≡ Some users → HaveNames users
 pcap_names words users e = record { within = λ k d below. visible_within (get_or users k d).name (pcap_named words users e k d below).visible }
 
-pub pcap_keys : (words : List (List ℕ)) (users : List User) → read_as true users ≡ pcap_users words → All (λ user. IsTrue (fits_kind user.kind user.psk)) users
+pub pcap_keys : (words : List (List ℕ)) (users : List User) → read_as true users ≡ pcap_users words → All (λ user. IsTrue (is_valid_for user.kind user.psk)) users
 pcap_keys words users e = λ k d below. (pcap_named words users (sym e) k d below).key

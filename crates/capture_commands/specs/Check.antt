@@ -13,7 +13,7 @@ use Rattle.capture_check.specs.declared.finding.Finding.{Finding}
 use Rattle.capture_check.specs.declared.finding.Finding.TheVariants.{Good, Malformed, TagBad, TagGood, NoKey, NoContext}
 use Rattle.answer_text.specs.Findings.{finding_text, findings_text}
 use Rattle.command_driver.specs.Answers.{Answer}
-use Rattle.command_driver.specs.Commands.{Took, Closing, goes, refuses, ends, misses, answer}
+use Rattle.command_driver.specs.Commands.{LineResult, Closing, goes, refuses, ends, misses, answer}
 use Rattle.command_driver.specs.declared.status.Status.{Status}
 use Rattle.command_driver.specs.declared.status.Status.TheVariants as status
 
@@ -37,31 +37,31 @@ abbrev pub with_finding : ℕ → Finding → ℕ
 with_finding findings finding = findings + (if is_counted finding then 1 else 0)
 
 -- a packet is judged, and is one of those before the next
-abbrev pub packet_took : CheckNow → Capture → Captured → Finding → Took CheckNow
-packet_took c reader packet finding = record {
+abbrev pub packet_result_of : CheckNow → Capture → Captured → Finding → LineResult CheckNow
+packet_result_of c reader packet finding = record {
   text = finding_text (length c.before + 1) finding;
   ruling = goes;
   after = record { reader = reader; before = c.before ++ packet ∷ []; findings = with_finding c.findings finding };
 }
 
 -- nothing is written
-abbrev pub silent : CheckNow → Capture → Took CheckNow
+abbrev pub silent : CheckNow → Capture → LineResult CheckNow
 silent c reader = record { text = []; ruling = goes; after = record c { reader = reader } }
 
-abbrev pub item_took : CheckNow → Capture → CaptureItemKind → Took CheckNow
-item_took c reader item.Nothing = silent c reader
-item_took c reader item.Ready = silent c reader
-item_took c reader (item.Packet to_peer octets) =
-    packet_took c reader (record { to_peer = to_peer; octets = octets }) (finding_of reader.users c.before to_peer octets)
-item_took c reader item.End = silent c reader
+abbrev pub item_result_of : CheckNow → Capture → CaptureItemKind → LineResult CheckNow
+item_result_of c reader item.Nothing = silent c reader
+item_result_of c reader item.Ready = silent c reader
+item_result_of c reader (item.Packet to_peer octets) =
+    packet_result_of c reader (record { to_peer = to_peer; octets = octets }) (finding_of reader.users c.before to_peer octets)
+item_result_of c reader item.End = silent c reader
 
-abbrev pub line_took : CheckNow → Result CaptureLine LineFault → Took CheckNow
-line_took c (Err fault) = record { text = []; ruling = refuses (fault_word fault) status.Refused; after = c }
-line_took c (Ok line) = item_took c line.after line.item
+abbrev pub line_result_of : CheckNow → Result CaptureLine LineFault → LineResult CheckNow
+line_result_of c (Err fault) = record { text = []; ruling = refuses (fault_word fault) status.Refused; after = c }
+line_result_of c (Ok line) = item_result_of c line.after line.item
 
 -- the result of a line
-unfoldable pub check_took : CheckNow → List ℕ → Took CheckNow
-check_took c line = line_took c (read_line c.reader line)
+unfoldable pub checking_result : CheckNow → List ℕ → LineResult CheckNow
+checking_result c line = line_result_of c (read_line c.reader line)
 
 -- the status of a capture that was read to its end
 abbrev pub check_status : ℕ → Status
@@ -80,4 +80,4 @@ nothing_checked = record { reader = record { phase = Unread; users = [] }; befor
 
 -- what a capture answers
 abbrev pub check_answer : List ℕ → Answer
-check_answer octets = answer check_took check_closing 0 nothing_checked (lines octets)
+check_answer octets = answer checking_result check_closing 0 nothing_checked (lines octets)

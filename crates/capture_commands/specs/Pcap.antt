@@ -72,17 +72,17 @@ pub record PcapNow : Type 0 where
   pub findings : ℕ
 
 -- the result of a record
-pub record RecordTold : Type 0 where
+pub record RecordResult : Type 0 where
   pub text : List ℕ
   pub after : PcapNow
 
-abbrev pub record_told : List User → PcapNow → Carried → RecordTold
-record_told users f other = record { text = []; after = record f { records = f.records + 1 } }
-record_told users f cut = record {
+abbrev pub record_result : List User → PcapNow → Carried → RecordResult
+record_result users f other = record { text = []; after = record f { records = f.records + 1 } }
+record_result users f cut = record {
   text = cut_text (f.records + 1);
   after = record f { records = f.records + 1; findings = f.findings + 1 };
 }
-record_told users f (eap octets) =
+record_result users f (eap octets) =
     let finding = finding_of users f.before (is_to_peer octets) octets in
     record {
       text = finding_text (f.records + 1) finding;
@@ -97,8 +97,8 @@ record_told users f (eap octets) =
 unfoldable pub answer_to : List User → PcapNow → Contents → Answer
 answer_to users f (ends begun a) = file_end (f.records + begun) (length f.before) f.findings a
 answer_to users f (record_of frame rest) =
-    after_text (record_told users f (contents_of frame)).text
-    (answer_to users (record_told users f (contents_of frame)).after rest)
+    after_text (record_result users f (contents_of frame)).text
+    (answer_to users (record_result users f (contents_of frame)).after rest)
 
 abbrev pub nothing_recorded : PcapNow
 nothing_recorded = record { records = 0; before = []; findings = 0 }

@@ -20,8 +20,8 @@ use Rattle.request_text.specs.declared.radius_line.RadiusItem.TheVariants as ite
 use Rattle.answer_text.specs.Lines.{hex_line}
 use Rattle.answer_text.specs.Pieces.{hex_text}
 use Rattle.command_driver.specs.Answers.{Answer}
-use Rattle.command_driver.specs.Commands.{Took, Closing, goes, refuses, ends, misses, answer}
-use Rattle.capture_commands.specs.declared.radius.KeptRequest.{KeptRequest}
+use Rattle.command_driver.specs.Commands.{LineResult, Closing, goes, refuses, ends, misses, answer}
+use Rattle.capture_commands.specs.declared.radius.PendingRequest.{PendingRequest}
 use Rattle.capture_commands.specs.declared.radius.Judgement.{Judgement}
 use Rattle.capture_commands.specs.declared.radius.Judgement.TheVariants as judgement
 use Rattle.capture_commands.specs.declared.radius.Radius.{Radius}
@@ -58,23 +58,23 @@ packet_line packet found = read_text (kind_word packet.code) packet.id (eap_of p
 abbrev pub good_or_bad : Bool → Judgement
 good_or_bad good = if good then judgement.Good else judgement.TagBad
 
-abbrev pub reply_judged : List ℕ → Option KeptRequest → RadiusPacket → Judgement
+abbrev pub reply_judged : List ℕ → Option PendingRequest → RadiusPacket → Judgement
 reply_judged secret None packet = judgement.NoRequest
 reply_judged secret (Some asked) packet =
     if asked.id == packet.id then good_or_bad (is_good_reply secret asked.authenticator packet) else judgement.NoRequest
 
-unfoldable pub judgement_of : List ℕ → Option KeptRequest → RadiusPacket → Judgement
+unfoldable pub judgement_of : List ℕ → Option PendingRequest → RadiusPacket → Judgement
 judgement_of secret asked packet =
     if packet.code == 1 then good_or_bad (is_good_request secret packet) else reply_judged secret asked packet
 
 -- the request that is kept after it: a good one in place of the one before
-unfoldable pub kept_after : List ℕ → Option KeptRequest → RadiusPacket → Option KeptRequest
-kept_after secret asked packet =
+unfoldable pub context_after : List ℕ → Option PendingRequest → RadiusPacket → Option PendingRequest
+context_after secret asked packet =
     if is_good_request secret packet then Some (record { id = packet.id; authenticator = packet.authenticator }) else asked
 
 -- ---- the result of a line
 
-abbrev pub wrote : List ℕ → Radius → Took Radius
+abbrev pub wrote : List ℕ → Radius → LineResult Radius
 wrote text c = record { text = text; ruling = goes; after = c }
 
 abbrev pub code_of : ReplyKind → ℕ
@@ -82,31 +82,31 @@ code_of kind.Accept = 2
 code_of kind.Reject = 3
 code_of kind.Challenge = 11
 
-abbrev pub reply_took : Radius → Option KeptRequest → ReplyKind → List ℕ → List ℕ → Took Radius
-reply_took c None k state eap = wrote (word_line (codes "reply") (codes "no-request")) c
-reply_took c (Some asked) k state eap =
+abbrev pub reply_step : Radius → Option PendingRequest → ReplyKind → List ℕ → List ℕ → LineResult Radius
+reply_step c None k state eap = wrote (word_line (codes "reply") (codes "no-request")) c
+reply_step c (Some asked) k state eap =
     wrote (hex_line (codes "reply") (spelled (reply_of c.secret (code_of k) asked.id asked.authenticator state eap))) c
 
-abbrev pub read_took : Radius → Result RadiusPacket RadiusCause → Took Radius
-read_took c (Err cause) = wrote (word_line (codes "read") (cause_word cause)) c
-read_took c (Ok packet) = wrote (packet_line packet (judgement_of c.secret c.asked packet)) (record c { asked = kept_after c.secret c.asked packet })
+abbrev pub read_result_of : Radius → Result RadiusPacket RadiusCause → LineResult Radius
+read_result_of c (Err cause) = wrote (word_line (codes "read") (cause_word cause)) c
+read_result_of c (Ok packet) = wrote (packet_line packet (judgement_of c.secret c.asked packet)) (record c { asked = context_after c.secret c.asked packet })
 
-abbrev pub item_took : Radius → RadiusItem → Took Radius
-item_took c item.Nothing = wrote [] c
-item_took c (item.Secret octets) = wrote [] (record c { secret = octets })
-item_took c (item.Request id authenticator user state eap) =
+abbrev pub item_result_of : Radius → RadiusItem → LineResult Radius
+item_result_of c item.Nothing = wrote [] c
+item_result_of c (item.Secret octets) = wrote [] (record c { secret = octets })
+item_result_of c (item.Request id authenticator user state eap) =
     wrote (hex_line (codes "request") (spelled (request_of c.secret id authenticator user state eap)))
     (record c { asked = Some (record { id = id; authenticator = authenticator }) })
-item_took c (item.Reply k state eap) = reply_took c c.asked k state eap
-item_took c (item.Read octets) = read_took c (packet_of octets)
-item_took c item.End = wrote [] c
+item_result_of c (item.Reply k state eap) = reply_step c c.asked k state eap
+item_result_of c (item.Read octets) = read_result_of c (packet_of octets)
+item_result_of c item.End = wrote [] c
 
-abbrev pub line_took : Radius → Result RadiusLine LineFault → Took Radius
-line_took c (Err fault) = record { text = []; ruling = refuses (fault_word fault) status.Refused; after = c }
-line_took c (Ok line) = item_took (record c { reader = line.after }) line.item
+abbrev pub line_result_of : Radius → Result RadiusLine LineFault → LineResult Radius
+line_result_of c (Err fault) = record { text = []; ruling = refuses (fault_word fault) status.Refused; after = c }
+line_result_of c (Ok line) = item_result_of (record c { reader = line.after }) line.item
 
-unfoldable pub radius_took : Radius → List ℕ → Took Radius
-radius_took c line = line_took c (read_line c.reader line)
+unfoldable pub radius_step : Radius → List ℕ → LineResult Radius
+radius_step c line = line_result_of c (read_line c.reader line)
 
 -- the end of the input
 abbrev pub radius_end : Result (Unit {0}) LineFault → Closing
@@ -125,4 +125,4 @@ nothing_asked = record { reader = record { phase = Unread }; secret = []; asked 
 
 -- what a text answers
 abbrev pub radius_answer : List ℕ → Answer
-radius_answer octets = answer radius_took radius_closing 0 nothing_asked (lines octets)
+radius_answer octets = answer radius_step radius_closing 0 nothing_asked (lines octets)

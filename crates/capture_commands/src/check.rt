@@ -67,7 +67,7 @@ impl Check {
         self.packets += 1;
         self.findings += u32::from(is_counted(&finding));
         match write_finding(sink, self.packets, &finding) {
-            Ok(()) => Ok(Next::Goes),
+            Ok(()) => Ok(Next::Proceed),
             Err(_) => Err(Trouble::Write),
         }
     }
@@ -92,13 +92,13 @@ impl Check {
 
 impl Command for Check {
     ghost use Rattle.capture_commands.specs.declared.check.Check.{Check};
-    ghost use Rattle.capture_commands.specs.CheckSteps.{step_took, step_closing, step_lacks, HasJudged};
+    ghost use Rattle.capture_commands.specs.CheckSteps.{check_step, step_closing, step_lacks, HasJudged};
 
     ghost Seen = { Check };
 
     ghost seen = { λ c. c };
 
-    ghost took = { step_took };
+    ghost took = { check_step };
 
     ghost closing = { step_closing };
 
@@ -106,7 +106,7 @@ impl Command for Check {
 
     ghost holds = { HasJudged };
 
-    #[tactic(auto, unfolding(crate::specs::CheckSteps::step_took))]
+    #[tactic(auto, unfolding(crate::specs::CheckSteps::check_step))]
     fn take<W: Sink>(&mut self, sink: &mut W, line: &[u8]) -> Result<Next, Trouble> {
         match self.reader.line_into(line) {
             Ok(CaptureItemKind::Packet { to_peer, octets }) => self.packet(
@@ -114,9 +114,9 @@ impl Command for Check {
                 to_peer,
                 octets.as_slice(),
             ),
-            Ok(CaptureItemKind::Nothing) => Ok(Next::Goes),
-            Ok(CaptureItemKind::Ready) => Ok(Next::Goes),
-            Ok(CaptureItemKind::End) => Ok(Next::Goes),
+            Ok(CaptureItemKind::Nothing) => Ok(Next::Proceed),
+            Ok(CaptureItemKind::Ready) => Ok(Next::Proceed),
+            Ok(CaptureItemKind::End) => Ok(Next::Proceed),
             Err(fault) => Ok(Next::Refuses(fault.word(), Status::Refused)),
         }
     }

@@ -1,7 +1,7 @@
 //! The command `pcap`: judges the tags of the EAP packets in a file of captured Ethernet frames.
 
 ghost use Rattle.std.specs.Prelude.{◌≡◌, ◌<◌, ◌^◌, ℕ, List, Option, [], map, string_bytes, All, IsTrue};
-ghost use Rattle.login_setup.specs.Setup.{fits_kind};
+ghost use Rattle.login_setup.specs.Setup.{is_valid_for};
 ghost use Rattle.eapol_capture.specs.Frames.{contents_of};
 ghost use Rattle.eapol_capture.specs.Reading.{Exhausts};
 ghost use Rattle.text_tables.specs.UserWords.{read_as};
@@ -55,20 +55,20 @@ fn is_to_peer(octets: &[u8]) -> bool
 /// What was found in a file so far: what counts of its packets, how many there were, and how many findings
 /// count.
 #[derive(Drop)]
-pub struct Found {
+pub struct PcapTotals {
     checker: Judge,
     packets: u32,
     findings: u32,
 }
 
-impl Found {
+impl PcapTotals {
     ghost use Rattle.capture_commands.specs.PcapSteps.{record_step, nothing_found};
 
     /// Nothing was found yet.
-    fn new() -> Found
+    fn new() -> PcapTotals
         ensures { result ≡ nothing_found }
     {
-        Found {
+        PcapTotals {
             checker: Judge::new(),
             packets: 0,
             findings: 0,
@@ -84,7 +84,7 @@ impl Found {
         number: u32,
         frame: &[u8],
     ) -> Result<(), Failed>
-        requires keys { All (λ user. IsTrue (fits_kind user.kind user.psk)) users.now }
+        requires keys { All (λ user. IsTrue (is_valid_for user.kind user.psk)) users.now }
         requires packets { self.old.packets < 2 ^ 31 }
         requires findings { self.old.findings < 2 ^ 31 }
         ensures appends { Appends W.shown result sink.old sink.new
@@ -224,12 +224,12 @@ fn write_refused_record<W: Sink>(sink: &mut W, number: u32, word: &str) -> Resul
 /// The status is `Findings` if the file was read to its end and a packet is malformed, has a bad tag or is
 /// cut.
 pub fn judge_file<S: Source, W: Sink>(users: &Users, source: &mut S, sink: &mut W) -> Status
-    requires { All (λ user. IsTrue (fits_kind user.kind user.psk)) users.now }
+    requires { All (λ user. IsTrue (is_valid_for user.kind user.psk)) users.now }
     ensures { Responds S.shown W.shown
         (reading (pcap_answer users.now) never) result source.old source.new sink.old sink.new }
 {
     let mut reader = PcapReader::new();
-    let mut found = Found::new();
+    let mut found = PcapTotals::new();
     loop {
         match reader.next_record(source) {
             NextRecord::Record => {

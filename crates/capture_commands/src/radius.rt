@@ -7,7 +7,7 @@ ghost use Rattle.radius_carry.specs.Fault.{value_of};
 ghost use Rattle.answer_text.specs.Writes.{Appends};
 ghost use Rattle.command_driver.specs.Responding.{Responds, reading, never};
 ghost use Rattle.capture_commands.specs.Radius.{radius_answer};
-ghost use Rattle.capture_commands.specs.Radius.{code_of, good_or_bad, judgement_of, kept_after, kind_word, judgement_word, packet_line, read_text};
+ghost use Rattle.capture_commands.specs.Radius.{code_of, good_or_bad, judgement_of, context_after, kind_word, judgement_word, packet_line, read_text};
 ghost use Rattle.capture_commands.specs.Radius.{reply_judged, word_line};
 
 use answer_text::Piece::{Hex, Number, Text};
@@ -23,7 +23,7 @@ use request_text::{RadiusItem, RadiusReader, ReplyKind};
 
 /// A request that replies are written and judged for.
 #[derive(Clone, Copy)]
-pub struct KeptRequest {
+pub struct PendingRequest {
     id: u8,
     authenticator: [u8; 16],
 }
@@ -43,7 +43,7 @@ pub enum Judgement {
 pub struct Radius {
     reader: RadiusReader,
     secret: Octets<64>,
-    asked: Option<KeptRequest>,
+    asked: Option<PendingRequest>,
 }
 
 /// Writes two words in one line.
@@ -146,7 +146,7 @@ fn good_or_bad(is_good: bool) -> Judgement
 
 /// What a reply is to the request that is kept.
 #[tactic(auto, unfolding(radius_carry::specs::Fault::value_of))]
-fn judged_for(secret: &[u8], asked: &KeptRequest, view: &RadiusView) -> Judgement
+fn judged_for(secret: &[u8], asked: &PendingRequest, view: &RadiusView) -> Judgement
     requires secret { length secret.now ≤ 64 }
     requires radius { IsRadius (value_of view.now) view.now.whole.now }
     ensures { result ≡ reply_judged secret.now (Some asked.now) (value_of view.now) }
@@ -159,7 +159,7 @@ fn judged_for(secret: &[u8], asked: &KeptRequest, view: &RadiusView) -> Judgemen
 }
 
 /// What a reply is, under the secret and after the request that is kept.
-fn judged_reply(secret: &[u8], asked: &Option<KeptRequest>, view: &RadiusView) -> Judgement
+fn judged_reply(secret: &[u8], asked: &Option<PendingRequest>, view: &RadiusView) -> Judgement
     requires secret { length secret.now ≤ 64 }
     requires radius { IsRadius (value_of view.now) view.now.whole.now }
     ensures { result ≡ reply_judged secret.now asked.now (value_of view.now) }
@@ -171,7 +171,7 @@ fn judged_reply(secret: &[u8], asked: &Option<KeptRequest>, view: &RadiusView) -
 }
 
 impl Radius {
-    ghost use Rattle.capture_commands.specs.Radius.{nothing_asked, reply_took, read_took, item_took};
+    ghost use Rattle.capture_commands.specs.Radius.{nothing_asked, reply_step, read_result_of, item_result_of};
     ghost use Rattle.radius_carry.specs.Fault.{packet_of};
     ghost use Rattle.command_driver.specs.Commands.{AnswersLine};
     ghost use Rattle.request_text.specs.declared.radius_line.RadiusItem.TheVariants as item;
@@ -188,17 +188,17 @@ impl Radius {
     }
 
     /// What a packet is, under the secret and after the request that is kept. Keeps a request that is good.
-    #[tactic(auto, unfolding(crate::specs::Radius::judgement_of, crate::specs::Radius::kept_after, radius_carry::specs::Tags::is_good_request, radius_carry::specs::Fault::value_of))]
+    #[tactic(auto, unfolding(crate::specs::Radius::judgement_of, crate::specs::Radius::context_after, radius_carry::specs::Tags::is_good_request, radius_carry::specs::Fault::value_of))]
     fn judge(&mut self, view: &RadiusView) -> Judgement
         requires { IsRadius (value_of view.now) view.now.whole.now }
         ensures judged { result ≡ judgement_of self.old.secret self.old.asked (value_of view.now) }
-        ensures kept { self.new ≡ record self.old { asked = kept_after self.old.secret self.old.asked (value_of view.now) } }
+        ensures kept { self.new ≡ record self.old { asked = context_after self.old.secret self.old.asked (value_of view.now) } }
     {
         match view.kind {
             RadiusKind::Request => {
                 let is_good = request_good(self.secret.as_slice(), view);
                 if is_good {
-                    self.asked = Some(KeptRequest {
+                    self.asked = Some(PendingRequest {
                         id: view.id,
                         authenticator: view.authenticator,
                     });
@@ -214,13 +214,13 @@ impl Radius {
     fn request<W: Sink>(
         &mut self,
         sink: &mut W,
-        asked: KeptRequest,
+        asked: PendingRequest,
         user: &Identity,
         state: &Octets<64>,
         eap: &Packet,
     ) -> Result<Next, Trouble>
         ensures answers { AnswersLine W.shown result sink.old sink.new
-            (item_took self.old (item.Request asked.id asked.authenticator user.now state.now eap.now)) false self.new }
+            (item_result_of self.old (item.Request asked.id asked.authenticator user.now state.now eap.now)) false self.new }
     {
         let packet = write_request(
             self.secret.as_slice(),
@@ -232,7 +232,7 @@ impl Radius {
         );
         self.asked = Some(asked);
         match write_hex(sink, "request", packet.as_slice()) {
-            Ok(()) => Ok(Next::Goes),
+            Ok(()) => Ok(Next::Proceed),
             Err(_) => Err(Trouble::Write),
         }
     }
@@ -247,7 +247,7 @@ impl Radius {
         eap: &Packet,
     ) -> Result<Next, Trouble>
         ensures answers { AnswersLine W.shown result sink.old sink.new
-            (reply_took self.now self.now.asked kind state.now eap.now) false self.now }
+            (reply_step self.now self.now.asked kind state.now eap.now) false self.now }
     {
         let written = match &self.asked {
             None => write_words(sink, b"reply", b"no-request"),
@@ -264,7 +264,7 @@ impl Radius {
             }
         };
         match written {
-            Ok(()) => Ok(Next::Goes),
+            Ok(()) => Ok(Next::Proceed),
             Err(_) => Err(Trouble::Write),
         }
     }
@@ -273,7 +273,7 @@ impl Radius {
     #[tactic(auto, unfolding(answer_text::specs::Writes::Appends))]
     fn read<W: Sink>(&mut self, sink: &mut W, octets: &[u8]) -> Result<Next, Trouble>
         ensures answers { AnswersLine W.shown result sink.old sink.new
-            (read_took self.old (packet_of octets.now)) false self.new }
+            (read_result_of self.old (packet_of octets.now)) false self.new }
     {
         let written = match read_radius(octets) {
             Err(cause) => write_words(sink, b"read", cause.word().as_bytes()),
@@ -283,7 +283,7 @@ impl Radius {
             }
         };
         match written {
-            Ok(()) => Ok(Next::Goes),
+            Ok(()) => Ok(Next::Proceed),
             Err(_) => Err(Trouble::Write),
         }
     }
@@ -291,13 +291,13 @@ impl Radius {
 
 impl Command for Radius {
     ghost use Rattle.capture_commands.specs.declared.radius.Radius.{Radius};
-    ghost use Rattle.capture_commands.specs.Radius.{radius_took, radius_closing, radius_lacks};
+    ghost use Rattle.capture_commands.specs.Radius.{radius_step, radius_closing, radius_lacks};
 
     ghost Seen = { Radius };
 
     ghost seen = { λ c. c };
 
-    ghost took = { radius_took };
+    ghost took = { radius_step };
 
     ghost closing = { radius_closing };
 
@@ -305,7 +305,7 @@ impl Command for Radius {
 
     ghost holds = { λ _ _. Unit {0} };
 
-    #[tactic(auto, unfolding(crate::specs::Radius::radius_took))]
+    #[tactic(auto, unfolding(crate::specs::Radius::radius_step))]
     fn take<W: Sink>(&mut self, sink: &mut W, line: &[u8]) -> Result<Next, Trouble> {
         match self.reader.line(line) {
             Ok(
@@ -316,15 +316,21 @@ impl Command for Radius {
                     state,
                     eap,
                 },
-            ) => self.request(sink, KeptRequest { id, authenticator }, &user, &state, &eap),
+            ) => self.request(
+                sink,
+                PendingRequest { id, authenticator },
+                &user,
+                &state,
+                &eap,
+            ),
             Ok(RadiusItem::Reply { kind, state, eap }) => self.reply(sink, kind, &state, &eap),
             Ok(RadiusItem::Read(octets)) => self.read(sink, octets.as_slice()),
             Ok(RadiusItem::Secret(octets)) => {
                 self.secret = octets;
-                Ok(Next::Goes)
+                Ok(Next::Proceed)
             }
-            Ok(RadiusItem::Nothing) => Ok(Next::Goes),
-            Ok(RadiusItem::End) => Ok(Next::Goes),
+            Ok(RadiusItem::Nothing) => Ok(Next::Proceed),
+            Ok(RadiusItem::End) => Ok(Next::Proceed),
             Err(fault) => Ok(Next::Refuses(fault.word(), Status::Refused)),
         }
     }

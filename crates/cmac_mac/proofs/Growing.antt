@@ -8,7 +8,7 @@ use Rattle.std.proofs.lemmas.List.{take_more, take-append-le, drop-append-le, ta
 use Rattle.std.proofs.lemmas.List.{take-append-drop}
 use Rattle.aes_block.specs.Cipher.{aes128}
 use Rattle.cmac_mac.specs.Cmac.{chain, inner_count, block_at, xor_blocks}
-use Rattle.cmac_mac.specs.Chained.{IsChained, IsTakenIn}
+use Rattle.cmac_mac.specs.Chained.{IsChained, IsInChain}
 use Rattle.cmac_mac.proofs.Lanes.{concat-chunks}
 
 -- the chain over the first n blocks reads only those
@@ -36,14 +36,14 @@ pieces text front end octets size is_front is_end =
     append_assoc text front end ∙ ap (λ l. text ++ l) (rw (is_front, is_end) (take-append-drop size octets))
 
 -- nothing of a text
-pub taken_none : (key : List ℕ) → IsTakenIn (replicate 16 0) (replicate 16 0) 0 key [] 0
-taken_none key = record { chained = sym (chain-none key []); counted = refl; rest = refl }
+pub accepted_none : (key : List ℕ) → IsInChain (replicate 16 0) (replicate 16 0) 0 key [] 0
+accepted_none key = record { chained = sym (chain-none key []); counted = refl; rest = refl }
 
 -- octets for which the block has room
-pub taken_more : (value held now key text octets : List ℕ) (count size n : ℕ) → IsTakenIn value held count key text n
+pub accepted_more : (value held now key text octets : List ℕ) (count size n : ℕ) → IsInChain value held count key text n
     → size ≡ length octets → count + length octets ≤ 16 → now ≡ take count held ++ (octets ++ drop size (drop count held))
-    → IsTakenIn value now (count + length octets) key (text ++ octets) n
-taken_more value held now key text octets count size n before is_size room is_now =
+    → IsInChain value now (count + length octets) key (text ++ octets) n
+accepted_more value held now key text octets count size n before is_size room is_now =
     let end : List ℕ = drop (16 * n) text in
     let zeros : List ℕ = replicate (16 - count) 0 in
     let left : List ℕ = replicate (16 - (count + length octets)) 0 in
@@ -84,7 +84,7 @@ chained_more value next key text block n before len is_next =
     }
 
 -- a full block that is held is one more
-pub chained_full : (value held next key text : List ℕ) (count n : ℕ) → IsTakenIn value held count key text n → count ≡ 16
+pub chained_full : (value held next key text : List ℕ) (count n : ℕ) → IsInChain value held count key text n → count ≡ 16
     → next ≡ aes128 key (xor_blocks value held) → IsChained next key text (n + 1)
 chained_full value held next key text count n before full is_next =
     let e : n + 1 ≡ suc n = omega arith in
@@ -118,40 +118,40 @@ blocks_more value next key text blocks i n d inside len before is_next =
     subst P grown (subst Q count (chained_more value next key (text ++ concat (take i blocks)) block (n + i) before len is_next))
 
 -- whole blocks in the chain, and nothing held
-pub taken_whole : (value key text : List ℕ) (n : ℕ) → IsChained value key text n → IsTakenIn value (replicate 16 0) 0 key text n
-taken_whole value key text n before = record {
+pub consumed_whole : (value key text : List ℕ) (n : ℕ) → IsChained value key text n → IsInChain value (replicate 16 0) 0 key text n
+consumed_whole value key text n before = record {
   chained = before.same;
   counted = omega (arith, before.whole);
   rest = ap (λ l. l ++ replicate 16 0) (sym (drop_all (16 * n) text (omega (arith, before.whole))));
 }
 
 -- the same of octets that are cut into blocks
-pub chunks_taken : (value key text front : List ℕ) (blocks : List (List ℕ)) (n : ℕ) → length front % 16 ≡ 0
+pub chunks_consumed : (value key text front : List ℕ) (blocks : List (List ℕ)) (n : ℕ) → length front % 16 ≡ 0
     → blocks ≡ first_chunks 16 (length front / 16) front → IsChained value key (text ++ concat blocks) n
-    → IsTakenIn value (replicate 16 0) 0 key (text ++ front) n
-chunks_taken value key text front blocks n whole are_chunks before =
+    → IsInChain value (replicate 16 0) 0 key (text ++ front) n
+chunks_consumed value key text front blocks n whole are_chunks before =
     let joined : concat blocks ≡ front = ap concat are_chunks ∙ concat-chunks (length front / 16) front (omega arith) in
-    let P : List ℕ → Type 0 = λ l. IsTakenIn value (replicate 16 0) 0 key (text ++ l) n in
-    subst P joined (taken_whole value key (text ++ concat blocks) n before)
+    let P : List ℕ → Type 0 = λ l. IsInChain value (replicate 16 0) 0 key (text ++ l) n in
+    subst P joined (consumed_whole value key (text ++ concat blocks) n before)
 
 -- octets that have room leave the last block where it is
-pub stays_taken : (value held key text octets : List ℕ) (before count : ℕ) → 16 * inner_count text + before ≡ length text
-    → before + length octets ≤ 16 → IsTakenIn value held count key (text ++ octets) (inner_count text)
-    → IsTakenIn value held count key (text ++ octets) (inner_count (text ++ octets))
-stays_taken value held key text octets before count counted room so_far =
+pub stays_accepted : (value held key text octets : List ℕ) (before count : ℕ) → 16 * inner_count text + before ≡ length text
+    → before + length octets ≤ 16 → IsInChain value held count key (text ++ octets) (inner_count text)
+    → IsInChain value held count key (text ++ octets) (inner_count (text ++ octets))
+stays_accepted value held key text octets before count counted room so_far =
     let place : inner_count text ≡ inner_count (text ++ octets) = omega (arith, length-append text octets) in
-    let P : ℕ → Type 0 = λ k. IsTakenIn value held count key (text ++ octets) k in
+    let P : ℕ → Type 0 = λ k. IsInChain value held count key (text ++ octets) k in
     subst P place so_far
 
 -- octets that come after whole blocks are the last block
-pub ends_taken : (value held key text front end octets : List ℕ) (count size n : ℕ) → IsTakenIn value held count key ((text ++ front) ++ end) n
+pub ends_consumed : (value held key text front end octets : List ℕ) (count size n : ℕ) → IsInChain value held count key ((text ++ front) ++ end) n
     → 1 ≤ count → count ≤ 16 → front ≡ take size octets → end ≡ drop size octets
-    → IsTakenIn value held count key (text ++ octets) (inner_count (text ++ octets))
-ends_taken value held key text front end octets count size n so_far some within is_front is_end =
+    → IsInChain value held count key (text ++ octets) (inner_count (text ++ octets))
+ends_consumed value held key text front end octets count size n so_far some within is_front is_end =
     let whole : (text ++ front) ++ end ≡ text ++ octets = pieces text front end octets size is_front is_end in
-    let P : List ℕ → Type 0 = λ l. IsTakenIn value held count key l n in
-    let Q : ℕ → Type 0 = λ k. IsTakenIn value held count key (text ++ octets) k in
-    let all : IsTakenIn value held count key (text ++ octets) n = subst P whole so_far in
+    let P : List ℕ → Type 0 = λ l. IsInChain value held count key l n in
+    let Q : ℕ → Type 0 = λ k. IsInChain value held count key (text ++ octets) k in
+    let all : IsInChain value held count key (text ++ octets) n = subst P whole so_far in
     let place : n ≡ inner_count (text ++ octets) = omega (arith, all.counted) in
     subst Q place all
 
@@ -160,11 +160,11 @@ pub chained_none : (key : List ℕ) → IsChained (replicate 16 0) key [] 0
 chained_none key = record { same = sym (chain-none key []); whole = refl }
 
 -- a text in one piece, of which all blocks before the last one are in the chain
-pub taken_at_once : (value held key text front end : List ℕ) (blocks : List (List ℕ)) (n : ℕ) → front ≡ take (16 * inner_count text) text
+pub accepted_at_once : (value held key text front end : List ℕ) (blocks : List (List ℕ)) (n : ℕ) → front ≡ take (16 * inner_count text) text
     → end ≡ drop (16 * inner_count text) text → length front ≡ 16 * inner_count text → blocks ≡ first_chunks 16 (length front / 16) front
-    → IsChained value key (concat blocks) n → held ≡ end ++ replicate (16 - length end) 0 → IsTakenIn value held (length end) key text (inner_count text)
-taken_at_once value held key text front end blocks n is_front is_end size are_chunks before is_held =
-    let so_far = chunks_taken value key [] front blocks n (omega arith) are_chunks before in
+    → IsChained value key (concat blocks) n → held ≡ end ++ replicate (16 - length end) 0 → IsInChain value held (length end) key text (inner_count text)
+accepted_at_once value held key text front end blocks n is_front is_end size are_chunks before is_held =
+    let so_far = chunks_consumed value key [] front blocks n (omega arith) are_chunks before in
     let count : n ≡ inner_count text = omega (arith, so_far.counted) in
     let whole : front ++ end ≡ text = pieces [] front end text (16 * inner_count text) is_front is_end in
     record {

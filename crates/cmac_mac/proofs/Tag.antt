@@ -5,7 +5,7 @@ use Rattle.std.proofs.lemmas.List.{append-nil}
 use Rattle.std.proofs.Math.Seq.{set-append_seam}
 use Rattle.aes_block.specs.Cipher.{aes128}
 use Rattle.cmac_mac.specs.Cmac.{aes_cmac, first_subkey, second_subkey, inner_count, last_block, xor_blocks}
-use Rattle.cmac_mac.specs.Chained.{IsHeld, IsTakenIn}
+use Rattle.cmac_mac.specs.Chained.{IsPending, IsInChain}
 
 -- an octet in the place after those that are held
 set_after : (end : List ℕ) (count v : ℕ) → length end ≡ count → count < 16
@@ -17,7 +17,7 @@ set_after end count v len short =
     rw room (rw len at seam)
 
 -- a last block that is padded
-pub last_padded : (key held padded subkey result end : List ℕ) (count : ℕ) → IsHeld held count end → count < 16
+pub last_padded : (key held padded subkey result end : List ℕ) (count : ℕ) → IsPending held count end → count < 16
     → padded ≡ set held count 0x80 → subkey ≡ second_subkey key → result ≡ xor_blocks padded subkey → result ≡ last_block key end
 unfolding last_block
 last_padded key held padded subkey result end count so_far short is_padded is_subkey is_sum =
@@ -27,7 +27,7 @@ last_padded key held padded subkey result end count so_far short is_padded is_su
     rw (so_far.counted, other, is_sum, block, is_subkey) refl
 
 -- a last block that is whole
-pub last_whole : (key held subkey result end : List ℕ) (count : ℕ) → IsHeld held count end → 16 ≤ count
+pub last_whole : (key held subkey result end : List ℕ) (count : ℕ) → IsPending held count end → 16 ≤ count
     → subkey ≡ first_subkey key → result ≡ xor_blocks held subkey → result ≡ last_block key end
 unfolding last_block
 last_whole key held subkey result end count so_far full is_subkey is_sum =
@@ -36,13 +36,13 @@ last_whole key held subkey result end count so_far full is_subkey is_sum =
     rw (so_far.counted, all, is_sum, block, is_subkey) refl
 
 -- the tag
-pub tag_of : (value held last block result key text : List ℕ) (count : ℕ) → IsTakenIn value held count key text (inner_count text)
-    → count ≤ 16 → ((end : List ℕ) → IsHeld held count end → last ≡ last_block key end)
+pub tag_of : (value held last block result key text : List ℕ) (count : ℕ) → IsInChain value held count key text (inner_count text)
+    → count ≤ 16 → ((end : List ℕ) → IsPending held count end → last ≡ last_block key end)
     → block ≡ xor_blocks value last → result ≡ aes128 key block → result ≡ aes_cmac key text
 unfolding aes_cmac
 tag_of value held last block result key text count so_far within is_last is_block is_tag =
     let m : ℕ = 16 * inner_count text in
-    let held_end : IsHeld held count (drop m text) = record {
+    let held_end : IsPending held count (drop m text) = record {
       same = so_far.rest;
       counted = omega (arith, so_far.counted, length-drop m text);
       within = within;

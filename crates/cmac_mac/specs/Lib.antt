@@ -1,3 +1,3 @@
 pub mod Cmac
 pub mod Chained
-pub mod Holds
+pub mod Represents

@@ -4,10 +4,10 @@ ghost use Rattle.std.specs.Prelude.{◌≡◌, List, ℕ, ◌++◌, map};
 ghost use Rattle.std.specs.List.{concat};
 ghost use Rattle.cmac_mac.specs.Cmac.{aes_cmac};
 ghost use Rattle.cmac_mac.specs.Cmac as spec;
-ghost use Rattle.cmac_mac.specs.Chained.{IsHeld};
+ghost use Rattle.cmac_mac.specs.Chained.{IsPending};
 
 use crate::blocks::{double, filled, xor_blocks};
-use crate::taken::{Taken, chain_blocks};
+use crate::taken::{ChainState, chain_blocks};
 use aes_block::{Aes128, BLOCK_LEN};
 use std::marker::Model;
 
@@ -35,7 +35,7 @@ impl Model for CmacKey {
 }
 
 impl CmacKey {
-    ghost use Rattle.cmac_mac.specs.Holds.{HasTaken};
+    ghost use Rattle.cmac_mac.specs.Represents.{HasChained};
 
     /// Expands the key and makes its subkeys.
     pub fn new(key: &[u8; 16]) -> CmacKey
@@ -72,7 +72,7 @@ impl CmacKey {
     pub fn tag(&self, front: &[u8], pieces: &[&[u8]]) -> [u8; 16]
         ensures { result ≡ aes_cmac self.now (front.now ++ concat (map (λ p. p.now) pieces.now)) }
     {
-        let mut taken = Taken::new();
+        let mut taken = ChainState::new();
         taken.update(self, front);
         for piece in pieces {
             taken.update(self, piece);
@@ -93,8 +93,8 @@ impl CmacKey {
     }
 
     // The tag of what is taken in.
-    pub(crate) fn finish(&self, taken: &Taken) -> [u8; 16]
-        ensures { (text : List ℕ) → HasTaken taken.now self.now text → result ≡ aes_cmac self.now text }
+    pub(crate) fn finish(&self, taken: &ChainState) -> [u8; 16]
+        ensures { (text : List ℕ) → HasChained taken.now self.now text → result ≡ aes_cmac self.now text }
     {
         let last = self.last_block(&taken.held, taken.count);
         self.cipher.encrypt(&xor_blocks(&taken.chain, &last))
@@ -102,7 +102,7 @@ impl CmacKey {
 
     // The last block (section 2.4), made of the first `count` octets of what is held; zeros follow them.
     fn last_block(&self, held: &[u8; 16], count: usize) -> [u8; 16]
-        ensures { (end : List ℕ) → IsHeld held.now count end → result ≡ spec.last_block self.now end }
+        ensures { (end : List ℕ) → IsPending held.now count end → result ≡ spec.last_block self.now end }
     {
         if count < 16 {
             let mut padded = *held;

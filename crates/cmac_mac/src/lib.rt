@@ -5,7 +5,7 @@ ghost use Rattle.std.specs.Prelude.{◌≡◌, List, ℕ, [], ◌++◌};
 ghost use Rattle.cmac_mac.specs.Cmac.{aes_cmac};
 
 pub use crate::key::CmacKey;
-use crate::taken::Taken;
+use crate::taken::ChainState;
 
 mod blocks;
 mod key;
@@ -15,55 +15,55 @@ mod taken;
 /// [`update`](Cmac::update) for each piece, and [`finish`](Cmac::finish). It stores no text, only the
 /// chain and the last octets.
 ///
-/// A contract says by `Holds mac key text` which key and which text a value represents.
+/// A contract says by `Represents mac key text` which key and which text a value represents.
 #[derive(Drop)]
 pub struct Cmac {
     key: CmacKey,
-    taken: Taken,
+    taken: ChainState,
 }
 
 impl Cmac {
-    ghost use Rattle.cmac_mac.specs.Holds.{Holds};
+    ghost use Rattle.cmac_mac.specs.Represents.{Represents};
 
     /// Begins with the empty text, under this key.
-    #[tactic(auto, unfolding(crate::specs::Holds::Holds))]
+    #[tactic(auto, unfolding(crate::specs::Represents::Represents))]
     pub fn new(key: &[u8; 16]) -> Cmac
-        ensures { Holds result key.now [] }
+        ensures { Represents result key.now [] }
     {
         Cmac {
             key: CmacKey::new(key),
-            taken: Taken::new(),
+            taken: ChainState::new(),
         }
     }
 
     /// Appends a piece to the text.
-    #[tactic(auto, unfolding(crate::specs::Holds::Holds))]
+    #[tactic(auto, unfolding(crate::specs::Represents::Represents))]
     pub fn update(&mut self, piece: &[u8])
-        ensures { (key text : List ℕ) → Holds self.old key text → Holds self.new key (text ++ piece.now) }
+        ensures { (key text : List ℕ) → Represents self.old key text → Represents self.new key (text ++ piece.now) }
     {
         self.taken.update(&self.key, piece);
     }
 
     /// The tag of the text (RFC 4493, section 2.4).
-    #[tactic(auto, unfolding(crate::specs::Holds::Holds))]
+    #[tactic(auto, unfolding(crate::specs::Represents::Represents))]
     pub fn finish(self) -> [u8; 16]
-        ensures { (key text : List ℕ) → Holds self key text → result ≡ aes_cmac key text }
+        ensures { (key text : List ℕ) → Represents self key text → result ≡ aes_cmac key text }
     {
         self.key.finish(&self.taken)
     }
 }
 
 impl CmacKey {
-    ghost use Rattle.cmac_mac.specs.Holds.{Holds};
+    ghost use Rattle.cmac_mac.specs.Represents.{Represents};
 
     /// Begins with the empty text.
-    #[tactic(auto, unfolding(crate::specs::Holds::Holds))]
+    #[tactic(auto, unfolding(crate::specs::Represents::Represents))]
     pub fn begin(&self) -> Cmac
-        ensures { Holds result self.now [] }
+        ensures { Represents result self.now [] }
     {
         Cmac {
             key: self.copy(),
-            taken: Taken::new(),
+            taken: ChainState::new(),
         }
     }
 }

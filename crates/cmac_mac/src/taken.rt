@@ -4,7 +4,7 @@ ghost use Rattle.std.specs.Prelude.{◌≡◌, List, ℕ, ◌+◌, ◌≤◌, �
 ghost use Rattle.std.specs.List.{concat};
 ghost use Rattle.aes_block.specs.Cipher.{aes128};
 ghost use Rattle.cmac_mac.specs.Cmac as spec;
-ghost use Rattle.cmac_mac.specs.Chained.{IsChained, IsTakenIn};
+ghost use Rattle.cmac_mac.specs.Chained.{IsChained, IsInChain};
 
 use crate::blocks::xor_blocks;
 use crate::key::CmacKey;
@@ -12,7 +12,7 @@ use aes_block::{Aes128, BLOCK_LEN};
 
 // The text so far: all its blocks before the last one are in the chain, and the last one is held back.
 #[derive(Drop)]
-pub(crate) struct Taken {
+pub(crate) struct ChainState {
     pub(crate) chain: [u8; 16],
     // `count` octets of the text, then zeros.
     pub(crate) held: [u8; 16],
@@ -20,15 +20,15 @@ pub(crate) struct Taken {
     ghost within: { count ≤ 16 },
 }
 
-impl Taken {
-    ghost use Rattle.cmac_mac.specs.Holds.{HasTaken};
+impl ChainState {
+    ghost use Rattle.cmac_mac.specs.Represents.{HasChained};
 
     // Nothing of a text.
-    #[tactic(auto, using(crate::proofs::Growing::taken_none), unfolding(crate::specs::Holds::HasTaken))]
-    pub(crate) fn new() -> Taken
-        ensures { (key : List ℕ) → HasTaken result key [] }
+    #[tactic(auto, using(crate::proofs::Growing::accepted_none), unfolding(crate::specs::Represents::HasChained))]
+    pub(crate) fn new() -> ChainState
+        ensures { (key : List ℕ) → HasChained result key [] }
     {
-        Taken {
+        ChainState {
             chain: [0; 16],
             held: [0; 16],
             count: 0,
@@ -37,7 +37,7 @@ impl Taken {
 
     // Appends a piece to the text.
     pub(crate) fn update(&mut self, key: &CmacKey, piece: &[u8])
-        ensures { (text : List ℕ) → HasTaken self.old key.now text → HasTaken self.new key.now (text ++ piece.now) }
+        ensures { (text : List ℕ) → HasChained self.old key.now text → HasChained self.new key.now (text ++ piece.now) }
     {
         let room = BLOCK_LEN - self.count;
         if piece.len() <= room {
@@ -45,15 +45,15 @@ impl Taken {
         } else {
             let (front, rest) = piece.split_at(room);
             self.hold(front);
-            self.take_in(key.cipher(), rest);
+            self.chain_in(key.cipher(), rest);
         }
     }
 
     // Appends octets for which the block has room.
     fn hold(&mut self, octets: &[u8])
         requires { self.old.count + length octets.now ≤ 16 }
-        ensures taken { (key text : List ℕ) (n : ℕ) → IsTakenIn self.old.chain self.old.held self.old.count key text n
-            → IsTakenIn self.new.chain self.new.held self.new.count key (text ++ octets.now) n }
+        ensures taken { (key text : List ℕ) (n : ℕ) → IsInChain self.old.chain self.old.held self.old.count key text n
+            → IsInChain self.new.chain self.new.held self.new.count key (text ++ octets.now) n }
         ensures count { self.new.count ≡ self.old.count + length octets.now }
     {
         let end = self.count + octets.len();
@@ -62,11 +62,11 @@ impl Taken {
     }
 
     // Appends octets when the block is full, so that it isn't the last one.
-    fn take_in(&mut self, cipher: &Aes128, octets: &[u8])
+    fn chain_in(&mut self, cipher: &Aes128, octets: &[u8])
         requires full { self.old.count ≡ 16 }
         requires more { 1 ≤ length octets.now }
-        ensures { (text : List ℕ) (n : ℕ) → IsTakenIn self.old.chain self.old.held self.old.count cipher.now text n
-            → HasTaken self.new cipher.now (text ++ octets.now) }
+        ensures { (text : List ℕ) (n : ℕ) → IsInChain self.old.chain self.old.held self.old.count cipher.now text n
+            → HasChained self.new cipher.now (text ++ octets.now) }
     {
         let inner = (octets.len() - 1) / BLOCK_LEN;
         let (front, end) = octets.split_at(BLOCK_LEN * inner);

@@ -7,7 +7,7 @@ use Rattle.answer_text.specs.Writes.{WritesFront}
 use Rattle.answer_text.proofs.Fronts.{append_known_append}
 use Rattle.command_driver.specs.declared.status.Status.{Status}
 use Rattle.command_driver.specs.Answers.{after_text, refusal, overlong, Ends}
-use Rattle.command_driver.specs.Commands.{Took, Closing, after_ruling, lacking_after, closing_answer, answer, lacking, GoesOn, Stops}
+use Rattle.command_driver.specs.Commands.{LineResult, Closing, after_ruling, lacking_after, closing_answer, answer, lacking, HasContinued, Stops}
 use Rattle.command_driver.proofs.Endings.{Progress, ends_progress, front_progress, front_none, front_first, ends_after}
 
 -- an option that is made of another
@@ -24,7 +24,7 @@ or-true : (b : Bool) → (b || true) ≡ true
 or-true true = refl
 or-true false = refl
 
-module _ {C : Type 0} (took : C → List ℕ → Took C) (closing : C → Closing) (lacks : C → List ℕ → Bool) where
+module _ {C : Type 0} (took : C → List ℕ → LineResult C) (closing : C → Closing) (lacks : C → List ℕ → Bool) where
   answer-line : (n : ℕ) (c : C) (l : List ℕ) (rest : Lines)
       → answer took closing n c (line l rest)
       ≡ after_text (took c l).text (after_ruling (n + 1) (took c l).ruling (answer took closing (n + 1) (took c l).after rest))
@@ -54,9 +54,9 @@ module _ {C : Type 0} (took : C → List ℕ → Took C) (closing : C → Closin
     pub memory : lacking took lacks c rest ≡ true → lacking took lacks begun all ≡ true
 
   -- a line is taken and the command goes on
-  pub driving_goes : (before mid now : Option (List ℕ)) (begun : C) (all : Lines) (n : ℕ) (c new : C) (l : List ℕ) (rest : Lines)
-      → Driving before mid begun all n c (line l rest) → GoesOn (took c l) mid now new → Driving before now begun all (n + 1) new rest
-  driving_goes before mid now begun all n c new l rest d g = record {
+  pub driving_proceeds : (before mid now : Option (List ℕ)) (begun : C) (all : Lines) (n : ℕ) (c new : C) (l : List ℕ) (rest : Lines)
+      → Driving before mid begun all n c (line l rest) → HasContinued (took c l) mid now new → Driving before now begun all (n + 1) new rest
+  driving_proceeds before mid now begun all n c new l rest d g = record {
     progress = record {
       front = d.progress.front ++ (took c l).text;
       split = d.progress.split ∙ ap (after_text d.progress.front) (answer-line n c l rest) ∙ rw (g.ruling, g.after, append_assoc) refl;
@@ -119,13 +119,13 @@ module _ {C : Type 0} (took : C → List ℕ → Took C) (closing : C → Closin
       let P : Lines → Type 0 = λ r. Driving before now begun all n c r in
       (m.from, m.is, subst P (m.value ∙ ap (λ t. line t m.from) (sym same)) u.driving)
 
-  pub underway_goes : (before mid now : Option (List ℕ)) (begun : C) (all : Lines) (n number : ℕ) (c new : C) (l text : List ℕ) (left next : Option Lines)
+  pub underway_proceeds : (before mid now : Option (List ℕ)) (begun : C) (all : Lines) (n number : ℕ) (c new : C) (l text : List ℕ) (left next : Option Lines)
       → Underway before mid begun all n c left → left ≡ option_map (line l) next → number ≡ n + 1 → text ≡ l
-      → GoesOn (took c text) mid now new → Underway before now begun all number new next
-  underway_goes before mid now begun all n number c new l text left next u e count same g =
+      → HasContinued (took c text) mid now new → Underway before now begun all number new next
+  underway_proceeds before mid now begun all n number c new l text left next u e count same g =
       let d = at_line before mid begun all n c l text left next u e same in
       let P : ℕ → Type 0 = λ k. Driving before now begun all k new d.0 in
-      record { rest = d.0; known = d.1; driving = subst P (sym count) (driving_goes before mid now begun all n c new text d.0 d.2 g) }
+      record { rest = d.0; known = d.1; driving = subst P (sym count) (driving_proceeds before mid now begun all n c new text d.0 d.2 g) }
 
   pub underway_stops : (before mid now after : Option (List ℕ)) (begun : C) (all : Lines) (n number : ℕ) (c : C) (l text word : List ℕ) (s result : Status) (left next : Option Lines)
       → Underway before mid begun all n c left → left ≡ option_map (line l) next → number ≡ n + 1 → text ≡ l

@@ -24,8 +24,8 @@ ends_after s before mid now front a e (entire text is) =
 ends_after s before mid now front a e (cut_short why w) = cut_short why (front_after before mid now front a.text e w)
 
 -- the count of failed writes
-pub keeps_writes_from : (s : Status) (before mid now : ℕ) → mid ≡ before → KeepsWrites s mid now → KeepsWrites s before now
-keeps_writes_from s before mid now e h = λ other. h other ∙ e
+pub preserves_writes_from : (s : Status) (before mid now : ℕ) → mid ≡ before → KeepsWrites s mid now → KeepsWrites s before now
+preserves_writes_from s before mid now e h = λ other. h other ∙ e
 
 pub finishes_after : {S : Type 0} (shown : Shown S) (result : Status) (before mid now : S) (front : List ℕ) (a : Answer)
     → append_known (shown.octets before) front ≡ shown.octets mid → shown.faults mid ≡ shown.faults before
@@ -34,7 +34,7 @@ finishes_after shown result before mid now front a e f w = record {
   ends = ends_after result (shown.octets before) (shown.octets mid) (shown.octets now) front a e w.ends;
   written_only = w.written_only;
   counted = λ is h. w.counted is (omega arith);
-  uncounted = keeps_writes_from result (shown.faults before) (shown.faults mid) (shown.faults now) f w.uncounted;
+  uncounted = preserves_writes_from result (shown.faults before) (shown.faults mid) (shown.faults now) f w.uncounted;
   never_falls = omega arith;
 }
 

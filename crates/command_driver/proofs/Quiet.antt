@@ -3,7 +3,7 @@ use Rattle.std.proofs.Common.{◌≡◌, ℕ, ◌+◌, List, [], Bool, true, ref
 use Rattle.octet_io.specs.Lines.{Lines, ended, too_long, too_much, line}
 use Rattle.answer_text.proofs.Plain.{plain, join}
 use Rattle.command_driver.specs.Answers.{Answer, after_text, IsRefusal}
-use Rattle.command_driver.specs.Commands.{Took, Closing, Ruling, goes, refuses, Closed, ends, misses, after_ruling, closed_answer, answer}
+use Rattle.command_driver.specs.Commands.{LineResult, Closing, Ruling, goes, refuses, Closed, ends, misses, after_ruling, closed_answer, answer}
 use Rattle.command_driver.specs.declared.status.Status.{Status}
 use Rattle.command_driver.specs.declared.status.Status.TheVariants as status
 
@@ -20,7 +20,7 @@ module _ (bad : ℕ → Bool) where
     pub holds : a.status ≡ status.Done → plain bad true a.text ≡ true
 
   -- what a line brings, and what holds of the command after it
-  pub record IsQuietLine {C : Type 0} (Holds : C → Type 0) (t : Took C) : Type 0 where
+  pub record IsQuietLine {C : Type 0} (Holds : C → Type 0) (t : LineResult C) : Type 0 where
     pub text : plain bad true t.text ≡ true
     pub refusing : Refuses t.ruling
     pub after : Holds t.after
@@ -35,7 +35,7 @@ module _ (bad : ℕ → Bool) where
   quiet_after number text (refuses word s) a h k rest = record { holds = λ done. absurd (never_done s k done) }
 
   -- a command that keeps a property, each of whose lines is quiet
-  module _ {C : Type 0} (took : C → List ℕ → Took C) (closing : C → Closing) (Holds : C → Type 0)
+  module _ {C : Type 0} (took : C → List ℕ → LineResult C) (closing : C → Closing) (Holds : C → Type 0)
       (quiet_took : (c : C) (l : List ℕ) → Holds c → IsQuietLine Holds (took c l))
       (quiet_end : (c : C) → plain bad true (closing c).text ≡ true) where
     pub quiet_answer : (ls : Lines) (n : ℕ) (c : C) → Holds c → IsQuiet (answer took closing n c ls)

@@ -8,7 +8,7 @@ use Rattle.command_driver.specs.Commands.{SomeLacks}
 use Rattle.command_driver.specs.Responding.{Lacking, MayLack, never, Reads}
 use Rattle.command_driver.specs.declared.status.Status.{Status}
 use Rattle.command_driver.specs.declared.status.Status.TheVariants as status
-use Rattle.command_driver.proofs.Endings.{keeps_writes_from, ends_after, ends_same}
+use Rattle.command_driver.proofs.Endings.{preserves_writes_from, ends_after, ends_same}
 
 module _ {S W : Type 0} {source : Shown S} {sink : Shown W} where
   -- by an answer to what was left
@@ -23,7 +23,7 @@ module _ {S W : Type 0} {source : Shown S} {sink : Shown W} where
     read_fault = λ w. absurd (subst IsWritten w f.written_only);
     write_fault = λ w h. f.counted w (omega (arith, h, same_writes));
     reads = λ _. same_reads;
-    writes = keeps_writes_from result _ _ _ same_writes f.uncounted;
+    writes = preserves_writes_from result _ _ _ same_writes f.uncounted;
     memory = λ w. absurd (subst IsWritten w f.written_only);
   }
 
@@ -86,7 +86,7 @@ module _ {S W : Type 0} {source : Shown S} {sink : Shown W} where
     read_fault = r.read_fault;
     write_fault = λ w h. r.write_fault w (omega (arith, h, same_writes));
     reads = r.reads;
-    writes = keeps_writes_from result _ _ _ same_writes r.writes;
+    writes = preserves_writes_from result _ _ _ same_writes r.writes;
     memory = λ w. may (r.memory w);
   }
 

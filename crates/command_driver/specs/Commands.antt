@@ -9,7 +9,7 @@ use Rattle.command_driver.specs.Answers.{Answer, after_text, refusal, overlong, 
 use Rattle.command_driver.specs.declared.status.Status.{Status}
 use Rattle.command_driver.specs.declared.status.Status.TheVariants as status
 use Rattle.command_driver.specs.declared.command.Next.{Next}
-use Rattle.command_driver.specs.declared.command.Next.TheVariants.{Goes, Refuses}
+use Rattle.command_driver.specs.declared.command.Next.TheVariants.{Proceed, Refuses}
 use Rattle.command_driver.specs.declared.command.Close.{Close}
 use Rattle.command_driver.specs.declared.command.Close.TheVariants as close
 use Rattle.command_driver.specs.declared.command.Trouble.{Trouble}
@@ -21,7 +21,7 @@ pub data Ruling : Type 0 where
   refuses : List ℕ → Status → Ruling
 
 -- the result of a line: a text, a ruling, and the command after it
-pub record Took (C : Type 0) : Type 0 where
+pub record LineResult (C : Type 0) : Type 0 where
   pub text : List ℕ
   pub ruling : Ruling
   pub after : C
@@ -52,7 +52,7 @@ abbrev pub lacking_after : Ruling → Bool → Bool
 lacking_after goes b = b
 lacking_after (refuses word s) b = false
 
-module _ {C : Type 0} (took : C → List ℕ → Took C) (closing : C → Closing) where
+module _ {C : Type 0} (took : C → List ℕ → LineResult C) (closing : C → Closing) where
   -- the answer of a command to lines, if this many came before
   unfoldable pub answer : ℕ → C → Lines → Answer
   answer n c ended = closing_answer (n + 1) (closing c)
@@ -62,7 +62,7 @@ module _ {C : Type 0} (took : C → List ℕ → Took C) (closing : C → Closin
       after_text (took c l).text (after_ruling (n + 1) (took c l).ruling (answer (n + 1) (took c l).after rest))
 
 -- whether some line that the command comes to may fail for want of memory
-module _ {C : Type 0} (took : C → List ℕ → Took C) (lacks : C → List ℕ → Bool) where
+module _ {C : Type 0} (took : C → List ℕ → LineResult C) (lacks : C → List ℕ → Bool) where
   unfoldable pub lacking : C → Lines → Bool
   lacking c ended = false
   lacking c too_long = false
@@ -70,22 +70,22 @@ module _ {C : Type 0} (took : C → List ℕ → Took C) (lacks : C → List ℕ
   lacking c (line l rest) = lacks c l || lacking_after (took c l).ruling (lacking (took c l).after rest)
 
 -- a line was taken, its text written, and the command is as it is after it
-pub record GoesOn {C : Type 0} (t : Took C) (before now : Option (List ℕ)) (new : C) : Type 0 where
+pub record HasContinued {C : Type 0} (t : LineResult C) (before now : Option (List ℕ)) (new : C) : Type 0 where
   pub ruling : t.ruling ≡ goes
   pub text : append_known before t.text ≡ now
   pub after : t.after ≡ new
 
 -- a line was refused
-pub record Stops {C : Type 0} (t : Took C) (before now : Option (List ℕ)) (word : List ℕ) (s : Status) : Type 0 where
+pub record Stops {C : Type 0} (t : LineResult C) (before now : Option (List ℕ)) (word : List ℕ) (s : Status) : Type 0 where
   pub ruling : t.ruling ≡ refuses word s
   pub text : append_known before t.text ≡ now
   pub refusal : IsRefusal s
 
 -- what a command does with one line
-abbrev pub Takes : {C : Type 0} → Result Next Trouble → Took C → Option (List ℕ) → Option (List ℕ) → C → Type 0
-Takes (Ok Goes) t before now after = GoesOn t before now after
-Takes (Ok (Refuses word s)) t before now after = Stops t before now word.now s
-Takes (Err trouble) t before now after = WritesFront before now t.text
+abbrev pub IsLineResult : {C : Type 0} → Result Next Trouble → LineResult C → Option (List ℕ) → Option (List ℕ) → C → Type 0
+IsLineResult (Ok Proceed) t before now after = HasContinued t before now after
+IsLineResult (Ok (Refuses word s)) t before now after = Stops t before now word.now s
+IsLineResult (Err trouble) t before now after = WritesFront before now t.text
 
 -- the end of the input was met, and the run ends with a status
 pub record EndsWith (t : Closing) (before now : Option (List ℕ)) (s : Status) : Type 0 where
@@ -112,16 +112,16 @@ Troubles shown (Err trouble.Write) before now lacks = HasRisen shown before now
 Troubles shown (Err trouble.Memory) before now lacks = lacks ≡ true
 
 -- unless a write failed, the count of faults is as it was
-abbrev pub KeepsFaults : {S : Type 0} → Shown S → Result Next Trouble → S → S → Type 0
-KeepsFaults shown (Ok next) before now = shown.faults now ≡ shown.faults before
-KeepsFaults shown (Err trouble.Write) before now = Unit {0}
-KeepsFaults shown (Err trouble.Memory) before now = shown.faults now ≡ shown.faults before
+abbrev pub PreservesFaults : {S : Type 0} → Shown S → Result Next Trouble → S → S → Type 0
+PreservesFaults shown (Ok next) before now = shown.faults now ≡ shown.faults before
+PreservesFaults shown (Err trouble.Write) before now = Unit {0}
+PreservesFaults shown (Err trouble.Memory) before now = shown.faults now ≡ shown.faults before
 
 -- what a command does to a sink at one line, by what the sink shows of itself
-pub record AnswersLine {C S : Type 0} (shown : Shown S) (result : Result Next Trouble) (before now : S) (t : Took C) (lacks : Bool) (after : C) : Type 0 where
-  pub takes : Takes result t (shown.octets before) (shown.octets now) after
+pub record AnswersLine {C S : Type 0} (shown : Shown S) (result : Result Next Trouble) (before now : S) (t : LineResult C) (lacks : Bool) (after : C) : Type 0 where
+  pub takes : IsLineResult result t (shown.octets before) (shown.octets now) after
   pub trouble : Troubles shown result before now lacks
-  pub uncounted : KeepsFaults shown result before now
+  pub uncounted : PreservesFaults shown result before now
   pub never_falls : shown.faults before ≤ shown.faults now
 
 -- what a command does to a sink at the end of the input

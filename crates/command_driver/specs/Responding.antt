@@ -31,7 +31,7 @@ lacking_of (reading answer lacking) = lacking
 lacking_of (unread a lacking) = lacking
 
 -- by what a sink shows of itself: an answer was given that reads nothing from a source
-pub record Says {W : Type 0} (sink : Shown W) (a : Answer) (lacking : Lacking) (result : Status) (old new : W) : Type 0 where
+pub record IsAnswered {W : Type 0} (sink : Shown W) (a : Answer) (lacking : Lacking) (result : Status) (old new : W) : Type 0 where
   pub ends : Ends result (sink.octets old) (sink.octets new) a
   pub no_read_fault : result ≢ status.ReadFault
   pub write_fault : result ≡ status.WriteFault → HasRisen sink old new
@@ -57,7 +57,7 @@ module _ {S W : Type 0} (source : Shown S) (sink : Shown W) where
 
   -- an answer was given, and the source is as it was
   pub record Rests (a : Answer) (lacking : Lacking) (result : Status) (before now : S) (old new : W) : Type 0 where
-    pub says : Says sink a lacking result old new
+    pub says : IsAnswered sink a lacking result old new
     pub untouched : now ≡ before
 
   -- either

@@ -10,7 +10,7 @@ use octet_io::{Failed, Sink};
 #[derive(Clone, Copy)]
 pub enum Next {
     /// The next line.
-    Goes,
+    Proceed,
     /// The line is refused with this word, and the run ends with this status.
     Refuses(&'static str, Status),
 }
@@ -36,7 +36,7 @@ pub enum Trouble {
 /// A command that reads lines, answers each, and ends with the input.
 pub trait Command {
     ghost use Rattle.std.specs.Prelude.{ℕ, List, Bool};
-    ghost use Rattle.command_driver.specs.Commands.{Took, Closing};
+    ghost use Rattle.command_driver.specs.Commands.{LineResult, Closing};
 
     /// The type of what decides the results of a command's lines.
     ghost Seen: { Type 0 };
@@ -45,7 +45,7 @@ pub trait Command {
     ghost seen: { Self → Seen };
 
     /// The result of a line.
-    ghost took: { Seen → List ℕ → Took Seen };
+    ghost took: { Seen → List ℕ → LineResult Seen };
 
     /// The result of the end of the input.
     ghost closing: { Seen → Closing };

@@ -53,7 +53,7 @@ pub fn drive<C: Command, S: Source, W: Sink>(
     loop {
         match reader.next_line(source) {
             NextLine::Line => match command.take(sink, reader.line()) {
-                Ok(Next::Goes) => {}
+                Ok(Next::Proceed) => {}
                 Ok(Next::Refuses(word, status)) => return refuse(
                     sink,
                     reader.number(),

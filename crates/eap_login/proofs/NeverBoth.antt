@@ -8,7 +8,7 @@ use Rattle.std.specs.Prelude.{if◌then◌else◌}
 use Rattle.octet_io.specs.Known.{append_known}
 use Rattle.login_setup.specs.declared.users.User.{User}
 use Rattle.answer_text.proofs.Plain.{none}
-use Rattle.answer_text.proofs.PlainKeys.{begins_result}
+use Rattle.answer_text.proofs.PlainKeys.{starts_result}
 use Rattle.answer_text.proofs.Scanning.{found}
 use Rattle.command_driver.specs.Answers.{Answer, IsCutShort, by_read, by_write, by_memory, Ends, entire, cut_short}
 use Rattle.command_driver.specs.Responding.{Asked, answer_to}
@@ -21,7 +21,7 @@ use Rattle.capture_commands.specs.Pcap.{pcap_users}
 use Rattle.capture_commands.proofs.CheckQuiet.{check_quiet}
 use Rattle.capture_commands.proofs.PcapQuiet.{pcap_quiet}
 use Rattle.capture_commands.proofs.PcapUsers.{HaveNames, pcap_names}
-use Rattle.capture_commands.proofs.RadiusQuiet.{begins_tags, radius_quiet}
+use Rattle.capture_commands.proofs.RadiusQuiet.{starts_tags, radius_quiet}
 use Rattle.world_commands.specs.Bulk.{bulk_of}
 use Rattle.world_commands.specs.Headline.{NeverBoth, WritesNeverBoth}
 use Rattle.world_commands.specs.declared.bulk.Bulk.{Bulk}
@@ -31,14 +31,14 @@ use Rattle.end_commands.proofs.EndQuiet.{peer_quiet, server_quiet}
 use Rattle.eap_login.specs.Login.{usage_answer, unread_answer, asked_with, login_answer, is_replay, is_replay_names, is_decode, is_keys, is_check, is_radius, is_peer, is_server}
 
 -- a text without a line that begins as that of the result, or of the tags, has not all of these
-without_result : (a : Answer) → IsQuiet begins_result a → Never a
+without_result : (a : Answer) → IsQuiet starts_result a → Never a
 without_result a q = record {
-  holds = λ done honest apart fresh. true≢false (sym (found (codes "result apart") a.text apart) ∙ none begins_result 114 (codes "esult apart\n") refl a.text true (q.holds done));
+  holds = λ done honest apart fresh. true≢false (sym (found (codes "result apart") a.text apart) ∙ none starts_result 114 (codes "esult apart\n") refl a.text true (q.holds done));
 }
 
-without_tags : (a : Answer) → IsQuiet begins_tags a → Never a
+without_tags : (a : Answer) → IsQuiet starts_tags a → Never a
 without_tags a q = record {
-  holds = λ done honest apart fresh. true≢false (sym (found (codes "tags honest") a.text honest) ∙ none begins_tags 116 (codes "ags honest\n") refl a.text true (q.holds done));
+  holds = λ done honest apart fresh. true≢false (sym (found (codes "tags honest") a.text honest) ∙ none starts_tags 116 (codes "ags honest\n") refl a.text true (q.holds done));
 }
 
 never_usage : Never usage_answer

@@ -13,7 +13,7 @@ use Rattle.capture_commands.specs.Pcap.{pcap_users, pcap_answer}
 use Rattle.capture_commands.specs.Radius.{radius_answer}
 use Rattle.end_commands.specs.PeerCommand.{peer_answer}
 use Rattle.end_commands.specs.ServerCommand.{server_answer}
-use Rattle.command_driver.specs.Responding.{Asked, Lacking, reading, unread, never, at_any, MayLack, Says, answer_to, lacking_of}
+use Rattle.command_driver.specs.Responding.{Asked, Lacking, reading, unread, never, at_any, MayLack, IsAnswered, answer_to, lacking_of}
 use Rattle.world_commands.specs.Scenario.{asked_replay}
 use Rattle.world_commands.specs.declared.bulk.Bulk.{Bulk}
 use Rattle.command_driver.specs.declared.status.Status.{Status}
@@ -81,8 +81,8 @@ abbrev pub asked_with_arguments : List (List ℕ) → Asked
 asked_with_arguments words = asked_with (pcap_users words) (bulk_of words)
 
 -- words that read nothing were answered
-abbrev pub SaysUnread : {W : Type 0} → Shown W → Option Bulk → Status → W → W → Type 0
-SaysUnread sink asked result old new = Says sink (unread_answer asked) (unread_lacking asked) result old new
+abbrev pub IsAnsweredUnread : {W : Type 0} → Shown W → Option Bulk → Status → W → W → Type 0
+IsAnsweredUnread sink asked result old new = IsAnswered sink (unread_answer asked) (unread_lacking asked) result old new
 
 -- what words ask
 abbrev pub asked_by : List (List ℕ) → Asked

@@ -5,7 +5,7 @@ ghost use Rattle.octet_io.specs.Shown.{HasRisen};
 ghost use Rattle.command_driver.specs.Answers.{Finishes};
 ghost use Rattle.world_commands.specs.Bulk.{bulk_of};
 ghost use Rattle.eap_login.specs.Login.{is_alone, are_two, asked_by, asked_with_arguments};
-ghost use Rattle.eap_login.specs.Login.{SaysUnread, usage_answer, usage_text, Completes};
+ghost use Rattle.eap_login.specs.Login.{IsAnsweredUnread, usage_answer, usage_text, Completes};
 ghost use Rattle.world_commands.specs.Headline.{HonestEndsAgree, WritesNeverBoth};
 ghost use Rattle.world_commands.specs.Replay.{HasBoth};
 ghost use Rattle.command_driver.specs.Responding.{Responds};
@@ -177,7 +177,7 @@ fn answer_unread<P: PeerMethod, M: ServerMethod, W: Sink>(
     methods: Methods<P, M>,
 ) -> Status
     requires { HasBoth P.peer_shown M.server_shown methods }
-    ensures { SaysUnread W.shown (bulk_of (map string_bytes words.now.items)) result sink.old sink.new }
+    ensures { IsAnsweredUnread W.shown (bulk_of (map string_bytes words.now.items)) result sink.old sink.new }
 {
     match bulk_of(words) {
         Some(asked) => run_bulk(alloc, asked, sink, methods),

@@ -10,11 +10,11 @@ use Rattle.eap_method.specs.declared.values.Decision.{Decision}
 use Rattle.eap_method.specs.Turns.{PeerOutcome, ServerOutcome, discarded, replied, dropped, requested, done}
 
 -- where a peer's turn is a discard, the view after it is the one before
-pub record PeerKeeps {V : Type 0} (view : V) (out : PeerOutcome V) : Type 0 where
+pub record PeerPreserves {V : Type 0} (view : V) (out : PeerOutcome V) : Type 0 where
   pub keeps : (cause : Cause) → out.turn ≡ peer_answer.Discard cause → out.after ≡ view
 
 -- where a server's turn is a discard, the view after it is the one before
-pub record ServerKeeps {V : Type 0} (view : V) (out : ServerOutcome V) : Type 0 where
+pub record ServerPreserves {V : Type 0} (view : V) (out : ServerOutcome V) : Type 0 where
   pub keeps : (cause : Cause) → out.turn ≡ server_answer.Discard cause → out.after ≡ view
 
 -- what holds of both outcomes of a test holds of the one that is chosen
@@ -22,18 +22,18 @@ pub by_test : {A : Type 0} (P : A → Type 0) (test : Bool) (x y : A) → P x �
 by_test P true x y on_true on_false = on_true
 by_test P false x y on_true on_false = on_false
 
-pub discard-keeps : {V : Type 0} (view : V) (cause : Cause) → PeerKeeps view (discarded view cause)
+pub discard-keeps : {V : Type 0} (view : V) (cause : Cause) → PeerPreserves view (discarded view cause)
 discard-keeps view cause = record { keeps = λ _ _. refl }
 
 pub reply-keeps : {V : Type 0} (view after : V) (packet : List ℕ) (state : MethodState) (decision : Decision) (accepted made : List TagRecord)
-    → PeerKeeps view (replied after packet state decision accepted made)
+    → PeerPreserves view (replied after packet state decision accepted made)
 reply-keeps view after packet state decision accepted made = record { keeps = λ cause is_discard. cc is_discard }
 
-pub drop-keeps : {V : Type 0} (view : V) (cause : Cause) → ServerKeeps view (dropped view cause)
+pub drop-keeps : {V : Type 0} (view : V) (cause : Cause) → ServerPreserves view (dropped view cause)
 drop-keeps view cause = record { keeps = λ _ _. refl }
 
-pub request-keeps : {V : Type 0} (view after : V) (packet : List ℕ) (accepted made : List TagRecord) → ServerKeeps view (requested after packet accepted made)
+pub request-keeps : {V : Type 0} (view after : V) (packet : List ℕ) (accepted made : List TagRecord) → ServerPreserves view (requested after packet accepted made)
 request-keeps view after packet accepted made = record { keeps = λ cause is_discard. cc is_discard }
 
-pub done-keeps : {V : Type 0} (view after : V) (success : Bool) (accepted : List TagRecord) → ServerKeeps view (done after success accepted)
+pub done-keeps : {V : Type 0} (view after : V) (success : Bool) (accepted : List TagRecord) → ServerPreserves view (done after success accepted)
 done-keeps view after success accepted = record { keeps = λ cause is_discard. cc is_discard }

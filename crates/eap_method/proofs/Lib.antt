@@ -17,7 +17,7 @@ pub mod PskDiscards
 -- The octets that a MAC of EAP-PSK covers, from their pieces.
 pub mod PskMacs
 -- A packet that is spelled has room for an Expanded Type where its Type-Data is short enough.
-pub mod Rooms
+pub mod Capacities
 -- The first object of a method in a server's list of objects decides what the views of the list do.
 pub mod ServerObjects
 -- The views of a server by method: each is put and found by its Type, and decides the offer, the turn and the report.

@@ -3,21 +3,21 @@ use Rattle.std.proofs.Common.{◌≡◌, ℕ, List, [], true, IsTrue, Option, So
 use Rattle.std.specs.Prelude.{unwrap_or, is_some, IfSome}
 use Rattle.login_setup.specs.declared.setup.PeerSetup.{PeerSetup}
 use Rattle.octet_lists.specs.Among.{psk_kind, gpsk_kind, is_among}
-use Rattle.login_setup.specs.Setup.{key_of, fits_kind, IsSoundPeer, HasKeys}
+use Rattle.login_setup.specs.Setup.{key_of, is_valid_for, IsSoundPeer, HasKeys}
 use Rattle.eap_method.specs.Peer.{PeerShown, psk, gpsk, peer_kind, credential_for}
 use Rattle.eap_method.proofs.Amongs.{each_one}
 
 -- a key that is there fits its method
-key_fits : (kind : ℕ) (key : Option (List ℕ)) → IfSome key (λ octets. IsTrue (fits_kind kind octets)) → is_some key ≡ true → IsTrue (fits_kind kind (unwrap_or key []))
-key_fits kind None fits is_there = absurd (cc is_there)
-key_fits kind (Some octets) fits is_there = fits
+key_is_valid : (kind : ℕ) (key : Option (List ℕ)) → IfSome key (λ octets. IsTrue (is_valid_for kind octets)) → is_some key ≡ true → IsTrue (is_valid_for kind (unwrap_or key []))
+key_is_valid kind None fits is_there = absurd (cc is_there)
+key_is_valid kind (Some octets) fits is_there = fits
 
-fits_each : (setup : PeerSetup) (s : PeerShown) → IsSoundPeer setup → is_some (key_of setup (peer_kind s)) ≡ true → IsTrue (fits_kind (peer_kind s) (unwrap_or (key_of setup (peer_kind s)) []))
-fits_each setup (psk view) sound is_there = key_fits psk_kind setup.psk47 sound.psk47 is_there
-fits_each setup (gpsk view) sound is_there = key_fits gpsk_kind setup.psk51 sound.psk51 is_there
+fits_each : (setup : PeerSetup) (s : PeerShown) → IsSoundPeer setup → is_some (key_of setup (peer_kind s)) ≡ true → IsTrue (is_valid_for (peer_kind s) (unwrap_or (key_of setup (peer_kind s)) []))
+fits_each setup (psk view) sound is_there = key_is_valid psk_kind setup.psk47 sound.psk47 is_there
+fits_each setup (gpsk view) sound is_there = key_is_valid gpsk_kind setup.psk51 sound.psk51 is_there
 
-pub credential_fits : (setup : PeerSetup) (s : PeerShown) → IsSoundPeer setup → HasKeys setup → is_among setup.methods (peer_kind s) ≡ true
-    → IsTrue (fits_kind (peer_kind s) (credential_for setup (peer_kind s)).psk)
+pub credential_bounded : (setup : PeerSetup) (s : PeerShown) → IsSoundPeer setup → HasKeys setup → is_among setup.methods (peer_kind s) ≡ true
+    → IsTrue (is_valid_for (peer_kind s) (credential_for setup (peer_kind s)).psk)
 unfolding credential_for
-credential_fits setup s sound keys is_allowed =
+credential_bounded setup s sound keys is_allowed =
     let is_there = each_one (λ kind. is_some (key_of setup kind)) setup.methods (peer_kind s) keys is_allowed in fits_each setup s sound is_there

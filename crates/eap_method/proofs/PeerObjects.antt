@@ -8,9 +8,9 @@ use Rattle.eap_packet.specs.declared.cause.Cause.{Cause}
 use Rattle.eap_method.specs.declared.values.Report.{Report}
 use Rattle.eap_method.specs.PeerTurn as answer
 use Rattle.eap_method.specs.PeerTurn.{PeerTurn}
-use Rattle.eap_method.specs.Peer.{PeerShown, PeerViews, peer_kind, peer_kinds, peer_step, peer_turn, peer_report, peer_report_of, peer_views, view_of, peer_begun_in}
+use Rattle.eap_method.specs.Peer.{PeerShown, PeerViews, peer_kind, peer_kinds, peer_step, peer_turn, peer_report, peer_report_of, peer_views, view_of, peer_started_in}
 use Rattle.eap_method.specs.Turns.{PeerOutcome}
-use Rattle.eap_method.proofs.Discards.{PeerKeeps, discard-keeps}
+use Rattle.eap_method.proofs.Discards.{PeerPreserves, discard-keeps}
 use Rattle.eap_method.proofs.PeerViews.{step-kind, step-keeps, begun-kind, put, put_found, put_apart, put_again, put_both, found_kind, found_put, putting, turned, turn_at, reported, report_at, views_first}
 
 -- a step keeps the Type
@@ -99,20 +99,20 @@ report_miss allowed kind s rest report is_other rests =
 -- ---- what is kept
 
 -- a peer that begins keeps the Types
-pub begun_kinds : (setup : PeerSetup) (shown : List PeerShown) → peer_kinds (map (peer_begun_in setup) shown) ≡ peer_kinds shown
-begun_kinds setup [] = refl
-begun_kinds setup (s ∷ rest) = ap₂ (λ kind kinds. kind ∷ kinds) (begun-kind setup s) (begun_kinds setup rest)
+pub started_kinds : (setup : PeerSetup) (shown : List PeerShown) → peer_kinds (map (peer_started_in setup) shown) ≡ peer_kinds shown
+started_kinds setup [] = refl
+started_kinds setup (s ∷ rest) = ap₂ (λ kind kinds. kind ∷ kinds) (begun-kind setup s) (started_kinds setup rest)
 
 -- a discard keeps the views
 turned-keeps : (views : PeerViews) (octets : List ℕ) (found : Option PeerShown) → ((s : PeerShown) → found ≡ Some s → put s views ≡ views)
-    → PeerKeeps views (turned views octets found)
+    → PeerPreserves views (turned views octets found)
 turned-keeps views octets None stands = discard-keeps _ _
 turned-keeps views octets (Some s) stands =
     record { keeps = λ cause is_discard. ap (λ s. put s views) ((step-keeps s octets).keeps cause is_discard) ∙ stands s refl }
 
-pub peer_turn_keeps : (kind : ℕ) (views after : PeerViews) (octets : List ℕ) (cause : Cause)
+pub peer_turn_preserves : (kind : ℕ) (views after : PeerViews) (octets : List ℕ) (cause : Cause)
     → peer_turn kind views octets ≡ record { turn = answer.Discard cause; after = after } → after ≡ views
-peer_turn_keeps kind views after octets cause is_discard =
+peer_turn_preserves kind views after octets cause is_discard =
     let turned_is = sym (turn_at kind views octets) ∙ is_discard in
     sym (ap (λ (out : PeerOutcome PeerViews). out.after) turned_is)
     ∙ (turned-keeps views octets (view_of views kind) (found_put views kind)).keeps cause (ap (λ (out : PeerOutcome PeerViews). out.turn) turned_is)

@@ -9,10 +9,10 @@ use Rattle.eap_packet.specs.declared.cause.Cause.TheVariants.{WrongOp}
 use Rattle.eap_method.specs.declared.values.Report.{Report}
 use Rattle.eap_method.specs.PskPeer as psk_peer
 use Rattle.eap_method.specs.GpskPeer as gpsk_peer
-use Rattle.eap_method.specs.Peer.{PeerShown, psk, gpsk, PeerViews, peer_kind, peer_kinds, peer_step, peer_turn, peer_report, peer_report_of, peer_views, views_where, view_of, psk_view_of, gpsk_view_of, peer_begun, peer_begun_in, views_begun, credential_for, have_each}
+use Rattle.eap_method.specs.Peer.{PeerShown, psk, gpsk, PeerViews, peer_kind, peer_kinds, peer_step, peer_turn, peer_report, peer_report_of, peer_views, views_where, view_of, psk_view_of, gpsk_view_of, started_peer, peer_started_in, views_started, credential_for, have_each}
 use Rattle.eap_method.specs.Turns.{PeerOutcome, discarded}
 use Rattle.eap_method.proofs.Amongs.{each_one, same_if}
-use Rattle.eap_method.proofs.Discards.{PeerKeeps}
+use Rattle.eap_method.proofs.Discards.{PeerPreserves}
 use Rattle.eap_method.proofs.PskDiscards as psk_discards
 use Rattle.eap_method.proofs.GpskDiscards as gpsk_discards
 
@@ -23,25 +23,25 @@ unfolding peer_step
 step-kind (psk view) octets = refl
 step-kind (gpsk view) octets = refl
 
-pub step-keeps : (s : PeerShown) (octets : List ℕ) → PeerKeeps s (peer_step s octets)
+pub step-keeps : (s : PeerShown) (octets : List ℕ) → PeerPreserves s (peer_step s octets)
 unfolding peer_step
-step-keeps (psk view) octets = record { keeps = λ cause is_discard. ap psk ((psk_discards.peer_keeps view octets).keeps cause is_discard) }
-step-keeps (gpsk view) octets = record { keeps = λ cause is_discard. ap gpsk ((gpsk_discards.peer_keeps view octets).keeps cause is_discard) }
+step-keeps (psk view) octets = record { keeps = λ cause is_discard. ap psk ((psk_discards.peer_preserves view octets).keeps cause is_discard) }
+step-keeps (gpsk view) octets = record { keeps = λ cause is_discard. ap gpsk ((gpsk_discards.peer_preserves view octets).keeps cause is_discard) }
 
 -- one whose method is allowed begins, any other stays
 pub begins : (setup : PeerSetup) (s : PeerShown) → is_among setup.methods (peer_kind s) ≡ true
-    → peer_begun (credential_for setup (peer_kind s)) setup.nonce s ≡ peer_begun_in setup s
-unfolding peer_begun_in
+    → started_peer (credential_for setup (peer_kind s)) setup.nonce s ≡ peer_started_in setup s
+unfolding peer_started_in
 begins setup (psk view) is_allowed = rw is_allowed refl
 begins setup (gpsk view) is_allowed = rw is_allowed refl
 
-pub stays : (setup : PeerSetup) (s : PeerShown) → is_among setup.methods (peer_kind s) ≡ false → s ≡ peer_begun_in setup s
-unfolding peer_begun_in
+pub stays : (setup : PeerSetup) (s : PeerShown) → is_among setup.methods (peer_kind s) ≡ false → s ≡ peer_started_in setup s
+unfolding peer_started_in
 stays setup (psk view) is_other = rw is_other refl
 stays setup (gpsk view) is_other = rw is_other refl
 
-pub begun-kind : (setup : PeerSetup) (s : PeerShown) → peer_kind (peer_begun_in setup s) ≡ peer_kind s
-unfolding peer_begun_in
+pub begun-kind : (setup : PeerSetup) (s : PeerShown) → peer_kind (peer_started_in setup s) ≡ peer_kind s
+unfolding peer_started_in
 begun-kind setup (psk view) = refl
 begun-kind setup (gpsk view) = refl
 
@@ -156,26 +156,26 @@ views_first allowed (psk view) rest = elim (cases_Bool (is_among allowed psk_kin
 views_first allowed (gpsk view) rest = elim (cases_Bool (is_among allowed gpsk_kind)) [ inl is ↦ rw is refl | inr is ↦ rw is refl ]
 
 -- where there is an object of each method that is allowed, they are those of a peer that begins
-psk_begun : (setup : PeerSetup) (shown : List PeerShown) → is_among setup.methods psk_kind ≡ true → is_among (peer_kinds shown) psk_kind ≡ true
-    → psk_view_of (map (peer_begun_in setup) shown) ≡ psk_peer.fresh (credential_for setup psk_kind) setup.nonce
-unfolding peer_begun_in
-psk_begun setup [] is_allowed is_there = cc
-psk_begun setup (psk view ∷ rest) is_allowed is_there = rw is_allowed refl
-psk_begun setup (gpsk view ∷ rest) is_allowed is_there = psk_begun setup rest is_allowed is_there
+psk_started : (setup : PeerSetup) (shown : List PeerShown) → is_among setup.methods psk_kind ≡ true → is_among (peer_kinds shown) psk_kind ≡ true
+    → psk_view_of (map (peer_started_in setup) shown) ≡ psk_peer.fresh (credential_for setup psk_kind) setup.nonce
+unfolding peer_started_in
+psk_started setup [] is_allowed is_there = cc
+psk_started setup (psk view ∷ rest) is_allowed is_there = rw is_allowed refl
+psk_started setup (gpsk view ∷ rest) is_allowed is_there = psk_started setup rest is_allowed is_there
 
-gpsk_begun : (setup : PeerSetup) (shown : List PeerShown) → is_among setup.methods gpsk_kind ≡ true → is_among (peer_kinds shown) gpsk_kind ≡ true
-    → gpsk_view_of (map (peer_begun_in setup) shown) ≡ gpsk_peer.fresh (credential_for setup gpsk_kind) setup.nonce
-unfolding peer_begun_in
-gpsk_begun setup [] is_allowed is_there = cc
-gpsk_begun setup (psk view ∷ rest) is_allowed is_there = gpsk_begun setup rest is_allowed is_there
-gpsk_begun setup (gpsk view ∷ rest) is_allowed is_there = rw is_allowed refl
+gpsk_started : (setup : PeerSetup) (shown : List PeerShown) → is_among setup.methods gpsk_kind ≡ true → is_among (peer_kinds shown) gpsk_kind ≡ true
+    → gpsk_view_of (map (peer_started_in setup) shown) ≡ gpsk_peer.fresh (credential_for setup gpsk_kind) setup.nonce
+unfolding peer_started_in
+gpsk_started setup [] is_allowed is_there = cc
+gpsk_started setup (psk view ∷ rest) is_allowed is_there = gpsk_started setup rest is_allowed is_there
+gpsk_started setup (gpsk view ∷ rest) is_allowed is_there = rw is_allowed refl
 
-pub begun_views : (setup : PeerSetup) (shown : List PeerShown) → have_each (peer_kinds shown) setup.methods ≡ true
-    → peer_views setup.methods (map (peer_begun_in setup) shown) ≡ views_begun setup
-unfolding views_where views_begun
-begun_views setup shown has_each =
+pub started_views : (setup : PeerSetup) (shown : List PeerShown) → have_each (peer_kinds shown) setup.methods ≡ true
+    → peer_views setup.methods (map (peer_started_in setup) shown) ≡ views_started setup
+unfolding views_where views_started
+started_views setup shown has_each =
     both _ _ _ _
     (same_if (is_among setup.methods psk_kind) _ _ _
-    (λ is_allowed. psk_begun setup shown is_allowed (each_one (is_among (peer_kinds shown)) setup.methods psk_kind has_each is_allowed)))
+    (λ is_allowed. psk_started setup shown is_allowed (each_one (is_among (peer_kinds shown)) setup.methods psk_kind has_each is_allowed)))
     (same_if (is_among setup.methods gpsk_kind) _ _ _
-    (λ is_allowed. gpsk_begun setup shown is_allowed (each_one (is_among (peer_kinds shown)) setup.methods gpsk_kind has_each is_allowed)))
+    (λ is_allowed. gpsk_started setup shown is_allowed (each_one (is_among (peer_kinds shown)) setup.methods gpsk_kind has_each is_allowed)))

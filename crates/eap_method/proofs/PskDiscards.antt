@@ -16,85 +16,85 @@ use Rattle.eap_method.specs.PskPeer as psk_peer
 use Rattle.eap_method.specs.PskServer as psk_server
 use Rattle.eap_method.specs.PskTags.{header_of, done_success, rand_of}
 use Rattle.eap_method.specs.Turns.{id_of, body_of}
-use Rattle.eap_method.proofs.Discards.{PeerKeeps, ServerKeeps, by_test, discard-keeps, reply-keeps, drop-keeps, request-keeps, done-keeps}
+use Rattle.eap_method.proofs.Discards.{PeerPreserves, ServerPreserves, by_test, discard-keeps, reply-keeps, drop-keeps, request-keeps, done-keeps}
 
 -- the peer
-confirms_keeps : (login : psk_peer.Login) (id r : ℕ) (accepted : List TagRecord) (fault : Option Cause)
-    → PeerKeeps (psk_peer.wait login) (psk_peer.confirms login id r accepted fault)
+confirms_preserves : (login : psk_peer.Login) (id r : ℕ) (accepted : List TagRecord) (fault : Option Cause)
+    → PeerPreserves (psk_peer.wait login) (psk_peer.confirms login id r accepted fault)
 unfolding psk_peer.confirms
-confirms_keeps login id r accepted (Some cause) = discard-keeps _ _
-confirms_keeps login id r accepted None =
-    by_test (PeerKeeps (psk_peer.wait login)) (r == done_success) _ _ (reply-keeps _ _ _ _ _ _ _) (reply-keeps _ _ _ _ _ _ _)
+confirms_preserves login id r accepted (Some cause) = discard-keeps _ _
+confirms_preserves login id r accepted None =
+    by_test (PeerPreserves (psk_peer.wait login)) (r == done_success) _ _ (reply-keeps _ _ _ _ _ _ _) (reply-keeps _ _ _ _ _ _ _)
 
-answers_keeps : (view : psk_peer.View) (login : psk_peer.Login) (id : ℕ) → PeerKeeps view (psk_peer.answers login id)
+answers_preserves : (view : psk_peer.View) (login : psk_peer.Login) (id : ℕ) → PeerPreserves view (psk_peer.answers login id)
 unfolding psk_peer.answers
-answers_keeps view login id = reply-keeps _ _ _ _ _ _ _
+answers_preserves view login id = reply-keeps _ _ _ _ _ _ _
 
-fresh_keeps : (cred : Credential) (nonce : List ℕ) (id : ℕ) (read : Result psk_message.Message Cause)
-    → PeerKeeps (psk_peer.fresh cred nonce) (psk_peer.fresh_reads cred nonce id read)
-fresh_keeps cred nonce id (Err cause) = discard-keeps _ _
-fresh_keeps cred nonce id (Ok (psk_message.psk1 rand_s id_s)) =
-    by_test (PeerKeeps (psk_peer.fresh cred nonce)) (accepts_name cred.accepts id_s) _ _ (answers_keeps _ _ _) (discard-keeps _ _)
-fresh_keeps cred nonce id (Ok message) = discard-keeps _ _
+fresh_preserves : (cred : Credential) (nonce : List ℕ) (id : ℕ) (read : Result psk_message.Message Cause)
+    → PeerPreserves (psk_peer.fresh cred nonce) (psk_peer.fresh_reads cred nonce id read)
+fresh_preserves cred nonce id (Err cause) = discard-keeps _ _
+fresh_preserves cred nonce id (Ok (psk_message.psk1 rand_s id_s)) =
+    by_test (PeerPreserves (psk_peer.fresh cred nonce)) (accepts_name cred.accepts id_s) _ _ (answers_preserves _ _ _) (discard-keeps _ _)
+fresh_preserves cred nonce id (Ok message) = discard-keeps _ _
 
-wait_keeps : (login : psk_peer.Login) (id : ℕ) (header : List ℕ) (read : Result psk_message.Message Cause)
-    → PeerKeeps (psk_peer.wait login) (psk_peer.wait_reads login id header read)
-wait_keeps login id header (Err cause) = discard-keeps _ _
-wait_keeps login id header (Ok (psk_message.psk3 rand_s mac nonce tag sealed)) = confirms_keeps login id _ _ _
-wait_keeps login id header (Ok message) = discard-keeps _ _
+wait_preserves : (login : psk_peer.Login) (id : ℕ) (header : List ℕ) (read : Result psk_message.Message Cause)
+    → PeerPreserves (psk_peer.wait login) (psk_peer.wait_reads login id header read)
+wait_preserves login id header (Err cause) = discard-keeps _ _
+wait_preserves login id header (Ok (psk_message.psk3 rand_s mac nonce tag sealed)) = confirms_preserves login id _ _ _
+wait_preserves login id header (Ok message) = discard-keeps _ _
 
-over_keeps : (login : psk_peer.Login) (good : Bool) (read : Result psk_message.Message Cause)
-    → PeerKeeps (psk_peer.over login good) (psk_peer.over_reads login good read)
-over_keeps login good (Err cause) = discard-keeps _ _
-over_keeps login good (Ok message) = discard-keeps _ _
+over_preserves : (login : psk_peer.Login) (good : Bool) (read : Result psk_message.Message Cause)
+    → PeerPreserves (psk_peer.over login good) (psk_peer.over_reads login good read)
+over_preserves login good (Err cause) = discard-keeps _ _
+over_preserves login good (Ok message) = discard-keeps _ _
 
-pub peer_keeps : (view : psk_peer.View) (octets : List ℕ) → PeerKeeps view (psk_peer.step view octets)
+pub peer_preserves : (view : psk_peer.View) (octets : List ℕ) → PeerPreserves view (psk_peer.step view octets)
 unfolding psk_peer.step
-peer_keeps psk_peer.unset octets = discard-keeps _ _
-peer_keeps (psk_peer.fresh cred nonce) octets = fresh_keeps cred nonce (id_of octets) (psk_reading.read_of (body_of octets))
-peer_keeps (psk_peer.wait login) octets = wait_keeps login (id_of octets) (header_of octets) (psk_reading.read_of (body_of octets))
-peer_keeps (psk_peer.over login good) octets = over_keeps login good (psk_reading.read_of (body_of octets))
+peer_preserves psk_peer.unset octets = discard-keeps _ _
+peer_preserves (psk_peer.fresh cred nonce) octets = fresh_preserves cred nonce (id_of octets) (psk_reading.read_of (body_of octets))
+peer_preserves (psk_peer.wait login) octets = wait_preserves login (id_of octets) (header_of octets) (psk_reading.read_of (body_of octets))
+peer_preserves (psk_peer.over login good) octets = over_preserves login good (psk_reading.read_of (body_of octets))
 
 -- the server
-answers_asks : (view : psk_server.View) (login : psk_server.Login) (next_id : ℕ) (mac : List ℕ) → ServerKeeps view (psk_server.answers login next_id mac)
+answers_asks : (view : psk_server.View) (login : psk_server.Login) (next_id : ℕ) (mac : List ℕ) → ServerPreserves view (psk_server.answers login next_id mac)
 unfolding psk_server.answers
 answers_asks view login next_id mac = request-keeps _ _ _ _ _
 
-finds_keeps : (own : ServerSide) (nonce : List ℕ) (next_id : ℕ) (rand_p mac id_p : List ℕ) (found : Option User)
-    → ServerKeeps (psk_server.asked own nonce) (psk_server.finds own nonce next_id rand_p mac id_p found)
-finds_keeps own nonce next_id rand_p mac id_p None = done-keeps _ _ _ _
-finds_keeps own nonce next_id rand_p mac id_p (Some user) =
-    by_test (ServerKeeps (psk_server.asked own nonce)) (bytes_eq _ mac) _ _ (answers_asks _ _ _ _) (drop-keeps _ _)
+finds_preserves : (own : ServerSide) (nonce : List ℕ) (next_id : ℕ) (rand_p mac id_p : List ℕ) (found : Option User)
+    → ServerPreserves (psk_server.asked own nonce) (psk_server.finds own nonce next_id rand_p mac id_p found)
+finds_preserves own nonce next_id rand_p mac id_p None = done-keeps _ _ _ _
+finds_preserves own nonce next_id rand_p mac id_p (Some user) =
+    by_test (ServerPreserves (psk_server.asked own nonce)) (bytes_eq _ mac) _ _ (answers_asks _ _ _ _) (drop-keeps _ _)
 
-asked_keeps : (users : List User) (own : ServerSide) (nonce : List ℕ) (next_id : ℕ) (read : Result psk_message.Message Cause)
-    → ServerKeeps (psk_server.asked own nonce) (psk_server.asked_reads users own nonce next_id read)
-asked_keeps users own nonce next_id (Err cause) = drop-keeps _ _
-asked_keeps users own nonce next_id (Ok (psk_message.psk2 rand_s rand_p mac id_p)) =
-    by_test (ServerKeeps (psk_server.asked own nonce)) (bytes_eq rand_s (rand_of nonce)) _ _
-    (finds_keeps own nonce next_id rand_p mac id_p (user_of users id_p psk_kind)) (drop-keeps _ _)
-asked_keeps users own nonce next_id (Ok message) = drop-keeps _ _
+asked_preserves : (users : List User) (own : ServerSide) (nonce : List ℕ) (next_id : ℕ) (read : Result psk_message.Message Cause)
+    → ServerPreserves (psk_server.asked own nonce) (psk_server.asked_reads users own nonce next_id read)
+asked_preserves users own nonce next_id (Err cause) = drop-keeps _ _
+asked_preserves users own nonce next_id (Ok (psk_message.psk2 rand_s rand_p mac id_p)) =
+    by_test (ServerPreserves (psk_server.asked own nonce)) (bytes_eq rand_s (rand_of nonce)) _ _
+    (finds_preserves own nonce next_id rand_p mac id_p (user_of users id_p psk_kind)) (drop-keeps _ _)
+asked_preserves users own nonce next_id (Ok message) = drop-keeps _ _
 
-ends_keeps : (login : psk_server.Login) (r : ℕ) (accepted : List TagRecord) (fault : Option Cause)
-    → ServerKeeps (psk_server.checked login) (psk_server.ends login r accepted fault)
+ends_preserves : (login : psk_server.Login) (r : ℕ) (accepted : List TagRecord) (fault : Option Cause)
+    → ServerPreserves (psk_server.checked login) (psk_server.ends login r accepted fault)
 unfolding psk_server.ends
-ends_keeps login r accepted (Some cause) = drop-keeps _ _
-ends_keeps login r accepted None = done-keeps _ _ _ _
+ends_preserves login r accepted (Some cause) = drop-keeps _ _
+ends_preserves login r accepted None = done-keeps _ _ _ _
 
-checked_keeps : (login : psk_server.Login) (header : List ℕ) (read : Result psk_message.Message Cause)
-    → ServerKeeps (psk_server.checked login) (psk_server.checked_reads login header read)
-checked_keeps login header (Err cause) = drop-keeps _ _
-checked_keeps login header (Ok (psk_message.psk4 rand_s nonce tag sealed)) = ends_keeps login _ _ _
-checked_keeps login header (Ok message) = drop-keeps _ _
+checked_preserves : (login : psk_server.Login) (header : List ℕ) (read : Result psk_message.Message Cause)
+    → ServerPreserves (psk_server.checked login) (psk_server.checked_reads login header read)
+checked_preserves login header (Err cause) = drop-keeps _ _
+checked_preserves login header (Ok (psk_message.psk4 rand_s nonce tag sealed)) = ends_preserves login _ _ _
+checked_preserves login header (Ok message) = drop-keeps _ _
 
-idle_keeps : (view : psk_server.View) (read : Result psk_message.Message Cause) → ServerKeeps view (psk_server.idle_reads view read)
-idle_keeps view (Err cause) = drop-keeps _ _
-idle_keeps view (Ok message) = drop-keeps _ _
+idle_preserves : (view : psk_server.View) (read : Result psk_message.Message Cause) → ServerPreserves view (psk_server.idle_reads view read)
+idle_preserves view (Err cause) = drop-keeps _ _
+idle_preserves view (Ok message) = drop-keeps _ _
 
-pub server_keeps : (users : List User) (next_id : ℕ) (view : psk_server.View) (octets : List ℕ) → ServerKeeps view (psk_server.step users next_id view octets)
+pub server_preserves : (users : List User) (next_id : ℕ) (view : psk_server.View) (octets : List ℕ) → ServerPreserves view (psk_server.step users next_id view octets)
 unfolding psk_server.step
-server_keeps users next_id psk_server.unset octets = drop-keeps _ _
-server_keeps users next_id (psk_server.begun own nonce) octets = idle_keeps _ (psk_reading.read_of (body_of octets))
-server_keeps users next_id (psk_server.asked own nonce) octets = asked_keeps users own nonce next_id (psk_reading.read_of (body_of octets))
-server_keeps users next_id (psk_server.checked login) octets = checked_keeps login (header_of octets) (psk_reading.read_of (body_of octets))
-server_keeps users next_id (psk_server.refused own nonce) octets = idle_keeps _ (psk_reading.read_of (body_of octets))
-server_keeps users next_id (psk_server.over login good) octets = idle_keeps _ (psk_reading.read_of (body_of octets))
+server_preserves users next_id psk_server.unset octets = drop-keeps _ _
+server_preserves users next_id (psk_server.begun own nonce) octets = idle_preserves _ (psk_reading.read_of (body_of octets))
+server_preserves users next_id (psk_server.asked own nonce) octets = asked_preserves users own nonce next_id (psk_reading.read_of (body_of octets))
+server_preserves users next_id (psk_server.checked login) octets = checked_preserves login (header_of octets) (psk_reading.read_of (body_of octets))
+server_preserves users next_id (psk_server.refused own nonce) octets = idle_preserves _ (psk_reading.read_of (body_of octets))
+server_preserves users next_id (psk_server.over login good) octets = idle_preserves _ (psk_reading.read_of (body_of octets))

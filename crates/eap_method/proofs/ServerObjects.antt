@@ -11,21 +11,21 @@ use Rattle.eap_method.specs.declared.values.Report.{Report}
 use Rattle.eap_method.specs.declared.values.ServerSide.{ServerSide}
 use Rattle.eap_method.specs.ServerTurn as answer
 use Rattle.eap_method.specs.ServerTurn.{ServerTurn}
-use Rattle.eap_method.specs.Server.{ServerShown, ServerViews, Offer, server_kind, server_kinds, server_begun, server_begun_in, server_first_step, server_offer, server_step, server_turn, server_report, server_report_of, server_views, view_of}
+use Rattle.eap_method.specs.Server.{ServerShown, ServerViews, Offer, server_kind, server_kinds, started_server, server_started_in, server_first_step, server_offer, server_step, server_turn, server_report, server_report_of, server_views, view_of}
 use Rattle.eap_method.specs.Turns.{FirstOutcome, ServerOutcome, dropped}
-use Rattle.eap_method.proofs.Discards.{ServerKeeps, drop-keeps}
+use Rattle.eap_method.proofs.Discards.{ServerPreserves, drop-keeps}
 use Rattle.eap_method.proofs.ServerViews.{step-kind, step-keeps, begun-kind, begun-kind-in, first-kind, put, put_found, put_apart, put_again, put_both, found_kind, found_put, offering, offered, offer_at, putting, turned, turn_at, reported, report_at, view_none, views_first}
 
 -- beginning, a first Request and a step keep the Type
-pub begun_kinds : (setup : ServerSetup) (shown : List ServerShown) → server_kinds (map (server_begun_in setup) shown) ≡ server_kinds shown
-begun_kinds setup [] = refl
-begun_kinds setup (s ∷ rest) = ap₂ (λ kind kinds. kind ∷ kinds) (begun-kind-in setup s) (begun_kinds setup rest)
+pub started_kinds : (setup : ServerSetup) (shown : List ServerShown) → server_kinds (map (server_started_in setup) shown) ≡ server_kinds shown
+started_kinds setup [] = refl
+started_kinds setup (s ∷ rest) = ap₂ (λ kind kinds. kind ∷ kinds) (begun-kind-in setup s) (started_kinds setup rest)
 
-offered-kind : (own : ServerSide) (nonce : List ℕ) (id : ℕ) (s : ServerShown) → server_kind (server_first_step (server_begun own nonce s) id).after ≡ server_kind s
-offered-kind own nonce id s = first-kind (server_begun own nonce s) id ∙ begun-kind own nonce s
+offered-kind : (own : ServerSide) (nonce : List ℕ) (id : ℕ) (s : ServerShown) → server_kind (server_first_step (started_server own nonce s) id).after ≡ server_kind s
+offered-kind own nonce id s = first-kind (started_server own nonce s) id ∙ begun-kind own nonce s
 
 pub offer_kind : (own : ServerSide) (nonce : List ℕ) (id : ℕ) (s begun after : ServerShown) (packet : List ℕ)
-    → begun ≡ server_begun own nonce s → server_first_step begun id ≡ record { packet = packet; after = after } → server_kind after ≡ server_kind s
+    → begun ≡ started_server own nonce s → server_first_step begun id ≡ record { packet = packet; after = after } → server_kind after ≡ server_kind s
 offer_kind own nonce id s begun after packet begins makes =
     ap (λ (out : FirstOutcome ServerShown). server_kind out.after) (sym makes) ∙ (first-kind begun id ∙ (ap server_kind begins ∙ begun-kind own nonce s))
 
@@ -57,7 +57,7 @@ abbrev offers : Option (List ℕ) → ServerViews → Offer
 offers packet after = record { packet = packet; after = after }
 
 pub offer_hit : (own : ServerSide) (nonce : List ℕ) (id : ℕ) (order : List ℕ) (kind : ℕ) (s begun after : ServerShown) (rest : List ServerShown) (packet : List ℕ)
-    → begun ≡ server_begun own nonce s → server_first_step begun id ≡ record { packet = packet; after = after }
+    → begun ≡ started_server own nonce s → server_first_step begun id ≡ record { packet = packet; after = after }
     → server_kind s ≡ kind → is_among order kind ≡ true
     → server_offer own nonce kind id (server_views order (s ∷ rest)) ≡ record { packet = Some packet; after = server_views order (after ∷ rest) }
 offer_hit own nonce id order kind s begun after rest packet begins makes is_kind is_proposed =
@@ -102,15 +102,15 @@ put-apart : (kind : ℕ) (s : ServerShown) (views : ServerViews) → server_kind
 put-apart kind s views is_other t is after same = put_both s after views (λ e. is_other (e ∙ (same ∙ found_kind views kind t is)))
 
 -- so is the offer
-abbrev keeping_offer : ServerShown → Offer → Offer
-keeping_offer s out = offers out.packet (put s out.after)
+abbrev preserving_offer : ServerShown → Offer → Offer
+preserving_offer s out = offers out.packet (put s out.after)
 
 offered-apart : (own : ServerSide) (nonce : List ℕ) (id : ℕ) (s : ServerShown) (views : ServerViews) (found : Option ServerShown)
     → ((t : ServerShown) → found ≡ Some t → (after : ServerShown) → server_kind after ≡ server_kind t → put after (put s views) ≡ put s (put after views))
-    → offered own nonce id (put s views) found ≡ keeping_offer s (offered own nonce id views found)
+    → offered own nonce id (put s views) found ≡ preserving_offer s (offered own nonce id views found)
 offered-apart own nonce id s views None apart = refl
 offered-apart own nonce id s views (Some t) apart =
-    let out = server_first_step (server_begun own nonce t) id in ap (offers (Some out.packet)) (apart t refl out.after (offered-kind own nonce id t))
+    let out = server_first_step (started_server own nonce t) id in ap (offers (Some out.packet)) (apart t refl out.after (offered-kind own nonce id t))
 
 offer-apart : (own : ServerSide) (nonce : List ℕ) (id : ℕ) (test : Bool) (kind : ℕ) (s : ServerShown) (views after : ServerViews) (packet : Option (List ℕ))
     → server_kind s ≢ kind → server_offer own nonce kind id views ≡ offers packet after
@@ -120,7 +120,7 @@ offer-apart own nonce id true kind s views after packet is_other rests =
     offer_at own nonce kind id (put s views)
     ∙ (ap (offered own nonce id (put s views)) (put_apart s views kind is_other)
     ∙ (offered-apart own nonce id s views (view_of views kind) (put-apart kind s views is_other)
-    ∙ ap (keeping_offer s) (sym (offer_at own nonce kind id views) ∙ rests)))
+    ∙ ap (preserving_offer s) (sym (offer_at own nonce kind id views) ∙ rests)))
 
 pub offer_miss : (own : ServerSide) (nonce : List ℕ) (id : ℕ) (order : List ℕ) (kind : ℕ) (s : ServerShown) (rest after : List ServerShown) (packet : Option (List ℕ))
     → server_kind s ≢ kind
@@ -131,12 +131,12 @@ offer_miss own nonce id order kind s rest after packet is_other rests =
     (offer-apart own nonce id (is_among order (server_kind s)) kind s (server_views order rest) (server_views order after) packet is_other rests)
 
 -- so is the turn
-abbrev keeping_turn : ServerShown → ServerOutcome ServerViews → ServerOutcome ServerViews
-keeping_turn s out = turning out.turn (put s out.after)
+abbrev preserving_turn : ServerShown → ServerOutcome ServerViews → ServerOutcome ServerViews
+preserving_turn s out = turning out.turn (put s out.after)
 
 turned-apart : (users : List User) (next_id : ℕ) (s : ServerShown) (views : ServerViews) (octets : List ℕ) (found : Option ServerShown)
     → ((t : ServerShown) → found ≡ Some t → (after : ServerShown) → server_kind after ≡ server_kind t → put after (put s views) ≡ put s (put after views))
-    → turned users next_id (put s views) octets found ≡ keeping_turn s (turned users next_id views octets found)
+    → turned users next_id (put s views) octets found ≡ preserving_turn s (turned users next_id views octets found)
 turned-apart users next_id s views octets None apart = refl
 turned-apart users next_id s views octets (Some t) apart =
     let out = server_step users next_id t octets in ap (turning out.turn) (apart t refl out.after (step-kind users next_id t octets))
@@ -149,7 +149,7 @@ turn-apart users next_id true kind s views after octets turn is_other rests =
     turn_at users next_id kind (put s views) octets
     ∙ (ap (turned users next_id (put s views) octets) (put_apart s views kind is_other)
     ∙ (turned-apart users next_id s views octets (view_of views kind) (put-apart kind s views is_other)
-    ∙ ap (keeping_turn s) (sym (turn_at users next_id kind views octets) ∙ rests)))
+    ∙ ap (preserving_turn s) (sym (turn_at users next_id kind views octets) ∙ rests)))
 
 pub turn_miss : (users : List User) (next_id : ℕ) (order octets : List ℕ) (kind : ℕ) (s : ServerShown) (rest after : List ServerShown) (turn : ServerTurn)
     → server_kind s ≢ kind
@@ -186,14 +186,14 @@ report_none order kind = sym (report_at kind (server_views order []) ∙ ap repo
 -- ---- a discard keeps the views
 
 turned-keeps : (users : List User) (next_id : ℕ) (views : ServerViews) (octets : List ℕ) (found : Option ServerShown)
-    → ((s : ServerShown) → found ≡ Some s → put s views ≡ views) → ServerKeeps views (turned users next_id views octets found)
+    → ((s : ServerShown) → found ≡ Some s → put s views ≡ views) → ServerPreserves views (turned users next_id views octets found)
 turned-keeps users next_id views octets None stands = drop-keeps _ _
 turned-keeps users next_id views octets (Some s) stands =
     record { keeps = λ cause is_discard. ap (λ s. put s views) ((step-keeps users next_id s octets).keeps cause is_discard) ∙ stands s refl }
 
-pub server_turn_keeps : (users : List User) (next_id kind : ℕ) (views after : ServerViews) (octets : List ℕ) (cause : Cause)
+pub server_turn_preserves : (users : List User) (next_id kind : ℕ) (views after : ServerViews) (octets : List ℕ) (cause : Cause)
     → server_turn users next_id kind views octets ≡ record { turn = answer.Discard cause; after = after } → after ≡ views
-server_turn_keeps users next_id kind views after octets cause is_discard =
+server_turn_preserves users next_id kind views after octets cause is_discard =
     let turned_is = sym (turn_at users next_id kind views octets) ∙ is_discard in
     sym (ap (λ (out : ServerOutcome ServerViews). out.after) turned_is)
     ∙ (turned-keeps users next_id views octets (view_of views kind) (found_put views kind)).keeps cause

@@ -12,10 +12,10 @@ use Rattle.eap_method.specs.declared.values.ServerSide.{ServerSide}
 use Rattle.eap_method.specs.Peer.{have_each}
 use Rattle.eap_method.specs.PskServer as psk_server
 use Rattle.eap_method.specs.GpskServer as gpsk_server
-use Rattle.eap_method.specs.Server.{ServerShown, psk, gpsk, ServerViews, Offer, server_kind, server_kinds, server_begun, server_begun_in, server_first_step, server_offer, server_step, server_turn, server_report, server_report_of, server_views, views_where, view_of, psk_view_of, gpsk_view_of, views_begun, side_of}
+use Rattle.eap_method.specs.Server.{ServerShown, psk, gpsk, ServerViews, Offer, server_kind, server_kinds, started_server, server_started_in, server_first_step, server_offer, server_step, server_turn, server_report, server_report_of, server_views, views_where, view_of, psk_view_of, gpsk_view_of, views_started, side_of}
 use Rattle.eap_method.specs.Turns.{FirstOutcome, ServerOutcome, dropped}
 use Rattle.eap_method.proofs.Amongs.{each_one, same_if}
-use Rattle.eap_method.proofs.Discards.{ServerKeeps}
+use Rattle.eap_method.proofs.Discards.{ServerPreserves}
 use Rattle.eap_method.proofs.PskDiscards as psk_discards
 use Rattle.eap_method.proofs.GpskDiscards as gpsk_discards
 
@@ -30,14 +30,14 @@ unfolding server_step
 step-kind users next_id (psk view) octets = refl
 step-kind users next_id (gpsk view) octets = refl
 
-pub step-keeps : (users : List User) (next_id : ℕ) (s : ServerShown) (octets : List ℕ) → ServerKeeps s (server_step users next_id s octets)
+pub step-keeps : (users : List User) (next_id : ℕ) (s : ServerShown) (octets : List ℕ) → ServerPreserves s (server_step users next_id s octets)
 unfolding server_step
 step-keeps users next_id (psk view) octets =
-    record { keeps = λ cause is_discard. ap psk ((psk_discards.server_keeps users next_id view octets).keeps cause is_discard) }
+    record { keeps = λ cause is_discard. ap psk ((psk_discards.server_preserves users next_id view octets).keeps cause is_discard) }
 step-keeps users next_id (gpsk view) octets =
-    record { keeps = λ cause is_discard. ap gpsk ((gpsk_discards.server_keeps users next_id view octets).keeps cause is_discard) }
+    record { keeps = λ cause is_discard. ap gpsk ((gpsk_discards.server_preserves users next_id view octets).keeps cause is_discard) }
 
-pub begun-kind : (own : ServerSide) (nonce : List ℕ) (s : ServerShown) → server_kind (server_begun own nonce s) ≡ server_kind s
+pub begun-kind : (own : ServerSide) (nonce : List ℕ) (s : ServerShown) → server_kind (started_server own nonce s) ≡ server_kind s
 begun-kind own nonce (psk view) = refl
 begun-kind own nonce (gpsk view) = refl
 
@@ -48,18 +48,18 @@ first-kind (gpsk view) id = refl
 
 -- one whose method is proposed begins, any other stays
 pub begins : (setup : ServerSetup) (s : ServerShown) → is_among setup.methods (server_kind s) ≡ true
-    → server_begun (side_of setup) setup.nonce s ≡ server_begun_in setup s
-unfolding server_begun_in
+    → started_server (side_of setup) setup.nonce s ≡ server_started_in setup s
+unfolding server_started_in
 begins setup (psk view) is_proposed = rw is_proposed refl
 begins setup (gpsk view) is_proposed = rw is_proposed refl
 
-pub stays : (setup : ServerSetup) (s : ServerShown) → is_among setup.methods (server_kind s) ≡ false → s ≡ server_begun_in setup s
-unfolding server_begun_in
+pub stays : (setup : ServerSetup) (s : ServerShown) → is_among setup.methods (server_kind s) ≡ false → s ≡ server_started_in setup s
+unfolding server_started_in
 stays setup (psk view) is_other = rw is_other refl
 stays setup (gpsk view) is_other = rw is_other refl
 
-pub begun-kind-in : (setup : ServerSetup) (s : ServerShown) → server_kind (server_begun_in setup s) ≡ server_kind s
-unfolding server_begun_in
+pub begun-kind-in : (setup : ServerSetup) (s : ServerShown) → server_kind (server_started_in setup s) ≡ server_kind s
+unfolding server_started_in
 begun-kind-in setup (psk view) = refl
 begun-kind-in setup (gpsk view) = refl
 
@@ -135,7 +135,7 @@ offering views out = record { packet = Some out.packet; after = put out.after vi
 -- its offer
 abbrev pub offered : ServerSide → List ℕ → ℕ → ServerViews → Option ServerShown → Offer
 offered own nonce id views None = record { packet = None; after = views }
-offered own nonce id views (Some s) = offering views (server_first_step (server_begun own nonce s) id)
+offered own nonce id views (Some s) = offering views (server_first_step (started_server own nonce s) id)
 
 pub offer_at : (own : ServerSide) (nonce : List ℕ) (kind id : ℕ) (views : ServerViews) → server_offer own nonce kind id views ≡ offered own nonce id views (view_of views kind)
 unfolding server_offer server_first_step psk_server.first_step gpsk_server.first_step
@@ -200,26 +200,26 @@ views_first order (psk view) rest = elim (cases_Bool (is_among order psk_kind)) 
 views_first order (gpsk view) rest = elim (cases_Bool (is_among order gpsk_kind)) [ inl is ↦ rw is refl | inr is ↦ rw is refl ]
 
 -- where there is an object of each method that is proposed, they are those of a server that begins
-psk_begun : (setup : ServerSetup) (shown : List ServerShown) → is_among setup.methods psk_kind ≡ true → is_among (server_kinds shown) psk_kind ≡ true
-    → psk_view_of (map (server_begun_in setup) shown) ≡ Some (psk_server.begun (side_of setup) setup.nonce)
-unfolding server_begun_in
-psk_begun setup [] is_proposed is_there = cc
-psk_begun setup (psk view ∷ rest) is_proposed is_there = rw is_proposed refl
-psk_begun setup (gpsk view ∷ rest) is_proposed is_there = psk_begun setup rest is_proposed is_there
+psk_started : (setup : ServerSetup) (shown : List ServerShown) → is_among setup.methods psk_kind ≡ true → is_among (server_kinds shown) psk_kind ≡ true
+    → psk_view_of (map (server_started_in setup) shown) ≡ Some (psk_server.begun (side_of setup) setup.nonce)
+unfolding server_started_in
+psk_started setup [] is_proposed is_there = cc
+psk_started setup (psk view ∷ rest) is_proposed is_there = rw is_proposed refl
+psk_started setup (gpsk view ∷ rest) is_proposed is_there = psk_started setup rest is_proposed is_there
 
-gpsk_begun : (setup : ServerSetup) (shown : List ServerShown) → is_among setup.methods gpsk_kind ≡ true → is_among (server_kinds shown) gpsk_kind ≡ true
-    → gpsk_view_of (map (server_begun_in setup) shown) ≡ Some (gpsk_server.begun (side_of setup) setup.nonce)
-unfolding server_begun_in
-gpsk_begun setup [] is_proposed is_there = cc
-gpsk_begun setup (psk view ∷ rest) is_proposed is_there = gpsk_begun setup rest is_proposed is_there
-gpsk_begun setup (gpsk view ∷ rest) is_proposed is_there = rw is_proposed refl
+gpsk_started : (setup : ServerSetup) (shown : List ServerShown) → is_among setup.methods gpsk_kind ≡ true → is_among (server_kinds shown) gpsk_kind ≡ true
+    → gpsk_view_of (map (server_started_in setup) shown) ≡ Some (gpsk_server.begun (side_of setup) setup.nonce)
+unfolding server_started_in
+gpsk_started setup [] is_proposed is_there = cc
+gpsk_started setup (psk view ∷ rest) is_proposed is_there = gpsk_started setup rest is_proposed is_there
+gpsk_started setup (gpsk view ∷ rest) is_proposed is_there = rw is_proposed refl
 
-pub begun_views : (setup : ServerSetup) (shown : List ServerShown) → have_each (server_kinds shown) setup.methods ≡ true
-    → server_views setup.methods (map (server_begun_in setup) shown) ≡ views_begun setup
-unfolding views_where views_begun
-begun_views setup shown has_each =
+pub started_views : (setup : ServerSetup) (shown : List ServerShown) → have_each (server_kinds shown) setup.methods ≡ true
+    → server_views setup.methods (map (server_started_in setup) shown) ≡ views_started setup
+unfolding views_where views_started
+started_views setup shown has_each =
     both _ _ _ _
     (same_if (is_among setup.methods psk_kind) _ _ _
-    (λ is_proposed. psk_begun setup shown is_proposed (each_one (is_among (server_kinds shown)) setup.methods psk_kind has_each is_proposed)))
+    (λ is_proposed. psk_started setup shown is_proposed (each_one (is_among (server_kinds shown)) setup.methods psk_kind has_each is_proposed)))
     (same_if (is_among setup.methods gpsk_kind) _ _ _
-    (λ is_proposed. gpsk_begun setup shown is_proposed (each_one (is_among (server_kinds shown)) setup.methods gpsk_kind has_each is_proposed)))
+    (λ is_proposed. gpsk_started setup shown is_proposed (each_one (is_among (server_kinds shown)) setup.methods gpsk_kind has_each is_proposed)))

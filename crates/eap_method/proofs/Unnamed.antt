@@ -5,8 +5,8 @@ use Rattle.std.specs.List.{filter}
 use Rattle.login_setup.specs.declared.setup.PeerSetup.{PeerSetup}
 use Rattle.login_setup.specs.declared.setup.ServerSetup.{ServerSetup}
 use Rattle.octet_lists.specs.Among.{is_among}
-use Rattle.eap_method.specs.Peer.{PeerShown, peer_kind, peer_begun_in}
-use Rattle.eap_method.specs.Server.{ServerShown, server_kind, server_begun_in}
+use Rattle.eap_method.specs.Peer.{PeerShown, peer_kind, peer_started_in}
+use Rattle.eap_method.specs.Server.{ServerShown, server_kind, server_started_in}
 use Rattle.eap_method.specs.Unnamed.{peers_unnamed, servers_unnamed}
 use Rattle.eap_method.proofs.PeerViews as peer
 use Rattle.eap_method.proofs.ServerViews as server
@@ -41,24 +41,24 @@ server_miss named s rest after same =
     let test : ServerShown → Bool = λ s. not (is_among named (server_kind s)) in one-more (test s) s (filter test after) (filter test rest) same
 
 -- each object of a method that is named begins
-pub peers_begun : (setup : PeerSetup) (shown : List PeerShown)
-    → peers_unnamed setup.methods (map (peer_begun_in setup) shown) ≡ peers_unnamed setup.methods shown
-peers_begun setup [] = refl
-peers_begun setup (s ∷ rest) =
-    let after = map (peer_begun_in setup) rest in
+pub peers_started : (setup : PeerSetup) (shown : List PeerShown)
+    → peers_unnamed setup.methods (map (peer_started_in setup) shown) ≡ peers_unnamed setup.methods shown
+peers_started setup [] = refl
+peers_started setup (s ∷ rest) =
+    let after = map (peer_started_in setup) rest in
     elim (cases_Bool (is_among setup.methods (peer_kind s))) [
-      | inl is ↦ peer_hit setup.methods (peer_kind s) s (peer_begun_in setup s) after (peer.begun-kind setup s) refl is
+      | inl is ↦ peer_hit setup.methods (peer_kind s) s (peer_started_in setup s) after (peer.begun-kind setup s) refl is
       | inr is ↦ ap (λ s. peers_unnamed setup.methods (s ∷ after)) (sym (peer.stays setup s is))
     ]
-    ∙ peer_miss setup.methods s rest after (peers_begun setup rest)
+    ∙ peer_miss setup.methods s rest after (peers_started setup rest)
 
-pub servers_begun : (setup : ServerSetup) (shown : List ServerShown)
-    → servers_unnamed setup.methods (map (server_begun_in setup) shown) ≡ servers_unnamed setup.methods shown
-servers_begun setup [] = refl
-servers_begun setup (s ∷ rest) =
-    let after = map (server_begun_in setup) rest in
+pub servers_started : (setup : ServerSetup) (shown : List ServerShown)
+    → servers_unnamed setup.methods (map (server_started_in setup) shown) ≡ servers_unnamed setup.methods shown
+servers_started setup [] = refl
+servers_started setup (s ∷ rest) =
+    let after = map (server_started_in setup) rest in
     elim (cases_Bool (is_among setup.methods (server_kind s))) [
-      | inl is ↦ server_hit setup.methods (server_kind s) s (server_begun_in setup s) after (server.begun-kind-in setup s) refl is
+      | inl is ↦ server_hit setup.methods (server_kind s) s (server_started_in setup s) after (server.begun-kind-in setup s) refl is
       | inr is ↦ ap (λ s. servers_unnamed setup.methods (s ∷ after)) (sym (server.stays setup s is))
     ]
-    ∙ server_miss setup.methods s rest after (servers_begun setup rest)
+    ∙ server_miss setup.methods s rest after (servers_started setup rest)

@@ -55,20 +55,20 @@ picks cred nonce id id_s rand_s list None = discarded (fresh cred nonce) NoSuite
 picks cred nonce id id_s rand_s list (Some suite) =
     answers (record { cred = cred; nonce = nonce; id_s = id_s; rand_s = rand_s; suite = suite }) id list
 
-abbrev pub hears_gpsk1 : Credential → List ℕ → ℕ → List ℕ → List ℕ → List ℕ → PeerOutcome View
-hears_gpsk1 cred nonce id id_s rand_s list =
+abbrev pub receives_gpsk1 : Credential → List ℕ → ℕ → List ℕ → List ℕ → List ℕ → PeerOutcome View
+receives_gpsk1 cred nonce id id_s rand_s list =
     if accepts_name cred.accepts id_s
     then picks cred nonce id id_s rand_s list (picked_suite cred.suites list)
     else discarded (fresh cred nonce) UnknownServer
 
 -- a peer that has begun
-abbrev pub fresh_hears : Credential → List ℕ → ℕ → Message → PeerOutcome View
-fresh_hears cred nonce id (gpsk1 id_s rand_s list) = hears_gpsk1 cred nonce id id_s rand_s list
-fresh_hears cred nonce id message = discarded (fresh cred nonce) WrongOp
+abbrev pub fresh_receives : Credential → List ℕ → ℕ → Message → PeerOutcome View
+fresh_receives cred nonce id (gpsk1 id_s rand_s list) = receives_gpsk1 cred nonce id id_s rand_s list
+fresh_receives cred nonce id message = discarded (fresh cred nonce) WrongOp
 
 abbrev pub fresh_reads : Credential → List ℕ → ℕ → Result Message Cause → PeerOutcome View
 fresh_reads cred nonce id (Err cause) = discarded (fresh cred nonce) cause
-fresh_reads cred nonce id (Ok message) = fresh_hears cred nonce id message
+fresh_reads cred nonce id (Ok message) = fresh_receives cred nonce id message
 
 -- whether GPSK-3 repeats the fields of the login
 abbrev pub repeats : Login → List ℕ → List ℕ → List ℕ → Suite → Bool
@@ -106,20 +106,20 @@ abbrev pub is_tagged_by : Login → Message → Bool
 is_tagged_by login message = is_tagged login.suite (keys_of login).sk message
 
 -- a peer that has sent GPSK-2
-abbrev pub wait_hears : Login → ℕ → Message → PeerOutcome View
-wait_hears login id (gpsk3 rand_p rand_s id_s suite pd mac) =
+abbrev pub wait_receives : Login → ℕ → Message → PeerOutcome View
+wait_receives login id (gpsk3 rand_p rand_s id_s suite pd mac) =
     let message = gpsk3 rand_p rand_s id_s suite pd mac in
     confirms login id message
     (fault_if (not (repeats login rand_p rand_s id_s suite)) FieldMismatch (fault_if (not (is_tagged_by login message)) BadTag None))
-wait_hears login id (fail code) = repeats_fail login id code
-wait_hears login id (protected_fail code mac) =
+wait_receives login id (fail code) = repeats_fail login id code
+wait_receives login id (protected_fail code mac) =
     let message = protected_fail code mac in
     repeats_protected login id code message (fault_if (not (is_tagged_by login message)) BadTag None)
-wait_hears login id message = discarded (wait login) WrongOp
+wait_receives login id message = discarded (wait login) WrongOp
 
 abbrev pub wait_reads : Login → ℕ → Result Message Cause → PeerOutcome View
 wait_reads login id (Err cause) = discarded (wait login) cause
-wait_reads login id (Ok message) = wait_hears login id message
+wait_reads login id (Ok message) = wait_receives login id message
 
 -- a peer whose login is over accepts nothing
 abbrev pub over_reads : Login → Bool → Result Message Cause → PeerOutcome View

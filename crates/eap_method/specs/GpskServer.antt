@@ -55,9 +55,9 @@ unfoldable pub first : ServerSide → List ℕ → ℕ → List ℕ
 first own nonce id = gpsk_request id (gpsk1_of own nonce)
 
 -- whether a server has begun and made no Request yet
-abbrev pub is_begun : View → Bool
-is_begun (begun own nonce) = true
-is_begun view = false
+abbrev pub is_initiated : View → Bool
+is_initiated (begun own nonce) = true
+is_initiated view = false
 
 -- the first Request and the view after it; none if the server hasn't begun or has made one
 unfoldable pub first_step : View → ℕ → FirstOutcome View
@@ -105,32 +105,32 @@ abbrev pub repeats : ServerSide → List ℕ → List ℕ → List ℕ → List 
 repeats own nonce id_s rand_s list =
     bytes_eq id_s own.id_s && (bytes_eq rand_s nonce && bytes_eq list (suite_list own.suites))
 
-abbrev pub hears_gpsk2 : List User → ServerSide → List ℕ → ℕ → List ℕ → List ℕ → Suite → Message → Option Cause → ServerOutcome View
-hears_gpsk2 users own nonce next_id id_p rand_p suite message (Some cause) = dropped (asked own nonce) cause
-hears_gpsk2 users own nonce next_id id_p rand_p suite message None =
+abbrev pub receives_gpsk2 : List User → ServerSide → List ℕ → ℕ → List ℕ → List ℕ → Suite → Message → Option Cause → ServerOutcome View
+receives_gpsk2 users own nonce next_id id_p rand_p suite message (Some cause) = dropped (asked own nonce) cause
+receives_gpsk2 users own nonce next_id id_p rand_p suite message None =
     finds own nonce next_id id_p rand_p suite message (user_of users id_p gpsk_kind)
 
 -- a server that has sent GPSK-1
-abbrev pub asked_hears : List User → ServerSide → List ℕ → ℕ → Message → ServerOutcome View
-asked_hears users own nonce next_id (gpsk2 id_p id_s rand_p rand_s list suite pd mac) =
-    hears_gpsk2 users own nonce next_id id_p rand_p suite (gpsk2 id_p id_s rand_p rand_s list suite pd mac)
+abbrev pub asked_receives : List User → ServerSide → List ℕ → ℕ → Message → ServerOutcome View
+asked_receives users own nonce next_id (gpsk2 id_p id_s rand_p rand_s list suite pd mac) =
+    receives_gpsk2 users own nonce next_id id_p rand_p suite (gpsk2 id_p id_s rand_p rand_s list suite pd mac)
     (fault_if (not (repeats own nonce id_s rand_s list)) FieldMismatch
     (fault_if (not (is_among own.suites (suite_number suite))) SuiteNotOffered None))
-asked_hears users own nonce next_id message = dropped (asked own nonce) WrongOp
+asked_receives users own nonce next_id message = dropped (asked own nonce) WrongOp
 
 abbrev pub asked_reads : List User → ServerSide → List ℕ → ℕ → Result Message Cause → ServerOutcome View
 asked_reads users own nonce next_id (Err cause) = dropped (asked own nonce) cause
-asked_reads users own nonce next_id (Ok message) = asked_hears users own nonce next_id message
+asked_reads users own nonce next_id (Ok message) = asked_receives users own nonce next_id message
 
 -- a server that has sent GPSK-Fail
-abbrev pub refusing_hears : ServerSide → List ℕ → Message → ServerOutcome View
-refusing_hears own nonce (fail code) =
+abbrev pub refusing_receives : ServerSide → List ℕ → Message → ServerOutcome View
+refusing_receives own nonce (fail code) =
     if code == psk_not_found then done (refused own nonce) false [] else dropped (refusing own nonce) FieldMismatch
-refusing_hears own nonce message = dropped (refusing own nonce) WrongOp
+refusing_receives own nonce message = dropped (refusing own nonce) WrongOp
 
 abbrev pub refusing_reads : ServerSide → List ℕ → Result Message Cause → ServerOutcome View
 refusing_reads own nonce (Err cause) = dropped (refusing own nonce) cause
-refusing_reads own nonce (Ok message) = refusing_hears own nonce message
+refusing_reads own nonce (Ok message) = refusing_receives own nonce message
 
 -- the end of a login whose last message has no fault
 unfoldable pub ends : View → Login → Bool → Message → Option Cause → ServerOutcome View
@@ -138,27 +138,27 @@ ends view login success message (Some cause) = dropped view cause
 ends view login success message None = done (over login success) success (sk_record login.psk message ∷ [])
 
 -- a server that has sent GPSK-Protected-Fail
-abbrev pub barring_hears : Login → Message → ServerOutcome View
-barring_hears login (protected_fail code mac) =
+abbrev pub barring_receives : Login → Message → ServerOutcome View
+barring_receives login (protected_fail code mac) =
     let message = protected_fail code mac in
     ends (barring login) login false message
     (fault_if (not (code == authorization_failure)) FieldMismatch (fault_if (not (is_tagged_by login message)) BadTag None))
-barring_hears login message = dropped (barring login) WrongOp
+barring_receives login message = dropped (barring login) WrongOp
 
 abbrev pub barring_reads : Login → Result Message Cause → ServerOutcome View
 barring_reads login (Err cause) = dropped (barring login) cause
-barring_reads login (Ok message) = barring_hears login message
+barring_reads login (Ok message) = barring_receives login message
 
 -- a server that has sent GPSK-3
-abbrev pub checked_hears : Login → Message → ServerOutcome View
-checked_hears login (gpsk4 pd mac) =
+abbrev pub checked_receives : Login → Message → ServerOutcome View
+checked_receives login (gpsk4 pd mac) =
     let message = gpsk4 pd mac in
     ends (checked login) login true message (fault_if (not (is_tagged_by login message)) BadTag None)
-checked_hears login message = dropped (checked login) WrongOp
+checked_receives login message = dropped (checked login) WrongOp
 
 abbrev pub checked_reads : Login → Result Message Cause → ServerOutcome View
 checked_reads login (Err cause) = dropped (checked login) cause
-checked_reads login (Ok message) = checked_hears login message
+checked_reads login (Ok message) = checked_receives login message
 
 -- a server that awaits nothing
 abbrev pub idle_reads : View → Result Message Cause → ServerOutcome View

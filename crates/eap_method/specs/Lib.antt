@@ -7,7 +7,7 @@ pub mod Plain
 pub mod PskPeer
 pub mod PskServer
 pub mod PskTags
-pub mod Room
+pub mod Capacity
 pub mod Server
 pub mod ServerTurn
 pub mod Steps

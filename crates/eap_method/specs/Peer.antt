@@ -23,16 +23,16 @@ peer_kind (psk view) = psk_kind
 peer_kind (gpsk view) = gpsk_kind
 
 -- the object after it has begun
-abbrev pub peer_begun : Credential → List ℕ → PeerShown → PeerShown
-peer_begun cred nonce (psk view) = psk (psk_peer.fresh cred nonce)
-peer_begun cred nonce (gpsk view) = gpsk (gpsk_peer.fresh cred nonce)
+abbrev pub started_peer : Credential → List ℕ → PeerShown → PeerShown
+started_peer cred nonce (psk view) = psk (psk_peer.fresh cred nonce)
+started_peer cred nonce (gpsk view) = gpsk (gpsk_peer.fresh cred nonce)
 
 -- the octets are a Request of this Type with nothing past its Length
 pub record IsRequest (kind : ℕ) (octets : List ℕ) : Type 0 where
   pub id : ℕ
   pub body : List ℕ
   pub packet : IsPacket (request id kind body)
-  pub spelling : octets ≡ spelled (request id kind body)
+  pub encoding_of : octets ≡ spelled (request id kind body)
 
 abbrev pub psk_turns : PeerOutcome psk_peer.View → PeerOutcome PeerShown
 psk_turns out = record { turn = out.turn; after = psk out.after }
@@ -115,13 +115,13 @@ unfoldable pub credential_for : PeerSetup → ℕ → Credential
 credential_for setup kind = record { id_p = setup.name; accepts = setup.accepts; suites = setup.suites; psk = key_for setup kind }
 
 -- the object after a peer of these settings has begun: one of a method that it doesn't allow stays as it is
-unfoldable pub peer_begun_in : PeerSetup → PeerShown → PeerShown
-peer_begun_in setup (psk view) = psk (if is_among setup.methods psk_kind then psk_peer.fresh (credential_for setup psk_kind) setup.nonce else view)
-peer_begun_in setup (gpsk view) = gpsk (if is_among setup.methods gpsk_kind then gpsk_peer.fresh (credential_for setup gpsk_kind) setup.nonce else view)
+unfoldable pub peer_started_in : PeerSetup → PeerShown → PeerShown
+peer_started_in setup (psk view) = psk (if is_among setup.methods psk_kind then psk_peer.fresh (credential_for setup psk_kind) setup.nonce else view)
+peer_started_in setup (gpsk view) = gpsk (if is_among setup.methods gpsk_kind then gpsk_peer.fresh (credential_for setup gpsk_kind) setup.nonce else view)
 
 -- the views of a peer that begins
-unfoldable pub views_begun : PeerSetup → PeerViews
-views_begun setup = record {
+unfoldable pub views_started : PeerSetup → PeerViews
+views_started setup = record {
   psk = if is_among setup.methods psk_kind then psk_peer.fresh (credential_for setup psk_kind) setup.nonce else psk_peer.unset;
   gpsk = if is_among setup.methods gpsk_kind then gpsk_peer.fresh (credential_for setup gpsk_kind) setup.nonce else gpsk_peer.unset;
 }

@@ -66,20 +66,20 @@ unfoldable pub answers : Login → ℕ → PeerOutcome View
 answers login id =
     replied (wait login) (psk_response id (psk2_of login)) Cont Fail [] (ak_record login.cred.psk (mac_p_covers login) (mac_p_of login) ∷ [])
 
-abbrev pub hears_psk1 : Credential → List ℕ → ℕ → List ℕ → List ℕ → PeerOutcome View
-hears_psk1 cred nonce id rand_s id_s =
+abbrev pub receives_psk1 : Credential → List ℕ → ℕ → List ℕ → List ℕ → PeerOutcome View
+receives_psk1 cred nonce id rand_s id_s =
     if accepts_name cred.accepts id_s
     then answers (record { cred = cred; nonce = nonce; id_s = id_s; rand_s = rand_s }) id
     else discarded (fresh cred nonce) UnknownServer
 
 -- a peer that has begun
-abbrev pub fresh_hears : Credential → List ℕ → ℕ → Message → PeerOutcome View
-fresh_hears cred nonce id (psk1 rand_s id_s) = hears_psk1 cred nonce id rand_s id_s
-fresh_hears cred nonce id message = discarded (fresh cred nonce) WrongOp
+abbrev pub fresh_receives : Credential → List ℕ → ℕ → Message → PeerOutcome View
+fresh_receives cred nonce id (psk1 rand_s id_s) = receives_psk1 cred nonce id rand_s id_s
+fresh_receives cred nonce id message = discarded (fresh cred nonce) WrongOp
 
 abbrev pub fresh_reads : Credential → List ℕ → ℕ → Result Message Cause → PeerOutcome View
 fresh_reads cred nonce id (Err cause) = discarded (fresh cred nonce) cause
-fresh_reads cred nonce id (Ok message) = fresh_hears cred nonce id message
+fresh_reads cred nonce id (Ok message) = fresh_receives cred nonce id message
 
 -- PSK-4 with PCHANNEL still blank, whose first 22 octets are the header
 unfoldable pub psk4_header : Login → ℕ → List ℕ
@@ -126,15 +126,15 @@ psk3_fault login header rand_s mac nonce tag sealed =
     (result_fault (hidden_octet (keys_of login).tek 0 sealed))))
 
 -- a peer that has sent PSK-2
-abbrev pub wait_hears : Login → ℕ → List ℕ → Message → PeerOutcome View
-wait_hears login id header (psk3 rand_s mac nonce tag sealed) =
+abbrev pub wait_receives : Login → ℕ → List ℕ → Message → PeerOutcome View
+wait_receives login id header (psk3 rand_s mac nonce tag sealed) =
     confirms login id (result_of (hidden_octet (keys_of login).tek 0 sealed)) (psk3_records login header mac tag sealed)
     (psk3_fault login header rand_s mac nonce tag sealed)
-wait_hears login id header message = discarded (wait login) WrongOp
+wait_receives login id header message = discarded (wait login) WrongOp
 
 abbrev pub wait_reads : Login → ℕ → List ℕ → Result Message Cause → PeerOutcome View
 wait_reads login id header (Err cause) = discarded (wait login) cause
-wait_reads login id header (Ok message) = wait_hears login id header message
+wait_reads login id header (Ok message) = wait_receives login id header message
 
 -- a peer whose login is over accepts nothing
 abbrev pub over_reads : Login → Bool → Result Message Cause → PeerOutcome View

@@ -43,9 +43,9 @@ unfoldable pub first : ServerSide → List ℕ → ℕ → List ℕ
 first own nonce id = psk_request id (psk1 (rand_of nonce) own.id_s)
 
 -- whether a server has begun and made no Request yet
-abbrev pub is_begun : View → Bool
-is_begun (begun own nonce) = true
-is_begun view = false
+abbrev pub is_initiated : View → Bool
+is_initiated (begun own nonce) = true
+is_initiated view = false
 
 -- the first Request and the view after it; none if the server hasn't begun or has made one
 unfoldable pub first_step : View → ℕ → FirstOutcome View
@@ -115,20 +115,20 @@ finds own nonce next_id rand_p mac id_p None = done (refused own nonce) false []
 finds own nonce next_id rand_p mac id_p (Some user) =
     checks (record { own = own; nonce = nonce; id_p = id_p; psk = user.psk; rand_p = rand_p; r = r_for user.barred }) next_id mac
 
-abbrev pub hears_psk2 : List User → ServerSide → List ℕ → ℕ → List ℕ → List ℕ → List ℕ → List ℕ → ServerOutcome View
-hears_psk2 users own nonce next_id rand_s rand_p mac id_p =
+abbrev pub receives_psk2 : List User → ServerSide → List ℕ → ℕ → List ℕ → List ℕ → List ℕ → List ℕ → ServerOutcome View
+receives_psk2 users own nonce next_id rand_s rand_p mac id_p =
     if bytes_eq rand_s (rand_of nonce)
     then finds own nonce next_id rand_p mac id_p (user_of users id_p psk_kind)
     else dropped (asked own nonce) FieldMismatch
 
 -- a server that has sent PSK-1
-abbrev pub asked_hears : List User → ServerSide → List ℕ → ℕ → Message → ServerOutcome View
-asked_hears users own nonce next_id (psk2 rand_s rand_p mac id_p) = hears_psk2 users own nonce next_id rand_s rand_p mac id_p
-asked_hears users own nonce next_id message = dropped (asked own nonce) WrongOp
+abbrev pub asked_receives : List User → ServerSide → List ℕ → ℕ → Message → ServerOutcome View
+asked_receives users own nonce next_id (psk2 rand_s rand_p mac id_p) = receives_psk2 users own nonce next_id rand_s rand_p mac id_p
+asked_receives users own nonce next_id message = dropped (asked own nonce) WrongOp
 
 abbrev pub asked_reads : List User → ServerSide → List ℕ → ℕ → Result Message Cause → ServerOutcome View
 asked_reads users own nonce next_id (Err cause) = dropped (asked own nonce) cause
-asked_reads users own nonce next_id (Ok message) = asked_hears users own nonce next_id message
+asked_reads users own nonce next_id (Ok message) = asked_receives users own nonce next_id message
 
 -- what is wrong with PSK-4, in the order of the causes
 abbrev pub psk4_fault : Login → List ℕ → List ℕ → ℕ → List ℕ → ℕ → Option Cause
@@ -148,15 +148,15 @@ ends login r accepted (Some cause) = dropped (checked login) cause
 ends login r accepted None = done (over login (both_succeed login r)) (both_succeed login r) accepted
 
 -- a server that has sent PSK-3
-abbrev pub checked_hears : Login → List ℕ → Message → ServerOutcome View
-checked_hears login header (psk4 rand_s nonce tag sealed) =
+abbrev pub checked_receives : Login → List ℕ → Message → ServerOutcome View
+checked_receives login header (psk4 rand_s nonce tag sealed) =
     ends login (result_of (hidden_octet (keys_of login).tek 1 sealed)) (tek_record login.psk 1 header sealed tag ∷ [])
     (psk4_fault login header rand_s nonce tag sealed)
-checked_hears login header message = dropped (checked login) WrongOp
+checked_receives login header message = dropped (checked login) WrongOp
 
 abbrev pub checked_reads : Login → List ℕ → Result Message Cause → ServerOutcome View
 checked_reads login header (Err cause) = dropped (checked login) cause
-checked_reads login header (Ok message) = checked_hears login header message
+checked_reads login header (Ok message) = checked_receives login header message
 
 -- a server that awaits nothing
 abbrev pub idle_reads : View → Result Message Cause → ServerOutcome View

@@ -22,14 +22,14 @@ server_kind (psk view) = psk_kind
 server_kind (gpsk view) = gpsk_kind
 
 -- the object after it has begun
-abbrev pub server_begun : ServerSide → List ℕ → ServerShown → ServerShown
-server_begun own nonce (psk view) = psk (psk_server.begun own nonce)
-server_begun own nonce (gpsk view) = gpsk (gpsk_server.begun own nonce)
+abbrev pub started_server : ServerSide → List ℕ → ServerShown → ServerShown
+started_server own nonce (psk view) = psk (psk_server.begun own nonce)
+started_server own nonce (gpsk view) = gpsk (gpsk_server.begun own nonce)
 
 -- whether the object has begun and made no Request yet
-abbrev pub has_begun : ServerShown → Bool
-has_begun (psk view) = psk_server.is_begun view
-has_begun (gpsk view) = gpsk_server.is_begun view
+abbrev pub has_initiated : ServerShown → Bool
+has_initiated (psk view) = psk_server.is_initiated view
+has_initiated (gpsk view) = gpsk_server.is_initiated view
 
 -- the object's first Request, and the object after it
 unfoldable pub server_first_step : ServerShown → ℕ → FirstOutcome ServerShown
@@ -41,7 +41,7 @@ pub record IsResponse (kind : ℕ) (octets : List ℕ) : Type 0 where
   pub id : ℕ
   pub body : List ℕ
   pub packet : IsPacket (response id kind body)
-  pub spelling : octets ≡ spelled (response id kind body)
+  pub encoding_of : octets ≡ spelled (response id kind body)
 
 abbrev pub psk_turns : ServerOutcome psk_server.View → ServerOutcome ServerShown
 psk_turns out = record { turn = out.turn; after = psk out.after }
@@ -126,18 +126,18 @@ psk_turn views out = record { turn = out.turn; after = record views { psk = Some
 abbrev pub gpsk_turn : ServerViews → ServerOutcome gpsk_server.View → ServerOutcome ServerViews
 gpsk_turn views out = record { turn = out.turn; after = record views { gpsk = Some out.after } }
 
-abbrev pub psk_hears : List User → ℕ → ServerViews → List ℕ → Option psk_server.View → ServerOutcome ServerViews
-psk_hears users next_id views octets None = dropped views WrongOp
-psk_hears users next_id views octets (Some view) = psk_turn views (psk_server.step users next_id view octets)
+abbrev pub psk_receives : List User → ℕ → ServerViews → List ℕ → Option psk_server.View → ServerOutcome ServerViews
+psk_receives users next_id views octets None = dropped views WrongOp
+psk_receives users next_id views octets (Some view) = psk_turn views (psk_server.step users next_id view octets)
 
-abbrev pub gpsk_hears : List User → ℕ → ServerViews → List ℕ → Option gpsk_server.View → ServerOutcome ServerViews
-gpsk_hears users next_id views octets None = dropped views WrongOp
-gpsk_hears users next_id views octets (Some view) = gpsk_turn views (gpsk_server.step users next_id view octets)
+abbrev pub gpsk_receives : List User → ℕ → ServerViews → List ℕ → Option gpsk_server.View → ServerOutcome ServerViews
+gpsk_receives users next_id views octets None = dropped views WrongOp
+gpsk_receives users next_id views octets (Some view) = gpsk_turn views (gpsk_server.step users next_id view octets)
 
 unfoldable pub server_turn : List User → ℕ → ℕ → ServerViews → List ℕ → ServerOutcome ServerViews
 server_turn users next_id kind views octets =
-    if kind == psk_kind then psk_hears users next_id views octets views.psk
-    else if kind == gpsk_kind then gpsk_hears users next_id views octets views.gpsk
+    if kind == psk_kind then psk_receives users next_id views octets views.psk
+    else if kind == gpsk_kind then gpsk_receives users next_id views octets views.gpsk
     else dropped views WrongOp
 
 -- the report of a method, by its Type
@@ -160,13 +160,13 @@ unfoldable pub side_of : ServerSetup → ServerSide
 side_of setup = record { id_s = setup.name; suites = setup.suites }
 
 -- the object after a server of these settings has begun: one of a method that it doesn't propose stays as it is
-unfoldable pub server_begun_in : ServerSetup → ServerShown → ServerShown
-server_begun_in setup (psk view) = psk (if is_among setup.methods psk_kind then psk_server.begun (side_of setup) setup.nonce else view)
-server_begun_in setup (gpsk view) = gpsk (if is_among setup.methods gpsk_kind then gpsk_server.begun (side_of setup) setup.nonce else view)
+unfoldable pub server_started_in : ServerSetup → ServerShown → ServerShown
+server_started_in setup (psk view) = psk (if is_among setup.methods psk_kind then psk_server.begun (side_of setup) setup.nonce else view)
+server_started_in setup (gpsk view) = gpsk (if is_among setup.methods gpsk_kind then gpsk_server.begun (side_of setup) setup.nonce else view)
 
 -- the views of a server that begins
-unfoldable pub views_begun : ServerSetup → ServerViews
-views_begun setup = record {
+unfoldable pub views_started : ServerSetup → ServerViews
+views_started setup = record {
   psk = if is_among setup.methods psk_kind then Some (psk_server.begun (side_of setup) setup.nonce) else None;
   gpsk = if is_among setup.methods gpsk_kind then Some (gpsk_server.begun (side_of setup) setup.nonce) else None;
 }

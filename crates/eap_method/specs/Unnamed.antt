@@ -14,10 +14,10 @@ servers_unnamed named shown = filter (λ s. not (is_among named (server_kind s))
 
 -- before and after, the objects of an end that names these methods are of the same Types in the same order, and
 -- those of methods that it doesn't name are as they were
-pub record KeepsPeers (named : List ℕ) (before after : List PeerShown) : Type 0 where
+pub record PreservesPeers (named : List ℕ) (before after : List PeerShown) : Type 0 where
   pub kinds : peer_kinds after ≡ peer_kinds before
   pub unnamed : peers_unnamed named after ≡ peers_unnamed named before
 
-pub record KeepsServers (named : List ℕ) (before after : List ServerShown) : Type 0 where
+pub record PreservesServers (named : List ℕ) (before after : List ServerShown) : Type 0 where
   pub kinds : server_kinds after ≡ server_kinds before
   pub unnamed : servers_unnamed named after ≡ servers_unnamed named before

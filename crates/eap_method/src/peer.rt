@@ -1,10 +1,10 @@
 //! A peer's method: the trait that an object of EAP-PSK or EAP-GPSK meets.
 
 ghost use Rattle.std.specs.Prelude.{◌≡◌, true, IsTrue};
-ghost use Rattle.login_setup.specs.Setup.{fits_kind};
-ghost use Rattle.eap_method.specs.Peer.{peer_kind, peer_begun, peer_step, peer_report, IsRequest};
+ghost use Rattle.login_setup.specs.Setup.{is_valid_for};
+ghost use Rattle.eap_method.specs.Peer.{peer_kind, started_peer, peer_step, peer_report, IsRequest};
 ghost use Rattle.eap_method.specs.PeerTurn.{peer_turn_of, peer_turn_with, peer_tags};
-ghost use Rattle.eap_method.specs.Room.{HasRoom, PeerTurnHasRoom, replies};
+ghost use Rattle.eap_method.specs.Capacity.{HasCapacity, PeerTurnHasCapacity, replies};
 
 use crate::records::Records;
 use crate::tags::Tags;
@@ -26,15 +26,15 @@ pub trait PeerMethod: Drop {
     /// Begins again, whatever the object's state before. The key has 16 octets for EAP-PSK, 32 to 64
     /// for EAP-GPSK.
     fn begin(&mut self, cred: &Credential, nonce: &Nonce)
-        requires { IsTrue (fits_kind (peer_kind (peer_shown self.old)) cred.now.psk) }
-        ensures { peer_shown self.new ≡ peer_begun cred.now nonce.now (peer_shown self.old) };
+        requires { IsTrue (is_valid_for (peer_kind (peer_shown self.old)) cred.now.psk) }
+        ensures { peer_shown self.new ≡ started_peer cred.now nonce.now (peer_shown self.old) };
 
     /// The turn for a Request of this Type with nothing past its Length. A Response leaves room for an Expanded Type: it has
     /// at most 1,493 octets.
     fn handle(&mut self, request: &[u8]) -> PeerTurn
         requires { IsRequest (peer_kind (peer_shown self.old)) request.now }
         ensures turn { peer_step (peer_shown self.old) request.now ≡ record { turn = peer_turn_of result; after = peer_shown self.new } }
-        ensures room { PeerTurnHasRoom result }
+        ensures room { PeerTurnHasCapacity result }
     {
         let mut packet = Packet::new();
         let mut tags = Tags::new();
@@ -49,7 +49,7 @@ pub trait PeerMethod: Drop {
         ensures turn { peer_step (peer_shown self.old) request.now
             ≡ record { turn = peer_turn_with result packet.new tags.new; after = peer_shown self.new } }
         ensures tags { tags.new ≡ peer_tags (peer_turn_with result packet.new tags.new) }
-        ensures room { replies result ≡ true → HasRoom packet.new };
+        ensures room { replies result ≡ true → HasCapacity packet.new };
 
     /// The same, with room for the records or none.
     fn handle_step<R: Records>(
@@ -64,7 +64,7 @@ pub trait PeerMethod: Drop {
         ensures turn { peer_step (peer_shown self.old) request.now
             ≡ record { turn = peer_turn_with result packet.new tags.new; after = peer_shown self.new } }
         ensures tags { tags.new ≡ peer_tags (peer_turn_with result packet.new tags.new) }
-        ensures room { replies result ≡ true → HasRoom packet.new };
+        ensures room { replies result ≡ true → HasCapacity packet.new };
 
     /// What the peer has after a login that succeeded; None before and after any other.
     fn report(&self) -> Option<Report>

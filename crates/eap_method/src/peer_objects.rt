@@ -3,10 +3,10 @@
 ghost use Rattle.std.specs.Prelude.{◌≡◌, ℕ, List, true, map};
 ghost use Rattle.octet_lists.specs.Among.{is_among};
 ghost use Rattle.login_setup.specs.Setup.{IsSoundPeer, HasKeys};
-ghost use Rattle.eap_method.specs.Peer.{peer_kinds, peer_views, peer_turn, IsRequest, peer_report_of, views_begun, have_each, key_for, credential_for, peer_begun_in};
+ghost use Rattle.eap_method.specs.Peer.{peer_kinds, peer_views, peer_turn, IsRequest, peer_report_of, views_started, have_each, key_for, credential_for, peer_started_in};
 ghost use Rattle.eap_method.specs.Unnamed.{peers_unnamed};
 ghost use Rattle.eap_method.specs.PeerTurn.{peer_turn_with, peer_tags};
-ghost use Rattle.eap_method.specs.Room.{HasRoom, replies};
+ghost use Rattle.eap_method.specs.Capacity.{HasCapacity, replies};
 
 use crate::peer::PeerMethod;
 use crate::records::Records;
@@ -20,22 +20,22 @@ use octet_lists::{Packet, Secret};
 
 /// Begins each object whose method the settings allow, with the key for it, whatever its state before;
 /// the others stay as they are.
-pub fn begin_peers<M: PeerMethod>(methods: &mut [M], setup: &PeerSetup)
+pub fn start_peers<M: PeerMethod>(methods: &mut [M], setup: &PeerSetup)
     requires sound { IsSoundPeer setup.now }
     requires keys { HasKeys setup.now }
     ensures views { have_each (peer_kinds (map M.peer_shown methods.old)) setup.now.methods ≡ true
-        → peer_views setup.now.methods (map M.peer_shown methods.new) ≡ views_begun setup.now }
+        → peer_views setup.now.methods (map M.peer_shown methods.new) ≡ views_started setup.now }
     ensures kinds { peer_kinds (map M.peer_shown methods.new) ≡ peer_kinds (map M.peer_shown methods.old) }
     ensures unnamed { peers_unnamed setup.now.methods (map M.peer_shown methods.new) ≡ peers_unnamed setup.now.methods (map M.peer_shown methods.old) }
 {
-    begin_each(methods, setup);
+    start_each(methods, setup);
 }
 
 /// The turn of the object of this Type, which is allowed, for a Request of this Type with nothing past
 /// its Length: its Response is written into `packet`, with room for an Expanded Type, the records of its
 /// tags into `tags`. If there is no such object, the Request is discarded as one that no method
 /// awaits. The objects of other methods stay as they are.
-pub fn hand_to_peer<M: PeerMethod, R: Records>(
+pub fn call_peer_method<M: PeerMethod, R: Records>(
     methods: &mut [M],
     kind: u8,
     request: &[u8],
@@ -46,7 +46,7 @@ pub fn hand_to_peer<M: PeerMethod, R: Records>(
     ensures turn { (allowed : List ℕ) → is_among allowed kind ≡ true → peer_turn kind (peer_views allowed (map M.peer_shown methods.old)) request.now
         ≡ record { turn = peer_turn_with result packet.new tags.new; after = peer_views allowed (map M.peer_shown methods.new) } }
     ensures tags { tags.new ≡ peer_tags (peer_turn_with result packet.new tags.new) }
-    ensures room { replies result ≡ true → HasRoom packet.new }
+    ensures room { replies result ≡ true → HasCapacity packet.new }
     ensures kinds { peer_kinds (map M.peer_shown methods.new) ≡ peer_kinds (map M.peer_shown methods.old) }
     ensures unnamed { (allowed : List ℕ) → is_among allowed kind ≡ true
         → peers_unnamed allowed (map M.peer_shown methods.new) ≡ peers_unnamed allowed (map M.peer_shown methods.old) }
@@ -60,7 +60,7 @@ pub fn hand_to_peer<M: PeerMethod, R: Records>(
             if first.kind() == kind {
                 first.handle_step(request, packet, tags)
             } else {
-                hand_to_peer(rest, kind, request, packet, tags)
+                call_peer_method(rest, kind, request, packet, tags)
             }
         }
     }
@@ -83,21 +83,21 @@ pub fn peer_report<M: PeerMethod>(methods: &[M], kind: u8) -> Option<Report>
     }
 }
 
-fn begin_each<M: PeerMethod>(methods: &mut [M], setup: &PeerSetup)
+fn start_each<M: PeerMethod>(methods: &mut [M], setup: &PeerSetup)
     requires sound { IsSoundPeer setup.now }
     requires keys { HasKeys setup.now }
-    ensures { map M.peer_shown methods.new ≡ map (peer_begun_in setup.now) (map M.peer_shown methods.old) }
+    ensures { map M.peer_shown methods.new ≡ map (peer_started_in setup.now) (map M.peer_shown methods.old) }
 {
     if let Some((first, rest)) = methods.split_first_mut() {
-        begin_one(first, setup);
-        begin_each(rest, setup);
+        start_one(first, setup);
+        start_each(rest, setup);
     }
 }
 
-fn begin_one<M: PeerMethod>(method: &mut M, setup: &PeerSetup)
+fn start_one<M: PeerMethod>(method: &mut M, setup: &PeerSetup)
     requires sound { IsSoundPeer setup.now }
     requires keys { HasKeys setup.now }
-    ensures { M.peer_shown method.new ≡ peer_begun_in setup.now (M.peer_shown method.old) }
+    ensures { M.peer_shown method.new ≡ peer_started_in setup.now (M.peer_shown method.old) }
 {
     let kind = method.kind();
     if peer_allows(setup, kind) {

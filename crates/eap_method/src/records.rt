@@ -44,12 +44,12 @@ impl Records for NoRecords {
 
 /// Room for 2 records. Contracts see the list of those that are there.
 #[derive(Drop)]
-pub struct Kept {
+pub struct TwoRecords {
     records: [TagRecord; 2],
     count: usize,
 }
 
-impl Model for Kept {
+impl Model for TwoRecords {
     ghost use Rattle.std.specs.Prelude.{List, take, length, ◌≡◌, ◌≤◌};
     ghost use Rattle.eap_method.specs.declared.tags.TagRecord.{TagRecord};
 
@@ -60,7 +60,7 @@ impl Model for Kept {
     ghost invariant = { λ k. (k.count ≤ 2) × (length k.records ≡ 2) };
 }
 
-impl Kept {
+impl TwoRecords {
     /// The records in order.
     pub(crate) fn as_slice(&self) -> &[TagRecord]
         ensures { result.now ≡ self.now }
@@ -69,11 +69,11 @@ impl Kept {
     }
 }
 
-impl Records for Kept {
+impl Records for TwoRecords {
     ghost keeps = { λ kept records. kept ≡ records };
 
-    fn new() -> Kept {
-        Kept {
+    fn new() -> TwoRecords {
+        TwoRecords {
             records: [TagRecord::default(), TagRecord::default()],
             count: 0,
         }

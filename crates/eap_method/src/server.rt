@@ -1,9 +1,9 @@
 //! A server's method: the trait that an object of EAP-PSK or EAP-GPSK meets.
 
 ghost use Rattle.std.specs.Prelude.{◌≡◌, true, IsTrue, All};
-ghost use Rattle.login_setup.specs.Setup.{fits_kind, are_suites};
-ghost use Rattle.eap_method.specs.Server.{server_kind, server_begun, has_begun, server_first_step, server_step, server_report, IsResponse};
-ghost use Rattle.eap_method.specs.Room.{HasRoom, ServerTurnHasRoom, requests};
+ghost use Rattle.login_setup.specs.Setup.{is_valid_for, are_suites};
+ghost use Rattle.eap_method.specs.Server.{server_kind, started_server, has_initiated, server_first_step, server_step, server_report, IsResponse};
+ghost use Rattle.eap_method.specs.Capacity.{HasCapacity, ServerTurnHasCapacity, requests};
 ghost use Rattle.eap_method.specs.ServerTurn.{server_turn_of, server_turn_with, server_tags};
 
 use crate::records::Records;
@@ -27,14 +27,14 @@ pub trait ServerMethod: Drop {
     /// Begins again, whatever the object's state before. The suites are one or two of 1 and 2.
     fn begin(&mut self, own: &ServerSide, nonce: &Nonce)
         requires { IsTrue (are_suites own.now.suites) }
-        ensures { server_shown self.new ≡ server_begun own.now nonce.now (server_shown self.old) };
+        ensures { server_shown self.new ≡ started_server own.now nonce.now (server_shown self.old) };
 
     /// The method's first Request, with this Identifier: at most 1,493 octets, so that an Expanded Type has room. The object
     /// has begun and made none.
     fn first(&mut self, id: u8) -> Packet
-        requires { has_begun (server_shown self.old) ≡ true }
+        requires { has_initiated (server_shown self.old) ≡ true }
         ensures first { server_first_step (server_shown self.old) id ≡ record { packet = result; after = server_shown self.new } }
-        ensures room { HasRoom result }
+        ensures room { HasCapacity result }
     {
         let mut packet = Packet::new();
         self.first_into(id, &mut packet);
@@ -43,19 +43,19 @@ pub trait ServerMethod: Drop {
 
     /// The same in place: the Request is written into `packet` in place of what was there.
     fn first_into(&mut self, id: u8, packet: &mut Packet)
-        requires { has_begun (server_shown self.old) ≡ true }
+        requires { has_initiated (server_shown self.old) ≡ true }
         ensures first { server_first_step (server_shown self.old) id ≡ record { packet = packet.new; after = server_shown self.new } }
-        ensures room { HasRoom packet.new };
+        ensures room { HasCapacity packet.new };
 
     /// The turn for a Response of this Type with nothing past its Length. A Request that follows has the Identifier
     /// `next_id` and leaves room for an Expanded Type: it has at most 1,493 octets. The users' keys have 16 octets for
     /// EAP-PSK, 32 to 64 for EAP-GPSK.
     fn handle(&mut self, response: &[u8], next_id: u8, users: &Users) -> ServerTurn
         requires response { IsResponse (server_kind (server_shown self.old)) response.now }
-        requires keys { All (λ user. IsTrue (fits_kind user.kind user.psk)) users.now }
+        requires keys { All (λ user. IsTrue (is_valid_for user.kind user.psk)) users.now }
         ensures turn { server_step users.now next_id (server_shown self.old) response.now
             ≡ record { turn = server_turn_of result; after = server_shown self.new } }
-        ensures room { ServerTurnHasRoom result }
+        ensures room { ServerTurnHasCapacity result }
     {
         let mut packet = Packet::new();
         let mut tags = Tags::new();
@@ -74,11 +74,11 @@ pub trait ServerMethod: Drop {
         tags: &mut Tags,
     ) -> ServerAnswer
         requires response { IsResponse (server_kind (server_shown self.old)) response.now }
-        requires keys { All (λ user. IsTrue (fits_kind user.kind user.psk)) users.now }
+        requires keys { All (λ user. IsTrue (is_valid_for user.kind user.psk)) users.now }
         ensures turn { server_step users.now next_id (server_shown self.old) response.now
             ≡ record { turn = server_turn_with result packet.new tags.new; after = server_shown self.new } }
         ensures tags { tags.new ≡ server_tags (server_turn_with result packet.new tags.new) }
-        ensures room { requests result ≡ true → HasRoom packet.new };
+        ensures room { requests result ≡ true → HasCapacity packet.new };
 
     /// The same, with room for the records or none.
     fn handle_step<R: Records>(
@@ -92,11 +92,11 @@ pub trait ServerMethod: Drop {
     where
         Self: Sized,
         requires response { IsResponse (server_kind (server_shown self.old)) response.now }
-        requires keys { All (λ user. IsTrue (fits_kind user.kind user.psk)) users.now }
+        requires keys { All (λ user. IsTrue (is_valid_for user.kind user.psk)) users.now }
         ensures turn { server_step users.now next_id (server_shown self.old) response.now
             ≡ record { turn = server_turn_with result packet.new tags.new; after = server_shown self.new } }
         ensures tags { tags.new ≡ server_tags (server_turn_with result packet.new tags.new) }
-        ensures room { requests result ≡ true → HasRoom packet.new };
+        ensures room { requests result ≡ true → HasCapacity packet.new };
 
     /// What the server has after a login that succeeded; None before and after any other.
     fn report(&self) -> Option<Report>

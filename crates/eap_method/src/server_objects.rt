@@ -2,11 +2,11 @@
 
 ghost use Rattle.std.specs.Prelude.{◌≡◌, ℕ, List, true, map, IsTrue, All, Some, None, if◌then◌else◌};
 ghost use Rattle.octet_lists.specs.Among.{is_among};
-ghost use Rattle.login_setup.specs.Setup.{fits_kind, are_suites};
+ghost use Rattle.login_setup.specs.Setup.{is_valid_for, are_suites};
 ghost use Rattle.eap_method.specs.Peer.{have_each};
-ghost use Rattle.eap_method.specs.Room.{HasRoom, requests};
+ghost use Rattle.eap_method.specs.Capacity.{HasCapacity, requests};
 ghost use Rattle.eap_method.specs.ServerTurn.{server_turn_with, server_tags};
-ghost use Rattle.eap_method.specs.Server.{server_kinds, server_views, server_offer, server_turn, IsResponse, server_report_of, side_of, views_begun, server_begun_in};
+ghost use Rattle.eap_method.specs.Server.{server_kinds, server_views, server_offer, server_turn, IsResponse, server_report_of, side_of, views_started, server_started_in};
 ghost use Rattle.eap_method.specs.Unnamed.{servers_unnamed};
 
 use crate::records::Records;
@@ -19,14 +19,14 @@ use login_setup::{ServerSetup, Users};
 use octet_lists::{Nonce, Packet, is_among};
 
 /// Begins each object whose method the settings propose, whatever its state before; the others stay as they are.
-pub fn begin_servers<M: ServerMethod>(methods: &mut [M], setup: &ServerSetup)
+pub fn start_servers<M: ServerMethod>(methods: &mut [M], setup: &ServerSetup)
     requires { IsTrue (are_suites setup.now.suites) }
     ensures views { have_each (server_kinds (map M.server_shown methods.old)) setup.now.methods ≡ true
-        → server_views setup.now.methods (map M.server_shown methods.new) ≡ views_begun setup.now }
+        → server_views setup.now.methods (map M.server_shown methods.new) ≡ views_started setup.now }
     ensures kinds { server_kinds (map M.server_shown methods.new) ≡ server_kinds (map M.server_shown methods.old) }
     ensures unnamed { servers_unnamed setup.now.methods (map M.server_shown methods.new) ≡ servers_unnamed setup.now.methods (map M.server_shown methods.old) }
 {
-    begin_each(methods, setup);
+    start_each(methods, setup);
 }
 
 /// Writes the first Request, with this Identifier, of the object of this Type, which is proposed, into
@@ -44,7 +44,7 @@ pub fn offer_method<M: ServerMethod>(
     ensures offer { (order : List ℕ) → is_among order kind ≡ true
         → server_offer own.now nonce.now kind id (server_views order (map M.server_shown methods.old))
         ≡ record { packet = if result then Some packet.new else None; after = server_views order (map M.server_shown methods.new) } }
-    ensures room { result ≡ true → HasRoom packet.new }
+    ensures room { result ≡ true → HasCapacity packet.new }
     ensures kinds { server_kinds (map M.server_shown methods.new) ≡ server_kinds (map M.server_shown methods.old) }
     ensures unnamed { (order : List ℕ) → is_among order kind ≡ true
         → servers_unnamed order (map M.server_shown methods.new) ≡ servers_unnamed order (map M.server_shown methods.old) }
@@ -67,7 +67,7 @@ pub fn offer_method<M: ServerMethod>(
 /// past its Length: a Request that follows has the Identifier `next_id` and is written into `packet`,
 /// the records of the turn's tags into `tags`. If there is no such object, the Response is discarded
 /// as one that no method awaits. The objects of other methods stay as they are.
-pub fn hand_to_server<M: ServerMethod, R: Records>(
+pub fn call_server_method<M: ServerMethod, R: Records>(
     methods: &mut [M],
     kind: u8,
     response: &[u8],
@@ -77,12 +77,12 @@ pub fn hand_to_server<M: ServerMethod, R: Records>(
     tags: &mut Tags<R>,
 ) -> ServerAnswer
     requires response { IsResponse kind response.now }
-    requires keys { All (λ user. IsTrue (fits_kind user.kind user.psk)) users.now }
+    requires keys { All (λ user. IsTrue (is_valid_for user.kind user.psk)) users.now }
     ensures turn { (order : List ℕ) → is_among order kind ≡ true
         → server_turn users.now next_id kind (server_views order (map M.server_shown methods.old)) response.now
         ≡ record { turn = server_turn_with result packet.new tags.new; after = server_views order (map M.server_shown methods.new) } }
     ensures tags { tags.new ≡ server_tags (server_turn_with result packet.new tags.new) }
-    ensures room { requests result ≡ true → HasRoom packet.new }
+    ensures room { requests result ≡ true → HasCapacity packet.new }
     ensures kinds { server_kinds (map M.server_shown methods.new) ≡ server_kinds (map M.server_shown methods.old) }
     ensures unnamed { (order : List ℕ) → is_among order kind ≡ true
         → servers_unnamed order (map M.server_shown methods.new) ≡ servers_unnamed order (map M.server_shown methods.old) }
@@ -96,7 +96,7 @@ pub fn hand_to_server<M: ServerMethod, R: Records>(
             if first.kind() == kind {
                 first.handle_step(response, next_id, users, packet, tags)
             } else {
-                hand_to_server(rest, kind, response, next_id, users, packet, tags)
+                call_server_method(rest, kind, response, next_id, users, packet, tags)
             }
         }
     }
@@ -119,19 +119,19 @@ pub fn server_report<M: ServerMethod>(methods: &[M], kind: u8) -> Option<Report>
     }
 }
 
-fn begin_each<M: ServerMethod>(methods: &mut [M], setup: &ServerSetup)
+fn start_each<M: ServerMethod>(methods: &mut [M], setup: &ServerSetup)
     requires { IsTrue (are_suites setup.now.suites) }
-    ensures { map M.server_shown methods.new ≡ map (server_begun_in setup.now) (map M.server_shown methods.old) }
+    ensures { map M.server_shown methods.new ≡ map (server_started_in setup.now) (map M.server_shown methods.old) }
 {
     if let Some((first, rest)) = methods.split_first_mut() {
-        begin_one(first, setup);
-        begin_each(rest, setup);
+        start_one(first, setup);
+        start_each(rest, setup);
     }
 }
 
-fn begin_one<M: ServerMethod>(method: &mut M, setup: &ServerSetup)
+fn start_one<M: ServerMethod>(method: &mut M, setup: &ServerSetup)
     requires { IsTrue (are_suites setup.now.suites) }
-    ensures { M.server_shown method.new ≡ server_begun_in setup.now (M.server_shown method.old) }
+    ensures { M.server_shown method.new ≡ server_started_in setup.now (M.server_shown method.old) }
 {
     if proposes(setup, method.kind()) {
         method.begin(&side_of(setup), &setup.nonce);

@@ -4,7 +4,7 @@
 ghost use Rattle.std.specs.Prelude.{◌≡◌, ◌≤◌, length, None, Some, true, false};
 ghost use Rattle.eap_method.specs.Steps.{is_end};
 
-use crate::records::Kept;
+use crate::records::TwoRecords;
 use crate::tags::Tags;
 use eap_packet::{Cause, Path, State};
 use octet_lists::Packet;
@@ -48,7 +48,7 @@ impl Step {
     ghost use Rattle.std.specs.Prelude.{[]};
 
     /// The step with the packet and the records that its call wrote.
-    pub fn with(self, packet: Packet, tags: Tags<Kept>) -> WholeStep
+    pub fn with(self, packet: Packet, tags: Tags<TwoRecords>) -> WholeStep
         ensures { result ≡ step_with self packet tags }
     {
         WholeStep {

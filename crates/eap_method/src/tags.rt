@@ -6,7 +6,7 @@ ghost use Rattle.octet_lists.specs.Sizes.{max_packet};
 ghost use Rattle.eap_method.specs.Tags.{no_tags};
 
 use crate::note::Note;
-use crate::records::{Kept, Records};
+use crate::records::{Records, TwoRecords};
 use octet_lists::{Octets, Packet, Secret};
 use std::marker::Model;
 
@@ -102,7 +102,7 @@ fn append_each(octets: &mut Packet, pieces: &[&[u8]])
 /// At most 2 records, in the order of the message's tags. Contracts see the list of the records, whether there is room
 /// for them or not.
 #[derive(Drop)]
-pub struct TagList<R: Records = Kept> {
+pub struct TagList<R: Records = TwoRecords> {
     room: R,
     count: usize,
     note: Note,
@@ -212,7 +212,7 @@ impl<R: Records> TagList<R> {
     }
 }
 
-impl TagList<Kept> {
+impl TagList<TwoRecords> {
     /// Appends a record and answers true. If 2 records are there it answers false and changes nothing.
     pub fn push(&mut self, tag: TagRecord) -> bool
         ensures room { IsTrue result ↔ (length self.old < 2) }
@@ -240,7 +240,7 @@ impl TagList<Kept> {
 /// The records of a turn: of the tags accepted in the message received, and of those made for the
 /// message sent.
 #[derive(Drop)]
-pub struct Tags<R: Records = Kept> {
+pub struct Tags<R: Records = TwoRecords> {
     pub accepted: TagList<R>,
     pub made: TagList<R>,
 }

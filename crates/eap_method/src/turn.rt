@@ -2,7 +2,7 @@
 //! are in the buffers passed to the call.
 
 ghost use Rattle.std.specs.Prelude.{◌≡◌, true};
-ghost use Rattle.eap_method.specs.Room.{HasRoom, replies, requests, PeerTurnHasRoom, ServerTurnHasRoom};
+ghost use Rattle.eap_method.specs.Capacity.{HasCapacity, replies, requests, PeerTurnHasCapacity, ServerTurnHasCapacity};
 ghost use Rattle.eap_method.specs.PeerTurn.{peer_turn_with, peer_turn_of};
 ghost use Rattle.eap_method.specs.ServerTurn.{server_turn_with, server_turn_of};
 
@@ -64,7 +64,7 @@ impl PeerAnswer {
     /// The turn with the packet and the records that its call wrote.
     pub fn with(self, packet: Packet, tags: Tags) -> PeerTurn
         ensures turn { peer_turn_of result ≡ peer_turn_with self packet tags }
-        ensures room { (replies self ≡ true → HasRoom packet) → PeerTurnHasRoom result }
+        ensures room { (replies self ≡ true → HasCapacity packet) → PeerTurnHasCapacity result }
     {
         match self {
             PeerAnswer::Discard(cause) => PeerTurn::Discard(cause),
@@ -82,7 +82,7 @@ impl ServerAnswer {
     /// The turn with the packet and the records that its call wrote.
     pub fn with(self, packet: Packet, tags: Tags) -> ServerTurn
         ensures turn { server_turn_of result ≡ server_turn_with self packet tags }
-        ensures room { (requests self ≡ true → HasRoom packet) → ServerTurnHasRoom result }
+        ensures room { (requests self ≡ true → HasCapacity packet) → ServerTurnHasCapacity result }
     {
         match self {
             ServerAnswer::Discard(cause) => ServerTurn::Discard(cause),

@@ -17,8 +17,8 @@ pub record AreFields (count code size kind : ℕ) : Type 0 where
   pub desires : code ≡ 2 → kind ≡ 3 → size ≢ 5
 
 -- The octets begin with a packet.
-abbrev pub Begins : List ℕ → Type 0
-Begins octets = AreFields (length octets) (code_of octets) (length_of octets) (type_of octets)
+abbrev pub StartsAt : List ℕ → Type 0
+StartsAt octets = AreFields (length octets) (code_of octets) (length_of octets) (type_of octets)
 
 -- None of the conditions holds.
 abbrev AllFail : List (Bool × Cause) → Type 0
@@ -35,9 +35,9 @@ first_cause_fail [] fail = refl
 first_cause_fail ((true, cause) ∷ rest) fail = cc (fail.0)
 first_cause_fail ((false, cause) ∷ rest) fail = first_cause_fail rest fail.1
 
-pub begins_if_none : (octets : List ℕ) → fault octets ≡ None → Begins octets
+pub starts_if_none : (octets : List ℕ) → fault octets ≡ None → StartsAt octets
 unfolding fault
-begins_if_none octets e =
+starts_if_none octets e =
     let fail = AllFail_from_none (fault_table octets) e in
     let bad_code = fail.1.0 in
     let bad_length = fail.1.1.0 in
@@ -55,8 +55,8 @@ begins_if_none octets e =
       desires = λ h k s. grind (arith, nat_tests, bad_nak);
     }
 
-pub none_if_begins : (octets : List ℕ) → Begins octets → fault octets ≡ None
+pub none_if_starts : (octets : List ℕ) → StartsAt octets → fault octets ≡ None
 unfolding fault
-none_if_begins octets b =
+none_if_starts octets b =
     first_cause_fail (fault_table octets)
     (grind (arith, nat_tests), (grind (arith, nat_tests), (grind (arith, nat_tests), (grind (arith, nat_tests), (grind (arith, nat_tests), (grind (arith, nat_tests), (grind (arith, nat_tests), tt)))))))

@@ -8,7 +8,7 @@ use Rattle.octet_lists.specs.Among.{ietf}
 use Rattle.eap_packet.specs.Packet.{request, response, success, failure, IsPacket, AreTypedFields}
 use Rattle.eap_packet.specs.Expanded.{is_wrapped, inner_kind, inner_body}
 use Rattle.eap_packet.specs.Laws.{PlainIsPacket, WrapIsPacket}
-use Rattle.eap_packet.proofs.Spelling.{length-spelled}
+use Rattle.eap_packet.proofs.IsEncodingOf.{length-spelled}
 
 -- a wrapped packet has the Type inside, which is no Nak
 has_inner : (kind : ℕ) (body : List ℕ) → is_wrapped kind body ≡ true → 6 < length body
@@ -20,8 +20,8 @@ no_nak kind body is nak = grind (arith, nat_tests, is, nak)
 inner_fields : (id kind : ℕ) (body : List ℕ) → is_wrapped kind body ≡ true → AreTypedFields id kind body →
     AreTypedFields id (inner_kind body) (inner_body body)
 inner_fields id kind body is p = record {
-  id_fits = p.id_fits;
-  kind_fits = p.octets 6 0 (has_inner kind body is);
+  id_bounded = p.id_bounded;
+  kind_bounded = p.octets 6 0 (has_inner kind body is);
   octets = All-drop (λ b. b < 256) 7 body p.octets;
   size = omega (arith, length-drop 7 body, p.size);
 }
@@ -38,11 +38,11 @@ plain_is_packet (failure id) p = p
 
 wrapped_fields : (id kind : ℕ) (body : List ℕ) → AreTypedFields id kind body → length body ≤ 1488 → AreTypedFields id 254 (ietf ++ kind ∷ body)
 wrapped_fields id kind body p size = record {
-  id_fits = p.id_fits;
-  kind_fits = omega arith;
+  id_bounded = p.id_bounded;
+  kind_bounded = omega arith;
   octets = All-append (λ b. b < 256) ietf (kind ∷ body)
       (All-from_recursion (λ b. b < 256) ietf (omega arith, (omega arith, (omega arith, (omega arith, (omega arith, (omega arith, tt)))))))
-      (All-cons (λ b. b < 256) kind body p.kind_fits p.octets);
+      (All-cons (λ b. b < 256) kind body p.kind_bounded p.octets);
   size = omega arith;
 }
 

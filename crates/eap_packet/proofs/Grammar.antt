@@ -5,10 +5,10 @@ use Rattle.std.proofs.lemmas.List.Elements.{All-take, All-drop}
 use Rattle.eap_packet.specs.declared.cause.Cause.{Cause}
 use Rattle.eap_packet.specs.Packet.{PacketValue, spelled, IsPacket, IsOctets, AreTypedFields}
 use Rattle.eap_packet.specs.Fault.{code_of, length_of, type_of, fields_of, fault, packet_of, packet_unless}
-use Rattle.eap_packet.specs.Laws.{BeginsWith, SpellingsAreRead, SpellingsAreApart, ReadsTheSpelling, FaultlessIsSpelled}
-use Rattle.eap_packet.proofs.Faults.{Begins, AreFields, begins_if_none, none_if_begins}
-use Rattle.eap_packet.proofs.Fronts.{spelled_front}
-use Rattle.eap_packet.proofs.Spelling.{packet_of_spelled, begins_spelled}
+use Rattle.eap_packet.specs.Laws.{IsPrefixed, EncodingsAreRead, EncodingsAreApart, ReadsTheEncoding, FaultlessIsEncoded}
+use Rattle.eap_packet.proofs.Faults.{StartsAt, AreFields, starts_if_none, none_if_starts}
+use Rattle.eap_packet.proofs.Fronts.{encoding_front}
+use Rattle.eap_packet.proofs.IsEncodingOf.{packet_of_encoding, prefix_encoding}
 
 -- the octets of the Type-Data
 body_octets : (size : ℕ) (octets : List ℕ) → IsOctets octets → IsOctets (take (size - 5) (drop 5 octets))
@@ -22,8 +22,8 @@ body_size size octets whole = omega (arith, length-take (size - 5) (drop 5 octet
 typed_fields : (octets : List ℕ) (size : ℕ) → IsOctets octets → 5 ≤ size → size ≤ length octets → size ≤ 1500 →
     AreTypedFields (slice_index octets 1) (type_of octets) (take (size - 5) (drop 5 octets))
 typed_fields octets size small typed whole fits = record {
-  id_fits = small 1 0 (omega arith);
-  kind_fits = small 4 0 (omega arith);
+  id_bounded = small 1 0 (omega arith);
+  kind_bounded = small 4 0 (omega arith);
   octets = body_octets size octets small;
   size = omega (arith, body_size size octets whole);
 }
@@ -48,38 +48,38 @@ unless_ok : (found : Option Cause) (octets : List ℕ) (packet : PacketValue) �
 unless_ok None octets packet e = (refl, cc)
 unless_ok (Some cause) octets packet e = cc
 
-pub begins_if_read : (octets : List ℕ) (packet : PacketValue) → packet_of octets ≡ Ok packet → Begins octets
+pub starts_if_read : (octets : List ℕ) (packet : PacketValue) → packet_of octets ≡ Ok packet → StartsAt octets
 unfolding packet_of
-begins_if_read octets packet e = begins_if_none octets (unless_ok (fault octets) octets packet e).0
+starts_if_read octets packet e = starts_if_none octets (unless_ok (fault octets) octets packet e).0
 
 pub fields_if_read : (octets : List ℕ) (packet : PacketValue) → packet_of octets ≡ Ok packet → fields_of (code_of octets) octets ≡ packet
 unfolding packet_of
 fields_if_read octets packet e = (unless_ok (fault octets) octets packet e).1
 
 -- octets that begin with a packet are the spelling of their fields and what comes after
-begins_with_fields : (octets : List ℕ) → IsOctets octets → Begins octets → BeginsWith octets (fields_of (code_of octets) octets)
-begins_with_fields octets small b = record {
+prefixed_by_fields : (octets : List ℕ) → IsOctets octets → StartsAt octets → IsPrefixed octets (fields_of (code_of octets) octets)
+prefixed_by_fields octets small b = record {
   is_packet = fields_are_packet (code_of octets) octets small b;
   rest = drop (length_of octets) octets;
-  joined = sym (take-append-drop (length_of octets) octets) ∙ ap (λ front. front ++ drop (length_of octets) octets) (spelled_front octets small b);
+  joined = sym (take-append-drop (length_of octets) octets) ∙ ap (λ front. front ++ drop (length_of octets) octets) (encoding_front octets small b);
 }
 
-pub spellings_are_read : SpellingsAreRead
-spellings_are_read = packet_of_spelled
+pub encodings_are_read : EncodingsAreRead
+encodings_are_read = packet_of_encoding
 
-pub spellings_are_apart : SpellingsAreApart
-spellings_are_apart one other rest others p q e =
-    let same = sym (packet_of_spelled one rest p) ∙ ap packet_of e ∙ packet_of_spelled other others q in
+pub encodings_are_apart : EncodingsAreApart
+encodings_are_apart one other rest others p q e =
+    let same = sym (packet_of_encoding one rest p) ∙ ap packet_of e ∙ packet_of_encoding other others q in
     cc
 
-pub reads_the_spelling : ReadsTheSpelling
-reads_the_spelling octets packet small = (
-  λ e. subst (BeginsWith octets) (fields_if_read octets packet e) (begins_with_fields octets small (begins_if_read octets packet e)),
-  λ b. ap packet_of b.joined ∙ packet_of_spelled packet b.rest b.is_packet,
+pub reads_the_encoding : ReadsTheEncoding
+reads_the_encoding octets packet small = (
+  λ e. subst (IsPrefixed octets) (fields_if_read octets packet e) (prefixed_by_fields octets small (starts_if_read octets packet e)),
+  λ b. ap packet_of b.joined ∙ packet_of_encoding packet b.rest b.is_packet,
 )
 
-pub faultless_is_spelled : FaultlessIsSpelled
-faultless_is_spelled octets small = (
-  λ e. (fields_of (code_of octets) octets, begins_with_fields octets small (begins_if_none octets e)),
-  λ w. ap fault w.1.joined ∙ none_if_begins (spelled w.0 ++ w.1.rest) (begins_spelled w.0 w.1.rest w.1.is_packet),
+pub faultless_is_encoded : FaultlessIsEncoded
+faultless_is_encoded octets small = (
+  λ e. (fields_of (code_of octets) octets, prefixed_by_fields octets small (starts_if_none octets e)),
+  λ w. ap fault w.1.joined ∙ none_if_starts (spelled w.0 ++ w.1.rest) (prefix_encoding w.0 w.1.rest w.1.is_packet),
 )

@@ -7,7 +7,7 @@ pub mod Faults
 -- Octets that begin with a packet have its spelling as their front.
 pub mod Fronts
 -- The spelling of a packet: how long it is, and that it is read as that packet.
-pub mod Spelling
+pub mod IsEncodingOf
 -- The laws of the grammar.
 pub mod Grammar
 -- The list of an Expanded Nak by its entries of eight octets.

@@ -49,9 +49,9 @@ nak_octets : packet_of (2 ∷ 1 ∷ 0 ∷ 20 ∷ 254 ∷ 0 ∷ 0 ∷ 0 ∷ 0 ∷
 unfolding packet_of fault
 nak_octets = refl
 
-nak_is_taken : is_bad_expanded (response 1 254 (0 ∷ 0 ∷ 0 ∷ 0 ∷ 0 ∷ 0 ∷ 3 ∷ 254 ∷ 0 ∷ 0 ∷ 0 ∷ 0 ∷ 0 ∷ 0 ∷ 47 ∷ [])) ≡ false
+nak_is_accepted : is_bad_expanded (response 1 254 (0 ∷ 0 ∷ 0 ∷ 0 ∷ 0 ∷ 0 ∷ 3 ∷ 254 ∷ 0 ∷ 0 ∷ 0 ∷ 0 ∷ 0 ∷ 0 ∷ 47 ∷ [])) ≡ false
 unfolding are_expanded
-nak_is_taken = refl
+nak_is_accepted = refl
 
 nak_is_plain : plain (response 1 254 (0 ∷ 0 ∷ 0 ∷ 0 ∷ 0 ∷ 0 ∷ 3 ∷ 254 ∷ 0 ∷ 0 ∷ 0 ∷ 0 ∷ 0 ∷ 0 ∷ 47 ∷ []))
     ≡ response 1 254 (0 ∷ 0 ∷ 0 ∷ 0 ∷ 0 ∷ 0 ∷ 3 ∷ 254 ∷ 0 ∷ 0 ∷ 0 ∷ 0 ∷ 0 ∷ 0 ∷ 47 ∷ [])

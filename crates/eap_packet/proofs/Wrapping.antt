@@ -8,7 +8,7 @@ use Rattle.octet_lists.specs.Among.{ietf}
 use Rattle.eap_packet.specs.Packet.{PacketValue, request, response, success, failure, spelled, frame_of, two_octets}
 use Rattle.eap_packet.specs.Fault.{length_of}
 use Rattle.eap_packet.specs.Expanded.{has_plain, is_plain_body, is_wrapped, inner_kind, inner_body, expanded_form}
-use Rattle.eap_packet.specs.Laws.{PlainOfWrap, WrapsTheSpelling, OnlyWrappedDiffer}
+use Rattle.eap_packet.specs.Laws.{PlainOfWrap, WrapsTheEncoding, OnlyWrappedDiffer}
 
 if_so : {A : Type 0} (b : Bool) (one other : A) → b ≡ true → (if b then one else other) ≡ one
 if_so true one other e = refl
@@ -29,24 +29,24 @@ plain_of_wrap (failure id) has = refl
 length_typed : (code id kind : ℕ) (body rest : List ℕ) → length_of (frame_of code id (kind ∷ body) ++ rest) ≡ length body + 5
 length_typed code id kind body rest = omega arith
 
-behind_length : (code id kind : ℕ) (body rest : List ℕ) →
+trailing_length : (code id kind : ℕ) (body rest : List ℕ) →
     (let octets = frame_of code id (kind ∷ body) ++ rest in take (length_of octets - 4) (drop 4 octets) ≡ kind ∷ body)
-behind_length code id kind body rest = take_at (kind ∷ body) rest _ (omega arith)
+trailing_length code id kind body rest = take_at (kind ∷ body) rest _ (omega arith)
 
 wrapped_framed : (code id kind : ℕ) (body rest : List ℕ) →
     expanded_form (frame_of code id (kind ∷ body) ++ rest) ≡ frame_of code id (254 ∷ ietf ++ kind ∷ body)
 wrapped_framed code id kind body rest =
     ap (λ (n : ℕ). code ∷ id ∷ two_octets n ++ 254 ∷ ietf ++ take (length_of (frame_of code id (kind ∷ body) ++ rest) - 4) (kind ∷ body ++ rest))
     (let size = length_typed code id kind body rest in omega arith)
-    ∙ ap (λ (tail : List ℕ). code ∷ id ∷ two_octets (length body + 12) ++ 254 ∷ ietf ++ tail) (behind_length code id kind body rest)
+    ∙ ap (λ (tail : List ℕ). code ∷ id ∷ two_octets (length body + 12) ++ 254 ∷ ietf ++ tail) (trailing_length code id kind body rest)
     ∙ ap (λ (n : ℕ). code ∷ id ∷ two_octets n ++ 254 ∷ ietf ++ kind ∷ body) (omega arith)
 
-pub wraps_the_spelling : WrapsTheSpelling
+pub wraps_the_encoding : WrapsTheEncoding
 unfolding spelled
-wraps_the_spelling (request id kind body) rest is = wrapped_framed 1 id kind body rest
-wraps_the_spelling (response id kind body) rest is = wrapped_framed 2 id kind body rest
-wraps_the_spelling (success id) rest is = elim is [ ]
-wraps_the_spelling (failure id) rest is = elim is [ ]
+wraps_the_encoding (request id kind body) rest is = wrapped_framed 1 id kind body rest
+wraps_the_encoding (response id kind body) rest is = wrapped_framed 2 id kind body rest
+wraps_the_encoding (success id) rest is = elim is [ ]
+wraps_the_encoding (failure id) rest is = elim is [ ]
 
 -- the Type inside is another than 254
 inner_differs : (kind : ℕ) (body : List ℕ) → is_wrapped kind body ≡ true → inner_kind body ≡ kind → ⊥

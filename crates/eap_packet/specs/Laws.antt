@@ -6,30 +6,30 @@ use Rattle.eap_packet.specs.Fault.{fault, packet_of}
 use Rattle.eap_packet.specs.Expanded.{vendor_of, vendor_type_of, is_ietf, is_nak_body, inner_kind, has_plain, has_plain_form, plain, wrap, expanded_form}
 
 -- the octets are the packet's encoding with some octets behind it
-pub record BeginsWith (octets : List ℕ) (packet : PacketValue) : Type 0 where
+pub record IsPrefixed (octets : List ℕ) (packet : PacketValue) : Type 0 where
   pub is_packet : IsPacket packet
   pub rest : List ℕ
   pub joined : octets ≡ spelled packet ++ rest
 
 -- an encoding with any octets behind it is read as its packet
-abbrev pub SpellingsAreRead : Type 0
-SpellingsAreRead = (packet : PacketValue) (rest : List ℕ) → IsPacket packet → packet_of (spelled packet ++ rest) ≡ Ok packet
+abbrev pub EncodingsAreRead : Type 0
+EncodingsAreRead = (packet : PacketValue) (rest : List ℕ) → IsPacket packet → packet_of (spelled packet ++ rest) ≡ Ok packet
 
 -- no two packets have encodings that begin one list
-abbrev pub SpellingsAreApart : Type 0
-SpellingsAreApart =
+abbrev pub EncodingsAreApart : Type 0
+EncodingsAreApart =
     (one other : PacketValue) (rest others : List ℕ) → IsPacket one → IsPacket other →
     spelled one ++ rest ≡ spelled other ++ others → one ≡ other
 
 -- what is read is the packet with whose encoding the octets begin
-abbrev pub ReadsTheSpelling : Type 0
-ReadsTheSpelling =
-    (octets : List ℕ) (packet : PacketValue) → IsOctets octets → (packet_of octets ≡ Ok packet) ↔ BeginsWith octets packet
+abbrev pub ReadsTheEncoding : Type 0
+ReadsTheEncoding =
+    (octets : List ℕ) (packet : PacketValue) → IsOctets octets → (packet_of octets ≡ Ok packet) ↔ IsPrefixed octets packet
 
 -- no cause applies exactly if the octets begin with the encoding of some packet
-abbrev pub FaultlessIsSpelled : Type 0
-FaultlessIsSpelled =
-    (octets : List ℕ) → IsOctets octets → (fault octets ≡ None) ↔ ((packet : PacketValue) × BeginsWith octets packet)
+abbrev pub FaultlessIsEncoded : Type 0
+FaultlessIsEncoded =
+    (octets : List ℕ) → IsOctets octets → (fault octets ≡ None) ↔ ((packet : PacketValue) × IsPrefixed octets packet)
 
 -- the fields of Type-Data are whole: Vendor-Id 0 and a Vendor-Type under 256, which is the Type
 -- inside (section 5.7)
@@ -70,8 +70,8 @@ IsTyped (success id) = ⊥
 IsTyped (failure id) = ⊥
 
 -- a packet's encoding, with any octets behind it, is wrapped as the packet is
-abbrev pub WrapsTheSpelling : Type 0
-WrapsTheSpelling =
+abbrev pub WrapsTheEncoding : Type 0
+WrapsTheEncoding =
     (packet : PacketValue) (rest : List ℕ) → IsTyped packet → expanded_form (spelled packet ++ rest) ≡ spelled (wrap packet)
 
 -- the plain form of a packet is one

@@ -45,8 +45,8 @@ max_type_data = 1495
 
 -- the Identifier, the Type and the Type-Data of a packet of at most 1,500 octets
 pub record AreTypedFields (id kind : ℕ) (body : List ℕ) : Type 0 where
-  pub id_fits : id < 256
-  pub kind_fits : kind < 256
+  pub id_bounded : id < 256
+  pub kind_bounded : kind < 256
   pub octets : IsOctets body
   pub size : length body ≤ max_type_data
 

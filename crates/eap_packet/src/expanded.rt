@@ -8,7 +8,7 @@ ghost use Rattle.eap_packet.specs.Packet.{spelled, value_of, two_octets, max_typ
 ghost use Rattle.eap_packet.specs.Fault.{length_of};
 ghost use Rattle.eap_packet.specs.Expanded.{expanded_value, expanded_of, is_ietf, has_plain, is_wrapped, has_plain_form, plain, expanded_form, are_expanded, are_entries, is_bad_body, is_bad_expanded};
 
-use crate::packet::{Code, PacketView, begin_into, length_field};
+use crate::packet::{Code, PacketView, init_into, length_field};
 use byteorder::{BigEndian, ByteOrder};
 use octet_lists::{EXPANDED, IETF, NAK, NAK_ENTRY_SIZE, Packet, VENDOR_SIZE};
 
@@ -130,7 +130,7 @@ pub fn write_plain(view: &PacketView, packet: &mut Packet) -> bool
     if !has_plain_form(view) {
         return false;
     }
-    begin_into(
+    init_into(
         packet,
         view.code,
         view.id,

@@ -1,30 +1,30 @@
 //! Laws of the packets' grammar (RFC 3748 section 4) and of Expanded Types (section 5.7). Each is the
 //! contract of a function that does nothing.
 
-ghost use Rattle.eap_packet.specs.Laws.{SpellingsAreRead, SpellingsAreApart, ReadsTheSpelling, FaultlessIsSpelled, IetfIsVendorZero, NakIsVendorZero, PlainOfWrap, OnlyWrappedDiffer, WrapsTheSpelling, PlainIsPacket, WrapIsPacket};
+ghost use Rattle.eap_packet.specs.Laws.{EncodingsAreRead, EncodingsAreApart, ReadsTheEncoding, FaultlessIsEncoded, IetfIsVendorZero, NakIsVendorZero, PlainOfWrap, OnlyWrappedDiffer, WrapsTheEncoding, PlainIsPacket, WrapIsPacket};
 
 /// A packet's encoding, with any octets behind it, is read as that packet.
-#[tactic(auto, using(crate::proofs::Grammar::spellings_are_read))]
-pub fn spellings_are_read()
-    ensures { SpellingsAreRead }
+#[tactic(auto, using(crate::proofs::Grammar::encodings_are_read))]
+pub fn encodings_are_read()
+    ensures { EncodingsAreRead }
 {}
 
 /// No two packets have encodings that begin one list of octets.
-#[tactic(auto, using(crate::proofs::Grammar::spellings_are_apart))]
-pub fn spellings_are_apart()
-    ensures { SpellingsAreApart }
+#[tactic(auto, using(crate::proofs::Grammar::encodings_are_apart))]
+pub fn encodings_are_apart()
+    ensures { EncodingsAreApart }
 {}
 
 /// What is read is the packet with whose encoding the octets begin, and that one alone.
-#[tactic(auto, using(crate::proofs::Grammar::reads_the_spelling))]
-pub fn reads_the_spelling()
-    ensures { ReadsTheSpelling }
+#[tactic(auto, using(crate::proofs::Grammar::reads_the_encoding))]
+pub fn reads_the_encoding()
+    ensures { ReadsTheEncoding }
 {}
 
 /// No cause applies exactly if the octets begin with the encoding of some packet.
-#[tactic(auto, using(crate::proofs::Grammar::faultless_is_spelled))]
-pub fn faultless_is_spelled()
-    ensures { FaultlessIsSpelled }
+#[tactic(auto, using(crate::proofs::Grammar::faultless_is_encoded))]
+pub fn faultless_is_encoded()
+    ensures { FaultlessIsEncoded }
 {}
 
 /// Type-Data is that of a Type of the IETF exactly if its Vendor-Id is 0 and its Vendor-Type is
@@ -56,9 +56,9 @@ pub fn only_wrapped_differ()
 
 /// A packet's encoding, with any octets behind it, is wrapped as the packet is: what `wrap` writes is
 /// the encoding of the wrapped packet.
-#[tactic(auto, using(crate::proofs::Wrapping::wraps_the_spelling))]
-pub fn wraps_the_spelling()
-    ensures { WrapsTheSpelling }
+#[tactic(auto, using(crate::proofs::Wrapping::wraps_the_encoding))]
+pub fn wraps_the_encoding()
+    ensures { WrapsTheEncoding }
 {}
 
 /// The plain form of a packet is a packet: its encoding is read as it.

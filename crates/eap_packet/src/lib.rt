@@ -13,12 +13,12 @@ pub use expanded::{
     Expanded, is_bad_expanded, plain, read_expanded, wrap, wrap_in_place, write_plain,
 };
 pub use laws::{
-    faultless_is_spelled, ietf_is_vendor_zero, nak_is_vendor_zero, only_wrapped_differ,
-    plain_is_packet, plain_of_wrap, reads_the_spelling, spellings_are_apart, spellings_are_read,
-    wrap_is_packet, wraps_the_spelling,
+    encodings_are_apart, encodings_are_read, faultless_is_encoded, ietf_is_vendor_zero,
+    nak_is_vendor_zero, only_wrapped_differ, plain_is_packet, plain_of_wrap, reads_the_encoding,
+    wrap_is_packet, wraps_the_encoding,
 };
 pub use packet::{
-    Code, PacketView, View, begin_into, decode, encode, encode_end, encode_end_into, encode_into,
+    Code, PacketView, View, decode, encode, encode_end, encode_end_into, encode_into, init_into,
 };
 pub use path::Path;
 pub use state::State;

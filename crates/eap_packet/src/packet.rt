@@ -115,7 +115,7 @@ fn end_view<'a>(code: Code, octets: &'a [u8]) -> PacketView<'a>
 }
 
 /// The packet that the octets begin with.
-#[tactic(auto, using(crate::proofs::Faults::begins_if_none))]
+#[tactic(auto, using(crate::proofs::Faults::starts_if_none))]
 fn view_of<'a>(octets: &'a [u8]) -> PacketView<'a>
     requires { fault octets.now ≡ None }
     ensures value { value_of result ≡ fields_of (code_of octets.now) octets.now }
@@ -163,7 +163,7 @@ fn header(code: Code, id: u8, length: usize) -> [u8; 4]
 /// Writes the fields before the Type-Data of a Request or a Response of this Type (RFC 3748 section
 /// 4.1), in place of what the packet had. Its Length counts `size` octets of Type-Data, which are yet
 /// to be appended.
-pub fn begin_into(packet: &mut Packet, code: Code, id: u8, kind: u8, size: usize)
+pub fn init_into(packet: &mut Packet, code: Code, id: u8, kind: u8, size: usize)
     requires typed { IsTrue (has_type code) }
     requires fits { size ≤ max_type_data }
     requires no_nak_request { code ≡ Code.Request → kind ≢ nak_kind }
@@ -184,7 +184,7 @@ pub fn encode_into(packet: &mut Packet, code: Code, id: u8, kind: u8, body: &[u8
     requires nak_desires { code ≡ Code.Response → kind ≡ nak_kind → body.now ≢ [] }
     ensures { packet.new ≡ spelled (value_with code id kind body.now) }
 {
-    begin_into(packet, code, id, kind, body.len());
+    init_into(packet, code, id, kind, body.len());
     packet.put(body);
 }
 

@@ -3,7 +3,7 @@ use Rattle.std.proofs.Common.{◌≡◌, List, [], ◌∷◌, ◌++◌, Result, 
 use Rattle.login_setup.specs.declared.event.Event.{Event}
 use Rattle.login_setup.specs.declared.setup.Setup.{Setup}
 use Rattle.eap_world.specs.Run.{run_of}
-use Rattle.eap_world.specs.World.{WorldNow, WorldOutcome, world_outcome, world_made, world_start, world_step, run_after}
+use Rattle.eap_world.specs.World.{WorldNow, WorldOutcome, world_outcome, initial_world, world_start, world_step, run_after}
 use Rattle.eap_world.specs.declared.told.Brief.{Brief}
 
 one_more : (w : WorldNow) (events : List Event) (e : Event) → (world_step (run_after w events) e).after ≡ run_after w (events ++ (e ∷ []))
@@ -11,22 +11,22 @@ unfolding run_after
 one_more w [] e = refl
 one_more w (first ∷ rest) e = one_more (world_step w first).after rest e
 
-no_events : (setup : Setup) → (world_start (world_made setup)).after ≡ run_of setup []
+no_events : (setup : Setup) → (world_start (initial_world setup)).after ≡ run_of setup []
 unfolding run_after
 no_events setup = refl
 
 module _ {E : Type 0} (before after : WorldNow) (same : Type 0) where
   -- a world that was made and has started
-  pub run_begins : (result : Result Brief E) → MatchResult result (λ told. world_start before ≡ world_outcome told after) (λ error. same)
-      → IfOk result (λ told. (setup : Setup) → before ≡ world_made setup → after ≡ run_of setup [])
-  run_begins (Err error) h = tt
-  run_begins (Ok told) h = λ setup made.
+  pub run_starts : (result : Result Brief E) → MatchResult result (λ told. world_start before ≡ world_outcome told after) (λ error. same)
+      → IfOk result (λ told. (setup : Setup) → before ≡ initial_world setup → after ≡ run_of setup [])
+  run_starts (Err error) h = tt
+  run_starts (Ok told) h = λ setup made.
       sym (ap (λ (out : WorldOutcome). out.after) h) ∙ (ap (λ (w : WorldNow). (world_start w).after) made ∙ no_events setup)
 
   -- a world of a run that has taken an event
-  pub run_goes_on : (e : Event) (result : Result Brief E) → MatchResult result (λ told. world_step before e ≡ world_outcome told after) (λ error. same)
+  pub run_continues : (e : Event) (result : Result Brief E) → MatchResult result (λ told. world_step before e ≡ world_outcome told after) (λ error. same)
       → IfOk result (λ told. (setup : Setup) (events : List Event) → before ≡ run_of setup events → after ≡ run_of setup (events ++ (e ∷ [])))
-  run_goes_on e (Err error) h = tt
-  run_goes_on e (Ok told) h = λ setup events is.
+  run_continues e (Err error) h = tt
+  run_continues e (Ok told) h = λ setup events is.
       sym (ap (λ (out : WorldOutcome). out.after) h)
-      ∙ (ap (λ (w : WorldNow). (world_step w e).after) is ∙ one_more (world_start (world_made setup)).after events e)
+      ∙ (ap (λ (w : WorldNow). (world_step w e).after) is ∙ one_more (world_start (initial_world setup)).after events e)

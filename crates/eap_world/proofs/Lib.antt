@@ -1,9 +1,9 @@
 -- The run goes on event by event.
 pub mod EventByEvent
 -- The nonces that are left, as they are kept, and whether the first two conversations differ.
-pub mod Kept
+pub mod TwoRecords
 -- Octets are heard from their end, place by place.
-pub mod HeardByPlaces
+pub mod ReceivedByPlaces
 -- Which ends have been seen to hold a report, before an event: it stays where no end begins a new conversation.
 pub mod InConversation
 -- The server of a world that has started has the role of the mode, and octets may come to it.
@@ -13,4 +13,4 @@ pub mod StillThere
 -- What is stored stays where more is stored.
 pub mod Storing
 -- What is told of a call, with the report that is told.
-pub mod Telling
+pub mod Implying

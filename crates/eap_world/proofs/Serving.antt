@@ -3,7 +3,7 @@ use Rattle.std.proofs.Common.{◌≡◌, List, false, Option, Some, None, refl, 
 use Rattle.login_setup.specs.declared.event.Event.{Event}
 use Rattle.login_setup.specs.declared.setup.Mode.{Mode}
 use Rattle.login_setup.specs.declared.setup.Mode.TheVariants as mode
-use Rattle.server_machine.specs.Inputs.{server_takes, start}
+use Rattle.server_machine.specs.Inputs.{server_accepts, start}
 use Rattle.server_machine.specs.ServerTable.{ServerNow, is_started, server_start}
 use Rattle.server_machine.specs.declared.variables.Role.TheVariants.{StandAlone}
 use Rattle.server_machine.proofs.Starting.{backend_is_ready, stays_as_it_is}
@@ -39,7 +39,7 @@ act_serves parties after conversations sent e action is serving =
 
 -- the stand-alone server starts
 alone-starts : (server : ServerNow) → server.vars.role ≡ StandAlone → is_started server.vars ≡ false
-    → IsServing mode.Alone (server_takes server start).after.vars
+    → IsServing mode.Alone (server_accepts server start).after.vars
 unfolding server_start
 alone-starts server alone unstarted = rw unstarted (record { role = alone; ready = rw alone refl })
 

@@ -28,10 +28,10 @@ one_more octets packet slots port place size is =
     map-append (packet_at octets) slots _ ∙ ap (λ (o : List ℕ). packets_at octets slots ++ (record { port = port; octets = o }) ∷ []) is
 
 -- one more packet, whose octets are stored behind the others
-pub stored_behind : (octets packet : List ℕ) (slots : List Slot) (port : Port) (size : ℕ) → size ≡ length packet → AreThere (length octets) slots
+pub stored_after : (octets packet : List ℕ) (slots : List Slot) (port : Port) (size : ℕ) → size ≡ length packet → AreThere (length octets) slots
     → packets_at (octets ++ packet) (slots ++ (record { port = port; place = length octets; length = size }) ∷ [])
     ≡ packets_at octets slots ++ (record { port = port; octets = packet }) ∷ []
-stored_behind octets packet slots port size is there =
+stored_after octets packet slots port size is there =
     let whole : take size (drop (length octets) (octets ++ packet)) ≡ packet = rw (drop-append_seam octets packet, is) (take_all (length packet) packet (omega arith)) in
     one_more (octets ++ packet) packet slots port (length octets) size whole
     ∙ ap (λ (front : List Sent). front ++ (record { port = port; octets = packet }) ∷ []) (all_stay octets packet slots there)

@@ -8,7 +8,7 @@ use Rattle.login_setup.specs.declared.setup.Setup.{Setup}
 use Rattle.tag_book.specs.Book.{same_end}
 use Rattle.tag_book.specs.declared.book.End.{End}
 use Rattle.tag_book.specs.declared.book.End.TheVariants as end
-use Rattle.eap_world.specs.declared.conversations.Begun.{Begun}
+use Rattle.eap_world.specs.declared.conversations.ConversationStart.{ConversationStart}
 use Rattle.eap_world.specs.declared.conversations.Waiting.{Waiting}
 
 -- the first sixteen octets of a nonce, of which EAP-PSK takes its own (RFC 4764 section 3.2)
@@ -16,16 +16,16 @@ abbrev pub front : List ℕ → List ℕ
 front nonce = take 16 nonce
 
 -- whether octets occur in others, one after the other
-unfoldable pub stands_in : List ℕ → List ℕ → Bool
-stands_in part [] = bytes_eq [] part
-stands_in part (x ∷ rest) = bytes_eq (take (length part) (x ∷ rest)) part || stands_in part rest
+unfoldable pub occurs_in : List ℕ → List ℕ → Bool
+occurs_in part [] = bytes_eq [] part
+occurs_in part (x ∷ rest) = bytes_eq (take (length part) (x ∷ rest)) part || occurs_in part rest
 
 -- the nonces that each end still has, in their order; the conversations that have begun, in theirs; and whether each of
 -- these began with a fresh nonce
 pub record Conversations : Type 0 where
   pub peer_left : List Waiting
   pub server_left : List Waiting
-  pub begun : List Begun
+  pub begun : List ConversationStart
   pub fresh : Bool
 
 -- a nonce that is still to be used, and has occurred in no delivery
@@ -33,21 +33,21 @@ abbrev pub waiting : List ℕ → Waiting
 waiting nonce = record { nonce = nonce; heard = false }
 
 -- a conversation that began in this event, at this end, with this nonce
-abbrev pub beginning : ℕ → End → List ℕ → Begun
+abbrev pub beginning : ℕ → End → List ℕ → ConversationStart
 beginning event end nonce = record { event = event; end = end; nonce = nonce }
 
 -- octets are delivered to some party: a nonce whose prefix occurs in them isn't fresh any more
 abbrev pub hears : List ℕ → Waiting → Waiting
-hears octets one = record { nonce = one.nonce; heard = one.heard || stands_in (front one.nonce) octets }
+hears octets one = record { nonce = one.nonce; heard = one.heard || occurs_in (front one.nonce) octets }
 
-abbrev pub heard_by : List ℕ → Conversations → Conversations
-heard_by octets all = record all { peer_left = map (hears octets) all.peer_left; server_left = map (hears octets) all.server_left }
+abbrev pub delivered_by : List ℕ → Conversations → Conversations
+delivered_by octets all = record all { peer_left = map (hears octets) all.peer_left; server_left = map (hears octets) all.server_left }
 
 -- whether a conversation has begun with a nonce of this prefix
-abbrev pub is_used : List Begun → List ℕ → Bool
-is_used all nonce = list_any (λ (b : Begun). bytes_eq (front b.nonce) (front nonce)) all
+abbrev pub is_used : List ConversationStart → List ℕ → Bool
+is_used all nonce = list_any (λ (b : ConversationStart). bytes_eq (front b.nonce) (front nonce)) all
 
-abbrev pub is_new : List Begun → Waiting → Bool
+abbrev pub is_new : List ConversationStart → Waiting → Bool
 is_new all one = not one.heard && not (is_used all one.nonce)
 
 -- an end begins a conversation with the nonce
@@ -56,13 +56,13 @@ begins event end one all =
     record all { begun = all.begun ++ beginning event end one.nonce ∷ []; fresh = all.fresh && is_new all.begun one }
 
 -- with the next of its nonces, if it has one
-abbrev pub peer_begins : ℕ → Conversations → List Waiting → Conversations
-peer_begins event all [] = all
-peer_begins event all (one ∷ left) = begins event end.Peer one (record all { peer_left = left })
+abbrev pub peer_initiates : ℕ → Conversations → List Waiting → Conversations
+peer_initiates event all [] = all
+peer_initiates event all (one ∷ left) = begins event end.Peer one (record all { peer_left = left })
 
-abbrev pub server_begins : ℕ → Conversations → List Waiting → Conversations
-server_begins event all [] = all
-server_begins event all (one ∷ left) = begins event end.Server one (record all { server_left = left })
+abbrev pub server_initiates : ℕ → Conversations → List Waiting → Conversations
+server_initiates event all [] = all
+server_initiates event all (one ∷ left) = begins event end.Server one (record all { server_left = left })
 
 -- the nonce with which an end would begin
 abbrev pub next_nonce : List Waiting → Option (List ℕ)
@@ -78,25 +78,25 @@ conversations_from peer server later = record {
   fresh = not (bytes_eq (front peer) (front server));
 }
 
-abbrev pub conversations_made : Setup → Conversations
-conversations_made setup = conversations_from setup.peer.nonce setup.server.nonce setup.later
+abbrev pub initial_conversations : Setup → Conversations
+initial_conversations setup = conversations_from setup.peer.nonce setup.server.nonce setup.later
 
 -- the event in which the present conversation of an end has begun
-unfoldable pub since_from : ℕ → End → List Begun → ℕ
+unfoldable pub since_from : ℕ → End → List ConversationStart → ℕ
 since_from last end [] = last
 since_from last end (b ∷ rest) = since_from (if same_end b.end end then b.event else last) end rest
 
-abbrev pub since_of : End → List Begun → ℕ
+abbrev pub since_of : End → List ConversationStart → ℕ
 since_of end all = since_from 0 end all
 
 -- whether an end has begun a conversation with this nonce
-abbrev pub has_begun : End → List ℕ → List Begun → Bool
-has_begun end nonce all = list_any (λ (b : Begun). same_end b.end end && bytes_eq b.nonce nonce) all
+abbrev pub has_initiated : End → List ℕ → List ConversationStart → Bool
+has_initiated end nonce all = list_any (λ (b : ConversationStart). same_end b.end end && bytes_eq b.nonce nonce) all
 
 -- how many conversations an end has begun
-abbrev pub one_of : End → Begun → ℕ
+abbrev pub one_of : End → ConversationStart → ℕ
 one_of end b = if same_end b.end end then 1 else 0
 
-unfoldable pub begun_by : End → List Begun → ℕ
-begun_by end [] = 0
-begun_by end (b ∷ rest) = one_of end b + begun_by end rest
+unfoldable pub initiated_by : End → List ConversationStart → ℕ
+initiated_by end [] = 0
+initiated_by end (b ∷ rest) = one_of end b + initiated_by end rest

@@ -1,8 +1,8 @@
 pub mod Sent
 pub mod Store
 pub mod Conversations
-pub mod Hearing
-pub mod Kept
+pub mod Receiving
+pub mod TwoRecords
 pub mod World
 pub mod Judgement
 pub mod Run

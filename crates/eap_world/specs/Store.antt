@@ -12,8 +12,8 @@ use Rattle.eap_world.specs.declared.store.Stored.{Stored}
 pub record StoreValue : Type 0 where
   pub packets : List Sent
   pub stored : ℕ
-  pub octets_room : ℕ
-  pub packets_room : ℕ
+  pub octets_capacity : ℕ
+  pub packets_capacity : ℕ
 
 -- the packet whose octets are at a slot
 abbrev pub packet_at : List ℕ → Slot → Sent

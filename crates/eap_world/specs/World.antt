@@ -15,30 +15,30 @@ use Rattle.eap_method.specs.Peer.{PeerShown, have_each, peer_kinds}
 use Rattle.eap_method.specs.Server.{ServerShown, server_kinds}
 use Rattle.eap_method.specs.Steps.{Step, step_with, is_end}
 use Rattle.eap_method.specs.Tags.{Tags, no_tags}
-use Rattle.eap_method.specs.Unnamed.{KeepsPeers, KeepsServers}
+use Rattle.eap_method.specs.Unnamed.{PreservesPeers, PreservesServers}
 use Rattle.eap_method.specs.declared.values.Report.{Report}
 use Rattle.peer_machine.specs.Inputs as peer_inputs
-use Rattle.peer_machine.specs.Inputs.{PeerInput, peer_takes}
+use Rattle.peer_machine.specs.Inputs.{PeerInput, peer_accepts}
 use Rattle.peer_machine.specs.PeerTable as peers
-use Rattle.peer_machine.specs.PeerTable.{PeerValue, PeerNow, peer_made, peer_reports}
+use Rattle.peer_machine.specs.PeerTable.{PeerValue, PeerNow, initial_peer, peer_reports}
 use Rattle.server_machine.specs.Inputs as server_inputs
-use Rattle.server_machine.specs.Inputs.{ServerInput, server_takes}
+use Rattle.server_machine.specs.Inputs.{ServerInput, server_accepts}
 use Rattle.server_machine.specs.ServerTable as servers
-use Rattle.server_machine.specs.ServerTable.{ServerValue, ServerNow, server_made, server_reports, is_ready, is_started}
+use Rattle.server_machine.specs.ServerTable.{ServerValue, ServerNow, initial_server, server_reports, is_ready, is_started}
 use Rattle.server_machine.specs.declared.variables.Role.{Role}
 use Rattle.server_machine.specs.declared.variables.Role.TheVariants as role
 use Rattle.server_machine.specs.declared.variables.ServerVariables.{ServerVariables}
 use Rattle.pass_through.specs.Inputs as pass_inputs
-use Rattle.pass_through.specs.Inputs.{PassInput, pass_takes}
+use Rattle.pass_through.specs.Inputs.{PassInput, pass_accepts}
 use Rattle.pass_through.specs.PassTable as passes
-use Rattle.pass_through.specs.PassTable.{Side, PassStep, pass_made, is_over, has_timer, is_aaa_idle}
+use Rattle.pass_through.specs.PassTable.{Side, PassStep, initial_pass, is_over, has_timer, is_aaa_idle}
 use Rattle.pass_through.specs.declared.variables.PassVariables.{PassVariables}
 use Rattle.tag_book.specs.Book.{entries_of}
-use Rattle.eap_world.specs.Conversations.{Conversations, conversations_made, heard_by, peer_begins, server_begins}
+use Rattle.eap_world.specs.Conversations.{Conversations, initial_conversations, delivered_by, peer_initiates, server_initiates}
 use Rattle.eap_world.specs.Sent.{Sent, packet_numbered}
 use Rattle.eap_world.specs.declared.act.Action as brief_action
 use Rattle.eap_world.specs.declared.act.Action.TheVariants as brief
-use Rattle.eap_world.specs.declared.act.Did as brief_did
+use Rattle.eap_world.specs.declared.act.CallResult as brief_did
 use Rattle.eap_world.specs.declared.act.Machines.{Machines}
 use Rattle.tag_book.specs.declared.book.Entry.{Entry}
 use Rattle.eap_world.specs.declared.conversations.Waiting.{Waiting}
@@ -52,7 +52,7 @@ use Rattle.eap_world.specs.declared.told.SentPacket.{SentPacket}
 use Rattle.eap_world.specs.declared.told.Told.{Told}
 use Rattle.eap_world.specs.declared.told.Skip.{Skip}
 use Rattle.eap_world.specs.declared.told.Skip.TheVariants.{NoParty, Unsent, Place, Ended, NoTimer, NoNonce}
-use Rattle.eap_world.specs.declared.world.Held.{Held}
+use Rattle.eap_world.specs.declared.world.HasReported.{HasReported}
 
 -- a world as its fields show it: its mode, its machines, the packets sent so far in order and how many octets
 -- are stored for them, the book of tags, the counts, which ends have had a report in their present conversations, the
@@ -66,7 +66,7 @@ pub record WorldValue (P S : Type 0) : Type 0 where
   pub stored : ℕ
   pub book : List Entry
   pub counts : Counts
-  pub held : Held
+  pub held : HasReported
   pub conversations : Conversations
   pub version : ℕ
   pub started : Bool
@@ -85,7 +85,7 @@ pub record WorldNow : Type 0 where
   pub sent : List Sent
   pub book : List Entry
   pub counts : Counts
-  pub held : Held
+  pub held : HasReported
   pub conversations : Conversations
   pub version : ℕ
   pub started : Bool
@@ -109,20 +109,20 @@ now_of peer_shown server_shown w = record {
 
 -- the objects of both ends, which name these methods, are of the same methods before and after, and those of methods
 -- that aren't named are as they were
-pub record KeepObjects {P S : Type 0} (peer_shown : P → PeerShown) (server_shown : S → ServerShown) (peer_named server_named : List ℕ)
+pub record PreservesObjects {P S : Type 0} (peer_shown : P → PeerShown) (server_shown : S → ServerShown) (peer_named server_named : List ℕ)
     (peer : List P) (server : List S) (peer_after : List P) (server_after : List S) : Type 0 where
-  pub peer_kept : KeepsPeers peer_named (map peer_shown peer) (map peer_shown peer_after)
-  pub server_kept : KeepsServers server_named (map server_shown server) (map server_shown server_after)
+  pub peer_preserved : PreservesPeers peer_named (map peer_shown peer) (map peer_shown peer_after)
+  pub server_preserved : PreservesServers server_named (map server_shown server) (map server_shown server_after)
 
-abbrev pub KeepsObjects : {P S : Type 0} → (P → PeerShown) → (S → ServerShown) → WorldValue P S → WorldValue P S → Type 0
-KeepsObjects peer_shown server_shown before after =
-    KeepObjects peer_shown server_shown before.peer.vars.setup.methods before.server.vars.setup.methods
+abbrev pub PreservesAllObjects : {P S : Type 0} → (P → PeerShown) → (S → ServerShown) → WorldValue P S → WorldValue P S → Type 0
+PreservesAllObjects peer_shown server_shown before after =
+    PreservesObjects peer_shown server_shown before.peer.vars.setup.methods before.server.vars.setup.methods
     before.peer.methods before.server.methods after.peer.methods after.server.methods
 
 -- the machines run in the same mode before and after, over the same objects, and their settings name the same methods
 pub record RunAlike {P S : Type 0} (peer_shown : P → PeerShown) (server_shown : S → ServerShown) (before after : Machines P S) : Type 0 where
   pub mode : after.mode ≡ before.mode
-  pub kept : KeepObjects peer_shown server_shown before.peer.vars.setup.methods before.server.vars.setup.methods
+  pub kept : PreservesObjects peer_shown server_shown before.peer.vars.setup.methods before.server.vars.setup.methods
       before.peer.methods before.server.methods after.peer.methods after.server.methods
   pub peer_named : after.peer.vars.setup.methods ≡ before.peer.vars.setup.methods
   pub server_named : after.server.vars.setup.methods ≡ before.server.vars.setup.methods
@@ -147,19 +147,19 @@ role_in mode.Alone = role.StandAlone
 role_in mode.Through = role.Backend
 
 -- the world before its start
-abbrev pub world_made : Setup → WorldNow
-world_made setup = record {
+abbrev pub initial_world : Setup → WorldNow
+initial_world setup = record {
   parties = record {
     mode = setup.mode;
-    peer = peer_made setup.peer;
-    server = server_made (role_in setup.mode) setup.server setup.first_id setup.max_retrans;
-    pass = pass_made setup.first_id setup.max_retrans;
+    peer = initial_peer setup.peer;
+    server = initial_server (role_in setup.mode) setup.server setup.first_id setup.max_retrans;
+    pass = initial_pass setup.first_id setup.max_retrans;
   };
   sent = [];
   book = [];
   counts = record { events = 0; deliveries = 0; discards = 0 };
   held = record { peer = false; server = false };
-  conversations = conversations_made setup;
+  conversations = initial_conversations setup;
   version = setup.later.version;
   started = false;
 }
@@ -181,12 +181,12 @@ report_of parties party.Server = server_reports parties.server
 
 -- the port to which a party's packets go: from end to end alone, through the pass-through else. What the pass-through
 -- sends of its own goes to the peer
-abbrev pub goes_to : Party → Mode → Port
-goes_to party.Peer mode.Alone = port.Server
-goes_to party.Peer mode.Through = port.PassPeer
-goes_to party.Server mode.Alone = port.Peer
-goes_to party.Server mode.Through = port.PassServer
-goes_to party.Pass mode = port.Peer
+abbrev pub port_to : Party → Mode → Port
+port_to party.Peer mode.Alone = port.Server
+port_to party.Peer mode.Through = port.PassPeer
+port_to party.Server mode.Alone = port.Peer
+port_to party.Server mode.Through = port.PassServer
+port_to party.Pass mode = port.Peer
 
 -- nobody is at a port: the pass-through's two are there in its mode alone
 abbrev pub is_absent : Mode → Port → Bool
@@ -220,13 +220,13 @@ abbrev pub alteration : List ℕ → ℕ → ℕ → List ℕ
 alteration octets place mask = take place octets ++ bit_xor (slice_index octets place) mask ∷ drop (place + 1) octets
 
 -- nobody is at the port of a packet
-abbrev pub goes_nowhere : Mode → Option Sent → Bool
-goes_nowhere mode None = false
-goes_nowhere mode (Some packet) = is_absent mode packet.port
+abbrev pub is_undeliverable : Mode → Option Sent → Bool
+is_undeliverable mode None = false
+is_undeliverable mode (Some packet) = is_absent mode packet.port
 
 -- the skips that an event may come to, in their order, each with its condition
 abbrev pub packet_skips : Mode → Option Sent → Bool → List (Bool × Skip)
-packet_skips mode packet is_misplaced = (goes_nowhere mode packet, NoParty) ∷ (is_none packet, Unsent) ∷ (is_misplaced, Place) ∷ []
+packet_skips mode packet is_misplaced = (is_undeliverable mode packet, NoParty) ∷ (is_none packet, Unsent) ∷ (is_misplaced, Place) ∷ []
 
 abbrev pub is_alone : Mode → Bool
 is_alone mode.Alone = true
@@ -317,7 +317,7 @@ call_of conversations sent e = lower_layer_call e
 
 -- what a call of a party did, with what it wrote: the party, whether octets were delivered to it, the port to which
 -- what it sends goes, and its step
-pub record Did : Type 0 where
+pub record CallResult : Type 0 where
   pub party : Party
   pub is_delivery : Bool
   pub port : Port
@@ -326,10 +326,10 @@ pub record Did : Type 0 where
 -- the result of an event: it was skipped, or a party was called
 pub data Action : Type 0 where
   Skipped : Skip → Action
-  Called : Did → Action
+  Called : CallResult → Action
 
 -- the action of a call that answers so, with the packet and the records that it wrote
-abbrev pub did_with : brief_did.Did → List ℕ → Tags → Did
+abbrev pub did_with : brief_did.CallResult → List ℕ → Tags → CallResult
 did_with did packet tags =
     record { party = did.party; is_delivery = did.is_delivery; port = did.port; step = step_with did.step packet tags }
 
@@ -352,31 +352,31 @@ act_of_skip parties skip = act_with (Skipped skip) parties
 abbrev pub acted_with : {P S : Type 0} → (P → PeerShown) → (S → ServerShown) → brief_action.Action → Machines P S → Acted
 acted_with peer_shown server_shown action after = act_with (action_with action after.packet after.tags) (parties_of peer_shown server_shown after)
 
-abbrev pub did_at : Party → Port → Bool → Step → Did
+abbrev pub did_at : Party → Port → Bool → Step → CallResult
 did_at party port is_delivery step = record { party = party; is_delivery = is_delivery; port = port; step = step }
 
-abbrev pub did_by : Mode → Party → Bool → Step → Did
-did_by mode party is_delivery step = did_at party (goes_to party mode) is_delivery step
+abbrev pub did_by : Mode → Party → Bool → Step → CallResult
+did_by mode party is_delivery step = did_at party (port_to party mode) is_delivery step
 
 -- what the pass-through does, whose packets go to the end on a side of it
 abbrev pub pass_port : Side → Port
 pass_port passes.Peer = port.Peer
 pass_port passes.Server = port.Server
 
-abbrev pub did_pass : PassInput → PassStep → Did
+abbrev pub did_pass : PassInput → PassStep → CallResult
 did_pass input step =
     did_at party.Pass (pass_port step.to) (is_delivery (to_pass input))
     (record { path = step.path; cause = step.cause; sent = step.sent; tags = no_tags })
 
 abbrev pub act_of_call : Parties → Call → Acted
 act_of_call parties (to_peer input) =
-    let out = peer_takes parties.peer input in
+    let out = peer_accepts parties.peer input in
     act_with (Called (did_by parties.mode party.Peer (is_delivery (to_peer input)) out.step)) (record parties { peer = out.after })
 act_of_call parties (to_server input) =
-    let out = server_takes parties.server input in
+    let out = server_accepts parties.server input in
     act_with (Called (did_by parties.mode party.Server (is_delivery (to_server input)) out.step)) (record parties { server = out.after })
 act_of_call parties (to_pass input) =
-    let out = pass_takes parties.pass input in
+    let out = pass_accepts parties.pass input in
     act_with (Called (did_pass input out.step)) (record parties { pass = out.after })
 
 abbrev pub called_unless : Parties → Option Skip → Option Call → Acted
@@ -392,9 +392,9 @@ act parties conversations sent e =
 -- ---- what a call does to the conversations: nonces are searched for in octets that are delivered, and an end that
 -- begins a new one takes the next of its nonces; in the event of this number
 
-abbrev pub heard_in : Conversations → Option (List ℕ) → Conversations
-heard_in conversations None = conversations
-heard_in conversations (Some octets) = heard_by octets conversations
+abbrev pub delivered_in_call : Conversations → Option (List ℕ) → Conversations
+delivered_in_call conversations None = conversations
+delivered_in_call conversations (Some octets) = delivered_by octets conversations
 
 -- the octets that a call delivers to its party
 abbrev pub peer_octets : PeerInput → Option (List ℕ)
@@ -416,9 +416,9 @@ call_octets (to_server input) = server_octets input
 call_octets (to_pass input) = pass_octets input
 
 abbrev pub conversations_after : ℕ → Conversations → Call → Conversations
-conversations_after event conversations (to_peer (peer_inputs.restart nonce)) = peer_begins event conversations conversations.peer_left
-conversations_after event conversations (to_server (server_inputs.restart nonce)) = server_begins event conversations conversations.server_left
-conversations_after event conversations call = heard_in conversations (call_octets call)
+conversations_after event conversations (to_peer (peer_inputs.restart nonce)) = peer_initiates event conversations conversations.peer_left
+conversations_after event conversations (to_server (server_inputs.restart nonce)) = server_initiates event conversations conversations.server_left
+conversations_after event conversations call = delivered_in_call conversations (call_octets call)
 
 abbrev pub conversed_unless : ℕ → Conversations → Option Skip → Option Call → Conversations
 conversed_unless event conversations (Some skip) call = conversations
@@ -491,39 +491,39 @@ named_as party report = record { party = party; report = report }
 abbrev pub first_report : Bool → Party → Option Report → Option Named
 first_report was party report = if was then None else option_map (named_as party) report
 
-abbrev pub has_held : Held → Party → Bool
-has_held held party.Peer = held.peer
-has_held held party.Pass = false
-has_held held party.Server = held.server
+abbrev pub has_reported : HasReported → Party → Bool
+has_reported held party.Peer = held.peer
+has_reported held party.Pass = false
+has_reported held party.Server = held.server
 
-abbrev pub named_by : Held → Parties → Action → Option Named
+abbrev pub named_by : HasReported → Parties → Action → Option Named
 named_by held after (Skipped skip) = None
-named_by held after (Called did) = first_report (has_held held did.party) did.party (report_of after did.party)
+named_by held after (Called did) = first_report (has_reported held did.party) did.party (report_of after did.party)
 
-abbrev pub held_by : Held → Party → Held
+abbrev pub held_by : HasReported → Party → HasReported
 held_by held party.Peer = record held { peer = true }
 held_by held party.Pass = held
 held_by held party.Server = record held { server = true }
 
-abbrev pub held_after : Held → Option Named → Held
-held_after held None = held
-held_after held (Some named) = held_by held named.party
+abbrev pub reported_after : HasReported → Option Named → HasReported
+reported_after held None = held
+reported_after held (Some named) = held_by held named.party
 
 -- an end that begins a new conversation has no report in it yet
-abbrev pub held_anew : Held → Call → Held
-held_anew held (to_peer (peer_inputs.restart nonce)) = record held { peer = false }
-held_anew held (to_server (server_inputs.restart nonce)) = record held { server = false }
-held_anew held call = held
+abbrev pub reported_anew : HasReported → Call → HasReported
+reported_anew held (to_peer (peer_inputs.restart nonce)) = record held { peer = false }
+reported_anew held (to_server (server_inputs.restart nonce)) = record held { server = false }
+reported_anew held call = held
 
-abbrev pub held_unless : Held → Option Skip → Option Call → Held
-held_unless held (Some skip) call = held
-held_unless held None None = held
-held_unless held None (Some call) = held_anew held call
+abbrev pub reported_unless : HasReported → Option Skip → Option Call → HasReported
+reported_unless held (Some skip) call = held
+reported_unless held None None = held
+reported_unless held None (Some call) = reported_anew held call
 
 -- just before an event
-unfoldable pub held_before : Held → Parties → Conversations → List Sent → Event → Held
-held_before held parties conversations sent e =
-    held_unless held (first_skip (skip_table parties conversations sent e)) (call_of conversations sent e)
+unfoldable pub reported_before : HasReported → Parties → Conversations → List Sent → Event → HasReported
+reported_before held parties conversations sent e =
+    reported_unless held (first_skip (skip_table parties conversations sent e)) (call_of conversations sent e)
 
 -- its result: the number of its event, that of the packet it sends, and a first report
 abbrev pub sent_packet : ℕ → Port → Option (List ℕ) → Option SentNumber
@@ -544,12 +544,12 @@ told_of event number named (Called did) = record {
 }
 
 -- the result of an action that left the machines so, and which ends have then had a report
-abbrev pub told_with : {P S : Type 0} → (P → PeerShown) → (S → ServerShown) → Held → Machines P S → ℕ → ℕ → Action → Brief
-told_with peer_shown server_shown held after event number action =
+abbrev pub result_with : {P S : Type 0} → (P → PeerShown) → (S → ServerShown) → HasReported → Machines P S → ℕ → ℕ → Action → Brief
+result_with peer_shown server_shown held after event number action =
     told_of event number (named_by held (parties_of peer_shown server_shown after) action) action
 
-abbrev pub held_with : {P S : Type 0} → (P → PeerShown) → (S → ServerShown) → Held → Machines P S → Action → Held
-held_with peer_shown server_shown held after action = held_after held (named_by held (parties_of peer_shown server_shown after) action)
+abbrev pub reported_with : {P S : Type 0} → (P → PeerShown) → (S → ServerShown) → HasReported → Machines P S → Action → HasReported
+reported_with peer_shown server_shown held after action = reported_after held (named_by held (parties_of peer_shown server_shown after) action)
 
 -- the result of a start or an event, and the world after it
 pub record WorldOutcome : Type 0 where
@@ -560,12 +560,12 @@ abbrev pub world_outcome : Brief → WorldNow → WorldOutcome
 world_outcome told after = record { told = told; after = after }
 
 -- the call returns this result, and leaves the world after it
-abbrev pub Tells : {P S : Type 0} → (P → PeerShown) → (S → ServerShown) → WorldOutcome → Brief → WorldValue P S → Type 0
-Tells peer_shown server_shown out told after = out ≡ world_outcome told (now_of peer_shown server_shown after)
+abbrev pub IsResult : {P S : Type 0} → (P → PeerShown) → (S → ServerShown) → WorldOutcome → Brief → WorldValue P S → Type 0
+IsResult peer_shown server_shown out told after = out ≡ world_outcome told (now_of peer_shown server_shown after)
 
 -- the world after the parties have acted as the event of this number, with these counts, if these ends had had a
 -- report and the conversations are these; it has started
-abbrev pub world_acted : WorldNow → ℕ → Counts → Held → Conversations → Acted → WorldOutcome
+abbrev pub world_acted : WorldNow → ℕ → Counts → HasReported → Conversations → Acted → WorldOutcome
 world_acted w event counts held conversations out =
     let named = named_by held out.after out.action in
     world_outcome (told_of event (length w.sent + 1) named out.action)
@@ -574,7 +574,7 @@ world_acted w event counts held conversations out =
       sent = w.sent ++ sent_by out.action;
       book = w.book ++ booked_by event out.action;
       counts = counts;
-      held = held_after held named;
+      held = reported_after held named;
       conversations = conversations;
       version = w.version;
       started = true;
@@ -593,7 +593,7 @@ unfoldable pub world_step : WorldNow → Event → WorldOutcome
 world_step w e =
     let event = w.counts.events + 1 in
     let out = act w.parties w.conversations w.sent e in
-    world_acted w event (counts_after w.counts out.action) (held_before w.held w.parties w.conversations w.sent e)
+    world_acted w event (counts_after w.counts out.action) (reported_before w.held w.parties w.conversations w.sent e)
     (conversed_by event w.parties w.conversations w.sent e) out
 
 -- the run: the start, and then the events in order
@@ -638,8 +638,8 @@ abbrev pub if_sent : Option SentNumber → List ℕ → List ℕ
 if_sent None octets = []
 if_sent (Some sent) octets = octets
 
-abbrev pub told_octets : WorldOutcome → List ℕ
-told_octets out = octets_of_sent out.after.sent out.told.sent
+abbrev pub result_octets : WorldOutcome → List ℕ
+result_octets out = octets_of_sent out.after.sent out.told.sent
 
 -- what holds of the server in a world that has started: it has the role of the mode, and octets may come to it
 pub record IsServing (mode : Mode) (server : ServerVariables) : Type 0 where

@@ -8,7 +8,7 @@ ghost use Rattle.server_machine.specs.ServerTable as servers;
 ghost use Rattle.eap_method.specs.Tags as records;
 ghost use Rattle.eap_world.specs.Store.{sent_of_slot};
 ghost use Rattle.eap_world.specs.World.{Does, DoesCall, HaveObjects, IsServing, aaa_skips, act, action_with, alteration, call_at, call_with, act_of_call};
-ghost use Rattle.eap_world.specs.World.{conversed_by, did_at, did_by, first_skip, goes_to, is_absent, octets_of, packet_skips, parties_of};
+ghost use Rattle.eap_world.specs.World.{conversed_by, did_at, did_by, first_skip, port_to, is_absent, octets_of, packet_skips, parties_of};
 ghost use Rattle.eap_world.specs.World.{pass_skips, lower_layer_call, restart_call, restart_skips, role_in, start_call, timer_call, timer_skips, to_pass};
 ghost use Rattle.eap_world.specs.World as worlds;
 ghost use Rattle.pass_through.specs.Inputs.{aaa_timeout, aaa_noreq};
@@ -18,7 +18,7 @@ ghost use Rattle.eap_world.specs.declared.told.Skip.TheVariants.{Ended};
 use crate::conversations::Conversations;
 use crate::store::{Store, Stored};
 use crate::told::Skip;
-use eap_method::{Kept, PeerMethod, ServerMethod, Step, Tags};
+use eap_method::{PeerMethod, ServerMethod, Step, Tags, TwoRecords};
 use login_setup::{Event, Mode, Party, Port};
 use octet_lists::Packet;
 use pass_through::PassThrough;
@@ -27,7 +27,7 @@ use server_machine::ServerMachine;
 
 /// What a call of a party did. The packet that it sends and the records of its tags are in the machines.
 #[derive(Drop)]
-pub struct Did {
+pub struct CallResult {
     pub party: Party,
     /// Whether octets were delivered to it.
     pub is_delivery: bool,
@@ -40,7 +40,7 @@ pub struct Did {
 #[derive(Drop)]
 pub enum Action {
     Skipped(Skip),
-    Called(Did),
+    Called(CallResult),
 }
 
 /// The machines of a run: the peer (RFC 4137 section 4), the server, stand-alone (section 5) or a backend
@@ -58,7 +58,7 @@ pub struct Machines<P, S> {
     /// Where a machine writes the packet that it sends, before it is stored.
     pub packet: Packet,
     /// Where a machine writes the records of its tags, before they are booked.
-    pub tags: Tags<Kept>,
+    pub tags: Tags<TwoRecords>,
 }
 
 impl<P: PeerMethod, S: ServerMethod> Machines<P, S> {
@@ -125,7 +125,7 @@ impl<P: PeerMethod, S: ServerMethod> Machines<P, S> {
             (first_skip (packet_skips self.old.mode (sent_of_slot packet.entry) false))
             (call_with (sent_of_slot packet.entry) (octets_of (sent_of_slot packet.entry))) }
     {
-        self.hand_part(packet, false, octets_of(packet))
+        self.deliver_part(packet, false, octets_of(packet))
     }
 
     /// A packet arrives at its port with its octet at `place` combined with `mask` by exclusive or.
@@ -139,7 +139,7 @@ impl<P: PeerMethod, S: ServerMethod> Machines<P, S> {
         let octets = octets_of(packet);
         let place = usize::from(place);
         let came = altered_copy(octets, place, mask);
-        self.hand_part(packet, octets.len() <= place, came.as_slice())
+        self.deliver_part(packet, octets.len() <= place, came.as_slice())
     }
 
     /// The first `keep` octets of a packet arrive at its port.
@@ -151,11 +151,11 @@ impl<P: PeerMethod, S: ServerMethod> Machines<P, S> {
     {
         let octets = octets_of(packet);
         let keep = usize::from(keep);
-        self.hand_part(packet, octets.len() < keep, front(octets, keep))
+        self.deliver_part(packet, octets.len() < keep, front(octets, keep))
     }
 
     /// These octets of a packet arrive at its port, unless more of it are named than it has.
-    fn hand_part(&mut self, packet: Option<Stored>, is_misplaced: bool, octets: &[u8]) -> Action
+    fn deliver_part(&mut self, packet: Option<Stored>, is_misplaced: bool, octets: &[u8]) -> Action
         requires serving { IsServing self.old.mode self.old.server.vars }
         ensures { (came : List ℕ) → (is_misplaced ≡ false → octets.now ≡ came)
             → DoesCall P.peer_shown S.server_shown self.old result self.new
@@ -180,7 +180,7 @@ impl<P: PeerMethod, S: ServerMethod> Machines<P, S> {
         requires serving { IsServing self.old.mode self.old.server.vars }
         ensures { DoesCall P.peer_shown S.server_shown self.old result self.new None (Some (call_at port octets.now)) }
     {
-        self.conversations.hear(octets);
+        self.conversations.receive(octets);
         self.tags.clear();
         match port {
             Port::Peer => {
@@ -355,7 +355,7 @@ impl<P: PeerMethod, S: ServerMethod> Machines<P, S> {
     {
         self.packet.clear();
         self.tags.clear();
-        match self.conversations.begin_peer(self.event) {
+        match self.conversations.start_peer(self.event) {
             None => Action::Skipped(Skip::NoNonce),
             Some(nonce) => {
                 let step = self.peer.restart_step(&nonce);
@@ -372,7 +372,7 @@ impl<P: PeerMethod, S: ServerMethod> Machines<P, S> {
             (restart_call self.old.conversations Server) }
     {
         self.tags.clear();
-        match self.conversations.begin_server(self.event) {
+        match self.conversations.start_server(self.event) {
             None => Action::Skipped(Skip::NoNonce),
             Some(nonce) => {
                 let step = self.server.restart_step(&nonce, &mut self.packet);
@@ -403,7 +403,7 @@ fn action_of(mode: Mode, party: Party, is_delivery: bool, step: Step) -> Action
     ensures { (packet : List ℕ) (tags : records.Tags)
         → action_with result packet tags ≡ worlds.Called (did_by mode party is_delivery (step_with step packet tags)) }
 {
-    action_to(party, goes_to(party, mode), is_delivery, step)
+    action_to(party, port_to(party, mode), is_delivery, step)
 }
 
 /// What a call of a party did whose packet goes to this port.
@@ -411,7 +411,7 @@ fn action_to(party: Party, port: Port, is_delivery: bool, step: Step) -> Action
     ensures { (packet : List ℕ) (tags : records.Tags)
         → action_with result packet tags ≡ worlds.Called (did_at party port is_delivery (step_with step packet tags)) }
 {
-    Action::Called(Did {
+    Action::Called(CallResult {
         party,
         is_delivery,
         port,
@@ -420,8 +420,8 @@ fn action_to(party: Party, port: Port, is_delivery: bool, step: Step) -> Action
 }
 
 /// Where a party's packets go; the pass-through's own go to the peer.
-fn goes_to(party: Party, mode: Mode) -> Port
-    ensures { result ≡ goes_to party mode }
+fn port_to(party: Party, mode: Mode) -> Port
+    ensures { result ≡ port_to party mode }
 {
     match party {
         Party::Peer => match mode {

@@ -5,7 +5,7 @@ ghost use Rattle.std.specs.Prelude.{◌≡◌, ◌≤◌, ◌<◌, ◌+◌, ◌�
 ghost use Rattle.arrayvec.specs.ArrayVec.{array_vec_len};
 ghost use Rattle.std.specs.Str.{bytes_eq};
 ghost use Rattle.eap_world.specs.Conversations.{front, is_new, is_used};
-ghost use Rattle.eap_world.specs.Kept.{fronts_differ};
+ghost use Rattle.eap_world.specs.TwoRecords.{fronts_differ};
 
 use crate::nonces_left::NoncesLeft;
 use arrayvec::ArrayVec;
@@ -30,7 +30,7 @@ pub struct Waiting {
 
 /// A conversation that has begun.
 #[derive(Clone, Copy, Default)]
-pub struct Begun {
+pub struct ConversationStart {
     /// The event in which it began, 0 for the first of each end.
     pub event: u32,
     pub end: End,
@@ -45,7 +45,7 @@ pub struct Begun {
 pub struct Conversations {
     peer_left: NoncesLeft,
     server_left: NoncesLeft,
-    begun: ArrayVec<Begun, MAX_CONVERSATIONS>,
+    begun: ArrayVec<ConversationStart, MAX_CONVERSATIONS>,
     /// Whether each conversation after the first of each end began with a fresh nonce. The first two nonces are
     /// compared when that is asked for, so that a world is made without a branch: with one it would be moved once more.
     later_fresh: bool,
@@ -55,7 +55,7 @@ impl Model for Conversations {
     ghost use Rattle.std.specs.Prelude.{◌≤◌, ◌+◌, ◌&&◌, length};
     ghost use Rattle.arrayvec.specs.ArrayVec.{array_vec_len};
     ghost use Rattle.eap_world.specs.Conversations.{Conversations as ConversationsValue};
-    ghost use Rattle.eap_world.specs.Kept.{fronts_differ};
+    ghost use Rattle.eap_world.specs.TwoRecords.{fronts_differ};
 
     ghost Value = { ConversationsValue };
 
@@ -72,7 +72,7 @@ impl Model for Conversations {
 }
 
 impl Conversations {
-    ghost use Rattle.eap_world.specs.Conversations.{conversations_from, heard_by, next_nonce, peer_begins, server_begins};
+    ghost use Rattle.eap_world.specs.Conversations.{conversations_from, delivered_by, next_nonce, peer_initiates, server_initiates};
     ghost use Rattle.eap_world.specs.World.{has_none};
 
     /// Both ends have begun their first conversation, with these nonces, in event 0; the later nonces are left.
@@ -80,12 +80,12 @@ impl Conversations {
         ensures { result ≡ conversations_from peer server later }
     {
         let mut begun = ArrayVec::new();
-        begun.push(Begun {
+        begun.push(ConversationStart {
             event: 0,
             end: End::Peer,
             nonce: peer,
         });
-        begun.push(Begun {
+        begun.push(ConversationStart {
             event: 0,
             end: End::Server,
             nonce: server,
@@ -99,20 +99,20 @@ impl Conversations {
     }
 
     /// Octets are delivered to some party: it is recorded of each nonce left whether its first 16 octets occur in them.
-    pub fn hear(&mut self, octets: &[u8])
-        ensures { self.new ≡ heard_by octets.now self.old }
+    pub fn receive(&mut self, octets: &[u8])
+        ensures { self.new ≡ delivered_by octets.now self.old }
     {
-        self.peer_left.hear(octets);
-        self.server_left.hear(octets);
+        self.peer_left.receive(octets);
+        self.server_left.receive(octets);
     }
 
     /// The peer begins a conversation in this event, with the next of its nonces, which is returned. None exactly if it
     /// has none left; nothing changes then.
-    pub fn begin_peer(&mut self, event: u32) -> Option<Nonce>
+    pub fn start_peer(&mut self, event: u32) -> Option<Nonce>
         ensures next { result ≡ next_nonce self.old.peer_left }
-        ensures begun { self.new ≡ peer_begins event self.old self.old.peer_left }
+        ensures begun { self.new ≡ peer_initiates event self.old self.old.peer_left }
     {
-        match self.peer_left.take_next() {
+        match self.peer_left.next_unused() {
             None => None,
             Some(one) => {
                 begin(
@@ -128,11 +128,11 @@ impl Conversations {
     }
 
     /// The same of the server.
-    pub fn begin_server(&mut self, event: u32) -> Option<Nonce>
+    pub fn start_server(&mut self, event: u32) -> Option<Nonce>
         ensures next { result ≡ next_nonce self.old.server_left }
-        ensures begun { self.new ≡ server_begins event self.old self.old.server_left }
+        ensures begun { self.new ≡ server_initiates event self.old self.old.server_left }
     {
-        match self.server_left.take_next() {
+        match self.server_left.next_unused() {
             None => None,
             Some(one) => {
                 begin(
@@ -170,9 +170,9 @@ impl Conversations {
 }
 
 /// A conversation begins with the nonce, and there is room for it.
-#[tactic(auto, using(crate::proofs::Kept::fresh_still))]
+#[tactic(auto, using(crate::proofs::TwoRecords::fresh_still))]
 fn begin(
-    begun: &mut ArrayVec<Begun, MAX_CONVERSATIONS>,
+    begun: &mut ArrayVec<ConversationStart, MAX_CONVERSATIONS>,
     later_fresh: &mut bool,
     event: u32,
     end: End,
@@ -187,7 +187,7 @@ fn begin(
         ≡ ((later_fresh.old && fronts_differ begun.old.items) && is_new begun.old.items one.now) }
 {
     *later_fresh = stays_fresh(*later_fresh, begun.as_slice(), one);
-    begun.push(Begun {
+    begun.push(ConversationStart {
         event,
         end,
         nonce: one.nonce,
@@ -202,21 +202,21 @@ fn has_front(nonce: &Nonce, other: &Nonce) -> bool
 }
 
 /// Whether a conversation has begun with a nonce of the same first 16 octets.
-fn is_used(begun: &[Begun], nonce: &Nonce) -> bool
+fn is_used(begun: &[ConversationStart], nonce: &Nonce) -> bool
     ensures { result ≡ is_used begun.now nonce.now }
 {
     begun.iter().any(|one| has_front(&one.nonce, nonce))
 }
 
 /// Whether a conversation that begins with this nonce begins with a fresh one.
-fn is_new(begun: &[Begun], one: &Waiting) -> bool
+fn is_new(begun: &[ConversationStart], one: &Waiting) -> bool
     ensures { result ≡ is_new begun.now one.now }
 {
     !one.heard && !is_used(begun, &one.nonce)
 }
 
 /// Whether all that have begun did so with a fresh nonce, one with this nonce among them.
-fn stays_fresh(fresh: bool, begun: &[Begun], one: &Waiting) -> bool
+fn stays_fresh(fresh: bool, begun: &[ConversationStart], one: &Waiting) -> bool
     ensures { result ≡ (fresh && is_new begun.now one.now) }
 {
     fresh && is_new(begun, one)

@@ -11,11 +11,11 @@ mod told;
 mod verdict;
 mod world;
 
-pub use act::{Action, Did, Machines};
-pub use conversations::{Begun, Conversations, Waiting};
+pub use act::{Action, CallResult, Machines};
+pub use conversations::{ConversationStart, Conversations, Waiting};
 pub use eap_method::Methods;
 pub use store::{Slot, Store, Stored};
 pub use tag_book::TagsVerdict;
 pub use told::{Brief, Counts, Named, SentNumber, SentPacket, Skip, Told};
 pub use verdict::Verdict;
-pub use world::{Held, MAX_EVENTS, Memory, World};
+pub use world::{HasReported, MAX_EVENTS, Memory, World};

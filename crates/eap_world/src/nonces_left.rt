@@ -2,8 +2,8 @@
 
 ghost use Rattle.std.specs.Prelude.{◌≡◌, ◌<◌, ℕ, map, length, slice_index, true};
 ghost use Rattle.eap_world.specs.Conversations.{front, hears};
-ghost use Rattle.eap_world.specs.Hearing.{hears_at, is_first, starts_with};
-ghost use Rattle.eap_world.specs.Kept.{AreMarked, waits};
+ghost use Rattle.eap_world.specs.Receiving.{receives_at, is_first, starts_with};
+ghost use Rattle.eap_world.specs.TwoRecords.{AreMarked, waits};
 
 use crate::conversations::{FRONT, Waiting};
 use login_setup::Nonces;
@@ -27,7 +27,7 @@ pub struct NoncesLeft {
 
 impl Model for NoncesLeft {
     ghost use Rattle.std.specs.Prelude.{◌≤◌, List, drop, length};
-    ghost use Rattle.eap_world.specs.Kept.{waits};
+    ghost use Rattle.eap_world.specs.TwoRecords.{waits};
     ghost use Rattle.eap_world.specs.declared.conversations.Waiting.{Waiting as WaitingValue};
 
     ghost Value = { List WaitingValue };
@@ -57,7 +57,7 @@ impl NoncesLeft {
     }
 
     /// Whether none is left.
-    #[tactic(auto, using(crate::proofs::Kept::none_left))]
+    #[tactic(auto, using(crate::proofs::TwoRecords::none_left))]
     pub fn is_empty(&self) -> bool
         ensures { result ≡ has_none self.now }
     {
@@ -65,8 +65,8 @@ impl NoncesLeft {
     }
 
     /// Takes the first of the nonces; None exactly if there is none.
-    #[tactic(auto, using(crate::proofs::Kept::first_left, crate::proofs::Kept::none_after))]
-    pub fn take_next(&mut self) -> Option<Waiting>
+    #[tactic(auto, using(crate::proofs::TwoRecords::first_left, crate::proofs::TwoRecords::none_after))]
+    pub fn next_unused(&mut self) -> Option<Waiting>
         ensures { MatchOption result ((self.old ≡ []) × (self.new ≡ [])) (λ one. self.old ≡ one ∷ self.new) }
     {
         let nonces = self.nonces.as_slice();
@@ -83,24 +83,24 @@ impl NoncesLeft {
     }
 
     /// Records of each nonce whether its first 16 octets occur in these octets.
-    #[tactic(auto, using(crate::proofs::Kept::still_left))]
-    pub fn hear(&mut self, octets: &[u8])
+    #[tactic(auto, using(crate::proofs::TwoRecords::still_left))]
+    pub fn receive(&mut self, octets: &[u8])
         ensures { self.new ≡ map (hears octets.now) self.old }
     {
         if !self.is_empty() {
-            hear(self.nonces.as_slice(), &mut self.heard, octets);
+            receive(self.nonces.as_slice(), &mut self.heard, octets);
         }
     }
 }
 
 /// Records of each nonce whether its first 16 octets occur in these octets, which are read once, from their end. Most
 /// octets are the first of none of the nonces.
-fn hear(nonces: &[Nonce], heard: &mut [bool], octets: &[u8])
+fn receive(nonces: &[Nonce], heard: &mut [bool], octets: &[u8])
     ensures { waits nonces.now heard.new ≡ map (hears octets.now) (waits nonces.now heard.old) }
 {
     let firsts = first_octets(nonces);
     for back in 0..octets.len() {
-        hear_from(nonces, heard, &firsts, &octets[octets.len() - 1 - back..]);
+        receive_from(nonces, heard, &firsts, &octets[octets.len() - 1 - back..]);
     }
 }
 
@@ -116,7 +116,7 @@ fn first_octets(nonces: &[Nonce]) -> [bool; 256]
 }
 
 /// Marks the first octet of a nonce; those that are marked stay so.
-#[tactic(auto, using(crate::proofs::HeardByPlaces::marks_stay))]
+#[tactic(auto, using(crate::proofs::ReceivedByPlaces::marks_stay))]
 fn mark_first(firsts: &mut [bool; 256], nonce: &Nonce)
     ensures size { length nonce.now ≡ 32 }
     ensures first { is_first firsts.new (slice_index nonce.now 0) ≡ true }
@@ -126,31 +126,31 @@ fn mark_first(firsts: &mut [bool; 256], nonce: &Nonce)
 }
 
 /// Octets that begin at one place of a delivery: records of each nonce whether they begin with its first 16.
-#[tactic(auto, using(crate::proofs::HeardByPlaces::none_here))]
-fn hear_from(nonces: &[Nonce], heard: &mut [bool], firsts: &[bool; 256], octets: &[u8])
+#[tactic(auto, using(crate::proofs::ReceivedByPlaces::none_here))]
+fn receive_from(nonces: &[Nonce], heard: &mut [bool], firsts: &[bool; 256], octets: &[u8])
     requires some { 0 < length octets.now }
     requires marked { AreMarked firsts.now nonces.now }
-    ensures { waits nonces.now heard.new ≡ map (hears_at octets.now) (waits nonces.now heard.old) }
+    ensures { waits nonces.now heard.new ≡ map (receives_at octets.now) (waits nonces.now heard.old) }
 {
     if firsts[usize::from(octets[0])] {
-        hear_each(nonces, heard, octets);
+        receive_each(nonces, heard, octets);
     }
 }
 
 /// The same of each nonce, whatever the first octet.
-fn hear_each(nonces: &[Nonce], heard: &mut [bool], octets: &[u8])
-    ensures { waits nonces.now heard.new ≡ map (hears_at octets.now) (waits nonces.now heard.old) }
+fn receive_each(nonces: &[Nonce], heard: &mut [bool], octets: &[u8])
+    ensures { waits nonces.now heard.new ≡ map (receives_at octets.now) (waits nonces.now heard.old) }
 {
     if let Some((nonce, nonces)) = nonces.split_first() {
         if let Some((mark, heard)) = heard.split_first_mut() {
             *mark = *mark || begins_with(octets, nonce);
-            hear_each(nonces, heard, octets);
+            receive_each(nonces, heard, octets);
         }
     }
 }
 
 /// Whether octets begin with the first 16 of a nonce.
-#[tactic(auto, using(crate::proofs::HeardByPlaces::begins_where_same, crate::proofs::HeardByPlaces::too_short))]
+#[tactic(auto, using(crate::proofs::ReceivedByPlaces::starts_where_same, crate::proofs::ReceivedByPlaces::too_short))]
 fn begins_with(octets: &[u8], nonce: &Nonce) -> bool
     ensures { result ≡ starts_with (front nonce.now) octets.now }
 {

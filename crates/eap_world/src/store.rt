@@ -44,8 +44,8 @@ impl Model for Store {
     ghost view = { λ s. record {
       packets = packets_at s.octets.items s.slots.items;
       stored = vec_len s.octets;
-      octets_room = vec_capacity s.octets - vec_len s.octets;
-      packets_room = vec_capacity s.slots - vec_len s.slots;
+      octets_capacity = vec_capacity s.octets - vec_len s.octets;
+      packets_capacity = vec_capacity s.slots - vec_len s.slots;
     } };
 
     ghost invariant = { λ s. AreThere (vec_len s.octets) s.slots.items };
@@ -56,8 +56,8 @@ impl Store {
     pub fn new(alloc: Global) -> Store
         ensures packets { result.packets ≡ [] }
         ensures stored { result.stored ≡ 0 }
-        ensures octets_room { result.octets_room ≡ 0 }
-        ensures packets_room { result.packets_room ≡ 0 }
+        ensures octets_capacity { result.octets_capacity ≡ 0 }
+        ensures packets_capacity { result.packets_capacity ≡ 0 }
     {
         Store {
             octets: Vec::new(alloc),
@@ -84,22 +84,22 @@ impl Store {
     pub fn make_room(&mut self) -> bool
         ensures packets { self.new.packets ≡ self.old.packets }
         ensures stored { self.new.stored ≡ self.old.stored }
-        ensures octets_room { result ≡ true → max_packet ≤ self.new.octets_room }
-        ensures packets_room { result ≡ true → 1 ≤ self.new.packets_room }
-        ensures octets_stay { self.old.octets_room ≤ self.new.octets_room }
-        ensures packets_stay { self.old.packets_room ≤ self.new.packets_room }
-        ensures lacked { max_packet ≤ self.old.octets_room → 1 ≤ self.old.packets_room → result ≡ true }
+        ensures octets_capacity { result ≡ true → max_packet ≤ self.new.octets_capacity }
+        ensures packets_capacity { result ≡ true → 1 ≤ self.new.packets_capacity }
+        ensures octets_stay { self.old.octets_capacity ≤ self.new.octets_capacity }
+        ensures packets_stay { self.old.packets_capacity ≤ self.new.packets_capacity }
+        ensures lacked { max_packet ≤ self.old.octets_capacity → 1 ≤ self.old.packets_capacity → result ≡ true }
     {
         self.octets.reserve(MAX_PACKET).is_ok() && self.slots.reserve(1).is_ok()
     }
 
     /// Stores a packet of at most 1,500 octets, for which there is room. One whose octets are those of the
     /// last packet to the same port takes no more octets.
-    #[tactic(auto, using(crate::proofs::Storing::one_more, crate::proofs::Storing::stored_behind, crate::proofs::Storing::are_there))]
+    #[tactic(auto, using(crate::proofs::Storing::one_more, crate::proofs::Storing::stored_after, crate::proofs::Storing::are_there))]
     pub fn keep(&mut self, port: Port, octets: &[u8])
         requires fits { length octets.now ≤ max_packet }
-        requires octets_room { max_packet ≤ self.old.octets_room }
-        requires packets_room { 1 ≤ self.old.packets_room }
+        requires octets_capacity { max_packet ≤ self.old.octets_capacity }
+        requires packets_capacity { 1 ≤ self.old.packets_capacity }
         ensures packets { self.new.packets ≡ self.old.packets ++ (record { port = port; octets = octets.now }) ∷ [] }
         ensures stored { self.new.stored ≤ self.old.stored + length octets.now }
         ensures repeats { last_to port self.old.packets ≡ Some octets.now → self.new.stored ≡ self.old.stored }

@@ -7,16 +7,16 @@ ghost use Rattle.login_setup.specs.Setup.{IsSoundPeer, IsSoundServer, HasKeys};
 ghost use Rattle.login_setup.specs.declared.event.Event.TheVariants.{Restart};
 ghost use Rattle.eap_method.specs.Tags as records;
 ghost use Rattle.eap_method.specs.Steps.{step_with};
-ghost use Rattle.eap_world.specs.World.{Called, Skipped, action_with, parties_of, sent_by, booked_by, counts_after, end_of, has_held};
-ghost use Rattle.eap_world.specs.World.{Parties, first_report, held_before, held_by, held_after, held_with, report_of, role_in, told_of, told_with};
+ghost use Rattle.eap_world.specs.World.{Called, Skipped, action_with, parties_of, sent_by, booked_by, counts_after, end_of, has_reported};
+ghost use Rattle.eap_world.specs.World.{Parties, first_report, reported_before, held_by, reported_after, reported_with, report_of, role_in, told_of, result_with};
 ghost use Rattle.eap_world.specs.Sent.{Sent};
 
-use crate::act::{Action, Did, Machines};
+use crate::act::{Action, CallResult, Machines};
 use crate::conversations::Conversations;
 use crate::store::Store;
 use crate::told::{Brief, Counts, Named, SentNumber, Skip, Told, sent_with};
 use crate::verdict::{Verdict, judge_reports};
-use eap_method::{Kept, Methods, PeerMethod, Report, ServerMethod, Step, Tags};
+use eap_method::{Methods, PeerMethod, Report, ServerMethod, Step, Tags, TwoRecords};
 use eap_packet::{Path, State};
 use login_setup::{Event, Mode, Party, Port, Setup};
 use octet_lists::Packet;
@@ -25,7 +25,7 @@ use peer_machine::PeerMachine;
 use server_machine::{Role, ServerMachine};
 use std::alloc::Global;
 use std::marker::Model;
-use tag_book::{End, Entry, Makers, TagsVerdict, book_tags, judge_tags};
+use tag_book::{End, Entry, MadeBy, TagsVerdict, book_tags, judge_tags};
 use thiserror::Error;
 
 /// Want of memory, the one error of `World::start` and `World::step`.
@@ -41,7 +41,7 @@ const MAX_TAGS: usize = 4;
 
 /// Which ends have had a report in their present conversations.
 #[derive(Clone, Copy, PartialEq, Eq, Debug)]
-pub struct Held {
+pub struct HasReported {
     pub peer: bool,
     pub server: bool,
 }
@@ -57,7 +57,7 @@ pub struct World<P, S> {
     sent: Store,
     book: Vec<Entry>,
     counts: Counts,
-    held: Held,
+    held: HasReported,
     /// The version of the scenario's text.
     version: u8,
     started: bool,
@@ -89,16 +89,16 @@ impl<P, S> Model for World<P, S> {
 impl<P: PeerMethod, S: ServerMethod> World<P, S> {
     ghost use Rattle.eap_method.specs.Peer.{peer_kinds, have_each};
     ghost use Rattle.eap_method.specs.Server.{server_kinds};
-    ghost use Rattle.eap_world.specs.Run.{BeginsRun, GoesOn};
+    ghost use Rattle.eap_world.specs.Run.{StartsRun, HasContinued};
     ghost use Rattle.tag_book.specs.Book.{tags_verdict, tags_verdict_either};
     ghost use Rattle.eap_world.specs.Judgement.{verdict_of};
-    ghost use Rattle.eap_world.specs.World.{HasObjects, KeepObjects, KeepsObjects, NamesAlike, Tells, brief_of, packet_octets, world_made, world_start, world_step, now_of};
+    ghost use Rattle.eap_world.specs.World.{HasObjects, PreservesObjects, PreservesAllObjects, NamesAlike, IsResult, brief_of, packet_octets, initial_world, world_start, world_step, now_of};
     ghost use Rattle.eap_world.specs.World.{octets_numbered, octets_of_sent, pass_state, state_of};
 
     /// The world of a setup, in which the peer has begun and the server, or the pass-through, hasn't started.
     /// Each method that an end allows or proposes has an object, which begins; the others stay as they were. It
     /// allocates no memory.
-    #[tactic(auto, using(crate::proofs::StillThere::peer_made_with, crate::proofs::StillThere::server_made_with))]
+    #[tactic(auto, using(crate::proofs::StillThere::peer_created_with, crate::proofs::StillThere::server_created_with))]
     pub fn new(alloc: Global, setup: Setup, methods: Methods<P, S>) -> World<P, S>
         requires few { setup.max_retrans ≤ 10 }
         requires sound_peer { IsSoundPeer setup.peer }
@@ -106,8 +106,8 @@ impl<P: PeerMethod, S: ServerMethod> World<P, S> {
         requires sound_server { IsSoundServer setup.server }
         requires peer_objects { have_each (peer_kinds (map P.peer_shown methods.peer.items)) setup.peer.methods ≡ true }
         requires server_objects { have_each (server_kinds (map S.server_shown methods.server.items)) setup.server.methods ≡ true }
-        ensures made { now_of P.peer_shown S.server_shown result ≡ world_made setup }
-        ensures kept { KeepObjects P.peer_shown S.server_shown setup.peer.methods setup.server.methods
+        ensures made { now_of P.peer_shown S.server_shown result ≡ initial_world setup }
+        ensures kept { PreservesObjects P.peer_shown S.server_shown setup.peer.methods setup.server.methods
             methods.peer.items methods.server.items result.peer.methods result.server.methods }
         ensures objects { HasObjects P.peer_shown S.server_shown result }
     {
@@ -137,7 +137,7 @@ impl<P: PeerMethod, S: ServerMethod> World<P, S> {
                 deliveries: 0,
                 discards: 0,
             },
-            held: Held {
+            held: HasReported {
                 peer: false,
                 server: false,
             },
@@ -157,10 +157,10 @@ impl<P: PeerMethod, S: ServerMethod> World<P, S> {
         requires unstarted { self.old.started ≡ false }
         requires objects { HasObjects P.peer_shown S.server_shown self.old }
         ensures told { MatchResult result
-            (λ told. Tells P.peer_shown S.server_shown (world_start (now_of P.peer_shown S.server_shown self.old)) told self.new)
+            (λ told. IsResult P.peer_shown S.server_shown (world_start (now_of P.peer_shown S.server_shown self.old)) told self.new)
             (λ _. self.new ≡ self.old) }
-        ensures run { IfOk result (λ told. BeginsRun P.peer_shown S.server_shown self.old self.new) }
-        ensures kept { KeepsObjects P.peer_shown S.server_shown self.old self.new }
+        ensures run { IfOk result (λ told. StartsRun P.peer_shown S.server_shown self.old self.new) }
+        ensures kept { PreservesAllObjects P.peer_shown S.server_shown self.old self.new }
         ensures names { NamesAlike self.old self.new }
         ensures objects { HasObjects P.peer_shown S.server_shown self.new }
     {
@@ -182,11 +182,11 @@ impl<P: PeerMethod, S: ServerMethod> World<P, S> {
         requires objects { HasObjects P.peer_shown S.server_shown self.old }
         requires room { self.old.counts.events < 1000000 }
         ensures told { MatchResult result
-            (λ told. Tells P.peer_shown S.server_shown (world_step (now_of P.peer_shown S.server_shown self.old) event.now) told self.new)
+            (λ told. IsResult P.peer_shown S.server_shown (world_step (now_of P.peer_shown S.server_shown self.old) event.now) told self.new)
             (λ _. self.new ≡ self.old) }
-        ensures run { IfOk result (λ told. GoesOn P.peer_shown S.server_shown event.now self.old self.new) }
+        ensures run { IfOk result (λ told. HasContinued P.peer_shown S.server_shown event.now self.old self.new) }
         ensures packets { length self.new.sent ≤ self.new.counts.events + 1 }
-        ensures kept { KeepsObjects P.peer_shown S.server_shown self.old self.new }
+        ensures kept { PreservesAllObjects P.peer_shown S.server_shown self.old self.new }
         ensures names { NamesAlike self.old self.new }
         ensures objects { HasObjects P.peer_shown S.server_shown self.new }
     {
@@ -198,11 +198,11 @@ impl<P: PeerMethod, S: ServerMethod> World<P, S> {
         requires unstarted { self.old.started ≡ false }
         requires objects { HasObjects P.peer_shown S.server_shown self.old }
         ensures told { MatchResult result
-            (λ told. Tells P.peer_shown S.server_shown (world_start (now_of P.peer_shown S.server_shown self.old)) (brief_of told) self.new)
+            (λ told. IsResult P.peer_shown S.server_shown (world_start (now_of P.peer_shown S.server_shown self.old)) (brief_of told) self.new)
             (λ _. self.new ≡ self.old) }
         ensures octets { IfOk result (λ told. packet_octets told.sent ≡ octets_of_sent self.new.sent (brief_of told).sent) }
-        ensures run { IfOk result (λ told. BeginsRun P.peer_shown S.server_shown self.old self.new) }
-        ensures kept { KeepsObjects P.peer_shown S.server_shown self.old self.new }
+        ensures run { IfOk result (λ told. StartsRun P.peer_shown S.server_shown self.old self.new) }
+        ensures kept { PreservesAllObjects P.peer_shown S.server_shown self.old self.new }
         ensures names { NamesAlike self.old self.new }
         ensures objects { HasObjects P.peer_shown S.server_shown self.new }
     {
@@ -216,12 +216,12 @@ impl<P: PeerMethod, S: ServerMethod> World<P, S> {
         requires objects { HasObjects P.peer_shown S.server_shown self.old }
         requires room { self.old.counts.events < 1000000 }
         ensures told { MatchResult result
-            (λ told. Tells P.peer_shown S.server_shown (world_step (now_of P.peer_shown S.server_shown self.old) event.now) (brief_of told) self.new)
+            (λ told. IsResult P.peer_shown S.server_shown (world_step (now_of P.peer_shown S.server_shown self.old) event.now) (brief_of told) self.new)
             (λ _. self.new ≡ self.old) }
         ensures octets { IfOk result (λ told. packet_octets told.sent ≡ octets_of_sent self.new.sent (brief_of told).sent) }
-        ensures run { IfOk result (λ told. GoesOn P.peer_shown S.server_shown event.now self.old self.new) }
+        ensures run { IfOk result (λ told. HasContinued P.peer_shown S.server_shown event.now self.old self.new) }
         ensures packets { length self.new.sent ≤ self.new.counts.events + 1 }
-        ensures kept { KeepsObjects P.peer_shown S.server_shown self.old self.new }
+        ensures kept { PreservesAllObjects P.peer_shown S.server_shown self.old self.new }
         ensures names { NamesAlike self.old self.new }
         ensures objects { HasObjects P.peer_shown S.server_shown self.new }
     {
@@ -251,9 +251,9 @@ impl<P: PeerMethod, S: ServerMethod> World<P, S> {
     fn start_by_table(&mut self) -> Result<Brief, Memory>
         requires { self.old.started ≡ false }
         ensures told { MatchResult result
-            (λ told. Tells P.peer_shown S.server_shown (world_start (now_of P.peer_shown S.server_shown self.old)) told self.new)
+            (λ told. IsResult P.peer_shown S.server_shown (world_start (now_of P.peer_shown S.server_shown self.old)) told self.new)
             (λ _. self.new ≡ self.old) }
-        ensures kept { KeepsObjects P.peer_shown S.server_shown self.old self.new }
+        ensures kept { PreservesAllObjects P.peer_shown S.server_shown self.old self.new }
         ensures names { NamesAlike self.old self.new }
     {
         if !make_room(&mut self.sent, &mut self.book) {
@@ -278,17 +278,17 @@ impl<P: PeerMethod, S: ServerMethod> World<P, S> {
         requires objects { HasObjects P.peer_shown S.server_shown self.old }
         requires room { self.old.counts.events < 1000000 }
         ensures told { MatchResult result
-            (λ told. Tells P.peer_shown S.server_shown (world_step (now_of P.peer_shown S.server_shown self.old) event.now) told self.new)
+            (λ told. IsResult P.peer_shown S.server_shown (world_step (now_of P.peer_shown S.server_shown self.old) event.now) told self.new)
             (λ _. self.new ≡ self.old) }
         ensures packets { length self.new.sent ≤ self.new.counts.events + 1 }
-        ensures kept { KeepsObjects P.peer_shown S.server_shown self.old self.new }
+        ensures kept { PreservesAllObjects P.peer_shown S.server_shown self.old self.new }
         ensures names { NamesAlike self.old self.new }
     {
         if !make_room(&mut self.sent, &mut self.book) {
             return Err(Memory);
         }
         let number = self.counts.events + 1;
-        self.held = held_before(self.held, &self.machines.conversations, event);
+        self.held = reported_before(self.held, &self.machines.conversations, event);
         self.machines.event = number;
         let action = self.machines.act(&self.sent, event);
         self.counts = count(self.counts, &action);
@@ -422,7 +422,7 @@ impl<P: PeerMethod, S: ServerMethod> World<P, S> {
     pub fn tags(&self) -> TagsVerdict
         ensures { result ≡ tags_verdict self.now.book }
     {
-        judge_tags(self.book.as_slice(), Makers::Other)
+        judge_tags(self.book.as_slice(), MadeBy::Other)
     }
 
     /// Whether each accepted tag was made earlier by either end, with the same method, label, key, octets
@@ -431,7 +431,7 @@ impl<P: PeerMethod, S: ServerMethod> World<P, S> {
     pub fn tags_either(&self) -> TagsVerdict
         ensures { result ≡ tags_verdict_either self.now.book }
     {
-        judge_tags(self.book.as_slice(), Makers::Either)
+        judge_tags(self.book.as_slice(), MadeBy::Either)
     }
 
     /// Whether both ends agree in their present conversations. The crate `world_laws` says what this is in every run of a setup
@@ -490,25 +490,25 @@ fn role_in(mode: Mode) -> Role
 
 /// Which ends have had a report in their present conversations, just before this event: an end that begins a new one
 /// has none in it yet.
-#[tactic(auto, using(crate::proofs::InConversation::still_told))]
-fn held_before(held: Held, conversations: &Conversations, event: &Event) -> Held
-    ensures { (parties : Parties) (sent : List Sent) → result ≡ held_before held parties conversations.now sent event.now }
+#[tactic(auto, using(crate::proofs::InConversation::still_reported))]
+fn reported_before(held: HasReported, conversations: &Conversations, event: &Event) -> HasReported
+    ensures { (parties : Parties) (sent : List Sent) → result ≡ reported_before held parties conversations.now sent event.now }
 {
     match event {
-        Event::Restart { party } => held_anew(held, conversations, *party),
+        Event::Restart { party } => reported_anew(held, conversations, *party),
         _ => held,
     }
 }
 
 /// The same if a party is about to begin a new conversation. An end does so only if it has a nonce left.
 #[tactic(auto, using(crate::proofs::InConversation::peer_anew, crate::proofs::InConversation::pass_anew, crate::proofs::InConversation::server_anew))]
-fn held_anew(held: Held, conversations: &Conversations, party: Party) -> Held
-    ensures { (parties : Parties) (sent : List Sent) → result ≡ held_before held parties conversations.now sent (Restart party) }
+fn reported_anew(held: HasReported, conversations: &Conversations, party: Party) -> HasReported
+    ensures { (parties : Parties) (sent : List Sent) → result ≡ reported_before held parties conversations.now sent (Restart party) }
 {
     match party {
         Party::Peer => {
             if conversations.has_peer_nonce() {
-                Held {
+                HasReported {
                     peer: false,
                     ..held
                 }
@@ -519,7 +519,7 @@ fn held_anew(held: Held, conversations: &Conversations, party: Party) -> Held
         Party::Pass => held,
         Party::Server => {
             if conversations.has_server_nonce() {
-                Held {
+                HasReported {
                     server: false,
                     ..held
                 }
@@ -535,10 +535,10 @@ fn make_room(sent: &mut Store, book: &mut Vec<Entry>) -> bool
     ensures sent { sent.new.packets ≡ sent.old.packets }
     ensures stored { sent.new.stored ≡ sent.old.stored }
     ensures book { book.new.items ≡ book.old.items }
-    ensures sent_room { result ≡ true → (max_packet ≤ sent.new.octets_room) × (1 ≤ sent.new.packets_room) }
-    ensures book_room { result ≡ true → vec_len book.new + 4 ≤ vec_capacity book.new }
+    ensures sent_capacity { result ≡ true → (max_packet ≤ sent.new.octets_capacity) × (1 ≤ sent.new.packets_capacity) }
+    ensures book_capacity { result ≡ true → vec_len book.new + 4 ≤ vec_capacity book.new }
     ensures book_len { vec_len book.new ≡ vec_len book.old }
-    ensures lacked { max_packet ≤ sent.old.octets_room → 1 ≤ sent.old.packets_room → vec_len book.old + 4 ≤ vec_capacity book.old
+    ensures lacked { max_packet ≤ sent.old.octets_capacity → 1 ≤ sent.old.packets_capacity → vec_len book.old + 4 ≤ vec_capacity book.old
         → result ≡ true }
 {
     sent.make_room() && book.reserve(MAX_TAGS).is_ok()
@@ -549,29 +549,29 @@ fn keep<P: PeerMethod, S: ServerMethod>(
     machines: &Machines<P, S>,
     sent: &mut Store,
     book: &mut Vec<Entry>,
-    held: &mut Held,
+    held: &mut HasReported,
     event: u32,
     action: Action,
 ) -> Brief
-    requires sent_room { (max_packet ≤ sent.old.octets_room) × (1 ≤ sent.old.packets_room) }
-    requires book_room { vec_len book.old + 4 ≤ vec_capacity book.old }
+    requires sent_capacity { (max_packet ≤ sent.old.octets_capacity) × (1 ≤ sent.old.packets_capacity) }
+    requires book_capacity { vec_len book.old + 4 ≤ vec_capacity book.old }
     requires few { length sent.old.packets < 2 ^ 32 - 1 }
     ensures told { result
-        ≡ told_with P.peer_shown S.server_shown held.old machines.now event (length sent.old.packets + 1)
+        ≡ result_with P.peer_shown S.server_shown held.old machines.now event (length sent.old.packets + 1)
         (action_with action machines.now.packet machines.now.tags) }
     ensures sent { sent.new.packets ≡ sent.old.packets ++ sent_by (action_with action machines.now.packet machines.now.tags) }
     ensures book { book.new.items ≡ book.old.items ++ booked_by event (action_with action machines.now.packet machines.now.tags) }
-    ensures held { held.new ≡ held_with P.peer_shown S.server_shown held.old machines.now (action_with action machines.now.packet machines.now.tags) }
+    ensures held { held.new ≡ reported_with P.peer_shown S.server_shown held.old machines.now (action_with action machines.now.packet machines.now.tags) }
     ensures few_sent { length sent.new.packets ≤ length sent.old.packets + 1 }
     ensures few_booked { vec_len book.new ≤ vec_len book.old + 4 }
 {
     let number = next_number(sent.len());
-    keep_sent(sent, &action, &machines.packet);
-    keep_tags(book, event, &action, &machines.tags);
+    store_packet(sent, &action, &machines.packet);
+    store_tags(book, event, &action, &machines.tags);
     match action {
-        Action::Skipped(skip) => tell_skip(event, skip),
+        Action::Skipped(skip) => skip_result(event, skip),
         Action::Called(
-            Did {
+            CallResult {
                 party,
                 port,
                 step,
@@ -579,25 +579,25 @@ fn keep<P: PeerMethod, S: ServerMethod>(
             },
         ) => {
             let mut told = tell(event, number, party, port, step);
-            tell_report(machines, party, held, &mut told.named);
+            store_first_report(machines, party, held, &mut told.named);
             told
         }
     }
 }
 
 /// Returns the report that a party which acted has for the first time, and records that it was reported.
-fn tell_report<P: PeerMethod, S: ServerMethod>(
+fn store_first_report<P: PeerMethod, S: ServerMethod>(
     machines: &Machines<P, S>,
     party: Party,
-    held: &mut Held,
+    held: &mut HasReported,
     named: &mut Option<Named>,
 )
     requires { named.old ≡ None }
     ensures named { named.new
-        ≡ first_report (has_held held.old party) party (report_of (parties_of P.peer_shown S.server_shown machines.now) party) }
-    ensures held { held.new ≡ held_after held.old named.new }
+        ≡ first_report (has_reported held.old party) party (report_of (parties_of P.peer_shown S.server_shown machines.now) party) }
+    ensures held { held.new ≡ reported_after held.old named.new }
 {
-    if !has_held(*held, party) {
+    if !has_reported(*held, party) {
         if let Some(report) = report_of(machines, party) {
             *held = with_party(*held, party);
             *named = Some(Named { party, report });
@@ -620,8 +620,8 @@ fn report_of<P: PeerMethod, S: ServerMethod>(
 }
 
 /// Whether a party has had a report.
-fn has_held(held: Held, party: Party) -> bool
-    ensures { result ≡ has_held held party }
+fn has_reported(held: HasReported, party: Party) -> bool
+    ensures { result ≡ has_reported held party }
 {
     match party {
         Party::Peer => held.peer,
@@ -631,13 +631,13 @@ fn has_held(held: Held, party: Party) -> bool
 }
 
 /// Which ends have had a report, this one among them.
-fn with_party(held: Held, party: Party) -> Held
+fn with_party(held: HasReported, party: Party) -> HasReported
     ensures { result ≡ held_by held party }
 {
     match party {
-        Party::Peer => Held { peer: true, ..held },
+        Party::Peer => HasReported { peer: true, ..held },
         Party::Pass => held,
-        Party::Server => Held {
+        Party::Server => HasReported {
             server: true,
             ..held
         },
@@ -645,7 +645,7 @@ fn with_party(held: Held, party: Party) -> Held
 }
 
 /// Writes the tags of an action into the book, for which there is room.
-fn keep_tags(book: &mut Vec<Entry>, event: u32, action: &Action, tags: &Tags<Kept>)
+fn store_tags(book: &mut Vec<Entry>, event: u32, action: &Action, tags: &Tags<TwoRecords>)
     requires { vec_len book.old + 4 ≤ vec_capacity book.old }
     ensures kept { (packet : List ℕ) → book.new.items ≡ book.old.items ++ booked_by event (action_with action.now packet tags.now) }
     ensures few { vec_len book.new ≤ vec_len book.old + 4 }
@@ -677,8 +677,8 @@ fn next_number(sent: usize) -> u32
 }
 
 /// Stores what an action sends, for which there is room.
-fn keep_sent(sent: &mut Store, action: &Action, packet: &Packet)
-    requires room { (max_packet ≤ sent.old.octets_room) × (1 ≤ sent.old.packets_room) }
+fn store_packet(sent: &mut Store, action: &Action, packet: &Packet)
+    requires room { (max_packet ≤ sent.old.octets_capacity) × (1 ≤ sent.old.packets_capacity) }
     ensures kept { (tags : records.Tags) → sent.new.packets ≡ sent.old.packets ++ sent_by (action_with action.now packet.now tags) }
     ensures few { length sent.new.packets ≤ length sent.old.packets + 1 }
 {
@@ -713,7 +713,7 @@ fn count(counts: Counts, action: &Action) -> Counts
 }
 
 /// The result of an event that was skipped.
-fn tell_skip(event: u32, skip: Skip) -> Brief
+fn skip_result(event: u32, skip: Skip) -> Brief
     ensures { result ≡ told_of event 0 None (Skipped skip) }
 {
     Brief {

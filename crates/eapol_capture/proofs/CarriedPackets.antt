@@ -6,12 +6,12 @@ use Rattle.std.proofs.lemmas.Bool.{le-ltb}
 use Rattle.std.proofs.lemmas.List.{take_at, drop_at, get_or-append-add}
 use Rattle.std.proofs.lemmas.Nat.{from_be_bytes-to_be_bytes_2}
 use Rattle.eapol_capture.specs.Frames.{eap, type_of, eapol_type, packet_type, body_length, contents_of}
-use Rattle.eapol_capture.specs.Laws.{spelled_frame, SpelledFramesCarryTheirPackets}
+use Rattle.eapol_capture.specs.Laws.{encoded_frame, EncodedFramesCarryTheirPackets}
 
-pub spelled_frames_carry_their_packets : SpelledFramesCarryTheirPackets
+pub encoded_frames_carry_their_packets : EncodedFramesCarryTheirPackets
 unfolding contents_of
-spelled_frames_carry_their_packets addresses version packet padding twelve short =
-    let frame = spelled_frame addresses version packet padding in
+encoded_frames_carry_their_packets addresses version packet padding twelve short =
+    let frame = encoded_frame addresses version packet padding in
     let tail = to_be_bytes w16 eapol_type ++ (version ∷ 0 ∷ (to_be_bytes w16 (length packet) ++ (packet ++ padding))) in
     let behind : length tail ≡ 6 + length (packet ++ padding) = omega arith in
     let size : length frame ≡ 18 + length (packet ++ padding) = omega (arith, length-append addresses tail, twelve, behind) in

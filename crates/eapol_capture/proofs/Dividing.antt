@@ -9,11 +9,11 @@ use Rattle.eapol_capture.specs.declared.reader.NextRecord.{NextRecord}
 use Rattle.eapol_capture.specs.declared.reader.NextRecord.TheVariants.{Record, End, CutFile, BadMagic, BadVersion, BadLink, BadRecord, TooMuch, Read}
 use Rattle.eapol_capture.specs.Files.{Contents, ends, record_of, number, order_of, is_version, faults_in, order_or_fault, behind, missing, from_header}
 use Rattle.octet_io.specs.Lines.{max_input}
-use Rattle.eapol_capture.specs.Files.{max_frame, max_kept}
-use Rattle.eapol_capture.specs.Reading.{Reading, octets_left, contents_from, contents_left, Divides, Answers, begun_in, Takes, Exhausts}
-use Rattle.eapol_capture.specs.Parts.{Hands, HandsAll, HasFrame, IsCut, IsPast, Stops, Parts, Frames, Fails, Opens, order_found, answer_of}
+use Rattle.eapol_capture.specs.Files.{max_frame, max_stored}
+use Rattle.eapol_capture.specs.Reading.{Reading, octets_left, contents_from, contents_left, Divides, Answers, initiated_in, ConsumesSome, Exhausts}
+use Rattle.eapol_capture.specs.Parts.{ConsumesPart, ConsumesAll, HasFrame, IsCut, IsPast, Stops, Parts, Frames, Fails, Opens, order_found, answer_of}
 use Rattle.eapol_capture.proofs.RecordLaws.{none-missing, cut-missing, past-missing, no-records, stops-early, stops-late, bad-record, one-record}
-use Rattle.eapol_capture.proofs.Handing.{hands_more, prepend-append}
+use Rattle.eapol_capture.proofs.PassDelivery.{passes_more, prepend-append}
 
 -- one function of the octets that are left, and another of those behind a part of them
 mapped : (f g : List ℕ → Contents) (h : Contents → Contents) (part : List ℕ) (was left : Option (List ℕ)) → was ≡ prepend_known part left →
@@ -45,7 +45,7 @@ cut-is-missing : (count : ℕ) (before after : Reading) (was left : Option (List
     (cut : IsCut count before after was left) → (rest : List ℕ) → octets_left after left ≡ Some rest →
     missing count (max_input - before.taken) (cut.part ++ rest) ≡ Some CutFile
 cut-is-missing count before after was left fits bounded cut rest is =
-    let none : rest ≡ [] = none-behind after.held left rest cut.none_held cut.none_left is in
+    let none : rest ≡ [] = none-behind after.held left rest cut.none_pending cut.none_left is in
     let size : length (cut.part ++ rest) ≡ length cut.part = rw (none, append-nil cut.part) refl in
     cut-missing count (max_input - before.taken) (cut.part ++ rest) (omega (arith, size, cut.few)) (omega (arith, size, cut.hands.taken))
 
@@ -86,7 +86,7 @@ missed-fails Read before after missed = tt
 missed-fails _ before after missed = absurd missed
 
 missed-divides : (answer : NextRecord) (order : OctetOrder) (told : Option OctetOrder) (frame : List ℕ) (before after : Option Contents) →
-    told ≡ Some order → Missed answer 1 before after → Divides answer (begun_in answer told) frame before after
+    told ≡ Some order → Missed answer 1 before after → Divides answer (initiated_in answer told) frame before after
 missed-divides CutFile order told frame before after is missed = rw is missed
 missed-divides TooMuch order told frame before after is missed = rw is missed
 missed-divides Read order told frame before after is missed = tt
@@ -94,7 +94,7 @@ missed-divides _ order told frame before after is missed = absurd missed
 
 -- a header that isn't there or has a fault, as a division
 pub fails-divides : (answer : NextRecord) (told : Option OctetOrder) (frame : List ℕ) (before after : Option Contents) → told ≡ None →
-    Fails answer before after → Divides answer (begun_in answer told) frame before after
+    Fails answer before after → Divides answer (initiated_in answer told) frame before after
 fails-divides Read told frame before after none fails = tt
 fails-divides Record told frame before after none fails = absurd fails
 fails-divides End told frame before after none fails = absurd fails
@@ -105,7 +105,7 @@ fails-divides BadVersion told frame before after none fails = fails
 fails-divides BadLink told frame before after none fails = fails
 fails-divides TooMuch told frame before after none fails = rw none fails
 
-pub fails-takes : (answer : NextRecord) (before after : Option Contents) (taken now : ℕ) → Fails answer before after → taken ≤ now → Takes answer taken now
+pub fails-takes : (answer : NextRecord) (before after : Option Contents) (taken now : ℕ) → Fails answer before after → taken ≤ now → ConsumesSome answer taken now
 fails-takes Record before after taken now fails grows = absurd fails
 fails-takes End before after taken now fails grows = absurd fails
 fails-takes BadRecord before after taken now fails grows = absurd fails
@@ -117,8 +117,8 @@ fails-exhausts _ before after left fails = tt
 
 -- the header
 
-header-octets : (before after : Reading) (was left : Option (List ℕ)) (all : HandsAll 24 before after was left) → after.frame ≡ all.part
-header-octets before after was left all = all.kept ∙ take_all max_kept all.part (omega (arith, all.all))
+header-octets : (before after : Reading) (was left : Option (List ℕ)) (all : ConsumesAll 24 before after was left) → after.frame ≡ all.part
+header-octets before after was left all = all.kept ∙ take_all max_stored all.part (omega (arith, all.all))
 
 pub header-is : (room : ℕ) (part rest : List ℕ) → length part ≡ 24 → 24 ≤ room → from_header room (part ++ rest) ≡ behind (order_or_fault part) (room - 24) rest
 header-is room part rest all fits =
@@ -156,7 +156,7 @@ each-fault P answer (Some order) header magic version link is =
     ]
 
 header-faults : (before mid : Reading) (was left : Option (List ℕ)) (answer : NextRecord) (g : List ℕ → Contents) → before.order ≡ None →
-    before.taken ≤ max_input → mid.taken ≤ max_input → HandsAll 24 before mid was left → order_or_fault mid.frame ≡ Err answer →
+    before.taken ≤ max_input → mid.taken ≤ max_input → ConsumesAll 24 before mid was left → order_or_fault mid.frame ≡ Err answer →
     Fails answer (contents_left before was) (option_map g (octets_left mid left))
 header-faults before mid was left answer g none fits bounded all fault =
     let part_is = header-octets before mid was left all in
@@ -170,7 +170,7 @@ header-faults before mid was left answer g none fits bounded all fault =
     (λ e. e) (λ e. e) (λ e. e) fault same
 
 header-opens : (before mid : Reading) (was left : Option (List ℕ)) (order : OctetOrder) → before.order ≡ None → before.taken ≤ max_input →
-    mid.taken ≤ max_input → HandsAll 24 before mid was left → order_or_fault mid.frame ≡ Ok order →
+    mid.taken ≤ max_input → ConsumesAll 24 before mid was left → order_or_fault mid.frame ≡ Ok order →
     contents_left before was ≡ contents_left (record mid { order = Some order }) left
 header-opens before mid was left order none fits bounded all good =
     let part_is = header-octets before mid was left all in
@@ -181,7 +181,7 @@ header-opens before mid was left order none fits bounded all good =
     (λ rest e. rw none (header-is (max_input - before.taken) all.part rest all.all (omega (arith, all.all, all.hands.taken)) ∙ rw (found, room) refl))
 
 pub header-judged : (found : Result OctetOrder NextRecord) (before mid after : Reading) (was left : Option (List ℕ)) → before.order ≡ None →
-    before.taken ≤ max_input → mid.taken ≤ max_input → HandsAll 24 before mid was left → found ≡ order_or_fault mid.frame →
+    before.taken ≤ max_input → mid.taken ≤ max_input → ConsumesAll 24 before mid was left → found ≡ order_or_fault mid.frame →
     after ≡ record mid { order = order_found found } → Opens found (contents_left before was) (contents_left after left)
 header-judged (Ok order) before mid after was left none fits bounded all judged is =
     rw is (header-opens before mid was left order none fits bounded all (sym judged))
@@ -229,7 +229,7 @@ length-stops before mid after was left_mid left order answer known fits bounded 
 
 -- what keeps a reader from a part behind another one
 pub stops-behind : (answer : NextRecord) (part : List ℕ) (count most : ℕ) (before mid after : Reading) (was left_mid left : Option (List ℕ)) →
-    Hands part before mid was left_mid → length part + count ≤ most → Stops answer count mid after left_mid left → Stops answer most before after was left
+    ConsumesPart part before mid was left_mid → length part + count ≤ most → Stops answer count mid after left_mid left → Stops answer most before after was left
 stops-behind Read part count most before mid after was left_mid left h fits stop = record {
   part = part ++ stop.part;
   few = omega (arith, stop.few, length-append part stop.part);
@@ -241,14 +241,14 @@ stops-behind Read part count most before mid after was left_mid left h fits stop
 stops-behind CutFile part count most before mid after was left_mid left h fits stop = record {
   part = part ++ stop.part;
   few = omega (arith, stop.few, length-append part stop.part);
-  hands = hands_more part stop.part before mid after was left_mid left h stop.hands;
-  none_held = stop.none_held;
+  hands = passes_more part stop.part before mid after was left_mid left h stop.hands;
+  none_pending = stop.none_pending;
   none_left = stop.none_left;
 }
 stops-behind TooMuch part count most before mid after was left_mid left h fits stop = record {
   part = part ++ stop.part;
   few = omega (arith, stop.few, length-append part stop.part);
-  hands = hands_more part stop.part before mid after was left_mid left h stop.hands;
+  hands = passes_more part stop.part before mid after was left_mid left h stop.hands;
   more = stop.more;
   full = stop.full;
 }
@@ -265,44 +265,44 @@ stops-more Read count most before after was left fits stop = record {
   spent = stop.spent;
 }
 stops-more CutFile count most before after was left fits stop =
-    record { part = stop.part; few = omega (arith, stop.few); hands = stop.hands; none_held = stop.none_held; none_left = stop.none_left }
+    record { part = stop.part; few = omega (arith, stop.few); hands = stop.hands; none_pending = stop.none_pending; none_left = stop.none_left }
 stops-more TooMuch count most before after was left fits stop =
     record { part = stop.part; few = omega (arith, stop.few); hands = stop.hands; more = stop.more; full = stop.full }
 stops-more _ count most before after was left fits stop = absurd stop
 
 pub stops-take : (answer : NextRecord) (count : ℕ) (before after : Reading) (was left : Option (List ℕ)) {taken now : ℕ} →
-    Stops answer count before after was left → taken ≤ now → Takes answer taken now
+    Stops answer count before after was left → taken ≤ now → ConsumesSome answer taken now
 stops-take Record count before after was left stop grows = absurd stop
 stops-take _ count before after was left stop grows = grows
 
 -- the length of a frame before it was cut, and the frame
 pub two-parts : {A : Type 0} (result : Result A NextRecord) (size : ℕ) (before mid after : Reading) (was left_mid left : Option (List ℕ)) →
-    HandsAll 4 before mid was left_mid → Parts result size mid after left_mid left → Frames result size before after was left
+    ConsumesAll 4 before mid was left_mid → Parts result size mid after left_mid left → Frames result size before after was left
 two-parts (Ok value) size before mid after was left_mid left four all = record {
   first_length = four.part;
   four = four.all;
   frame = all.part;
   all = all.all;
-  hands = hands_more four.part all.part before mid after was left_mid left four.hands all.hands;
+  hands = passes_more four.part all.part before mid after was left_mid left four.hands all.hands;
   kept = all.kept;
 }
 two-parts (Err answer) size before mid after was left_mid left four stop =
     stops-behind answer four.part size (4 + size) before mid after was left_mid left four.hands (omega (arith, four.all)) stop
 
 -- a record that is begun: the octets up to its frame's length
-pub record Begins (order : OctetOrder) (size : ℕ) (before after : Reading) (was left : Option (List ℕ)) : Type 0 where
+pub record StartsAt (order : OctetOrder) (size : ℕ) (before after : Reading) (was left : Option (List ℕ)) : Type 0 where
   pub known : before.order ≡ Some order
   pub head : List ℕ
   pub twelve : length head ≡ 12
-  pub hands : Hands head before after was left
+  pub hands : ConsumesPart head before after was left
   pub size_is : size ≡ number order (take 4 (drop 8 head))
   pub fits : after.taken ≤ max_input
 
 pub begins : (order : OctetOrder) (size : ℕ) (before mid after : Reading) (was left_mid left : Option (List ℕ)) → before.order ≡ Some order →
     octets_left before was ≡ octets_left mid left_mid → mid.taken ≡ before.taken → length before.held ≤ length mid.held →
-    HandsAll 12 mid after left_mid left → size ≡ number order (take 4 (drop 8 after.frame)) → after.taken ≤ max_input → Begins order size before after was left
+    ConsumesAll 12 mid after left_mid left → size ≡ number order (take 4 (drop 8 after.frame)) → after.taken ≤ max_input → StartsAt order size before after was left
 begins order size before mid after was left_mid left known looked taken held head size_is fits =
-    let frame : after.frame ≡ head.part = head.kept ∙ take_all max_kept head.part (omega (arith, head.all)) in
+    let frame : after.frame ≡ head.part = head.kept ∙ take_all max_stored head.part (omega (arith, head.all)) in
     record {
       known = known;
       head = head.part;
@@ -317,7 +317,7 @@ begins order size before mid after was left_mid left known looked taken held hea
     }
 
 pub bad-size : (order : OctetOrder) (size : ℕ) (before after : Reading) (was left : Option (List ℕ)) →
-    Begins order size before after was left → max_frame < size → Answers BadRecord before after was left
+    StartsAt order size before after was left → max_frame < size → Answers BadRecord before after was left
 bad-size order size before after was left b long =
     mapped (contents_from before.order (max_input - before.taken)) (contents_from after.order (max_input - after.taken)) (λ _. ends 1 BadRecord) b.head
     (octets_left before was) (octets_left after left) b.hands.octets
@@ -332,7 +332,7 @@ known-split part None octets is = absurd cc
 known-split part (Some rest) octets is = (rest, cc)
 
 frame-stops : (answer : NextRecord) (order : OctetOrder) (size : ℕ) (before mid after : Reading) (was left_mid left : Option (List ℕ)) →
-    Begins order size before mid was left_mid → size ≤ max_frame → after.taken ≤ max_input → Stops answer (4 + size) mid after left_mid left →
+    StartsAt order size before mid was left_mid → size ≤ max_frame → after.taken ≤ max_input → Stops answer (4 + size) mid after left_mid left →
     Missed answer 1 (contents_left before was) (contents_left after left)
 frame-stops answer order size before mid after was left_mid left b short bounded stop =
     let room : before.taken + 12 ≤ max_input = omega (arith, b.hands.taken, b.twelve, b.fits) in
@@ -345,13 +345,13 @@ frame-stops answer order size before mid after was left_mid left b short bounded
     rw b.known (stops-late order (max_input - before.taken) octets size answer size_is (omega (arith, room)) there short lacks))
     (stops-behind answer b.head (4 + size) (16 + size) before mid after was left_mid left b.hands (omega (arith, b.twelve)) stop)
 
-frame-read : (order : OctetOrder) (size : ℕ) (before mid after : Reading) (was left_mid left : Option (List ℕ)) → Begins order size before mid was left_mid →
+frame-read : (order : OctetOrder) (size : ℕ) (before mid after : Reading) (was left_mid left : Option (List ℕ)) → StartsAt order size before mid was left_mid →
     size ≤ max_frame → after.order ≡ Some order → after.taken ≤ max_input → HasFrame size mid after left_mid left →
     Answers Record before after was left
 frame-read order size before mid after was left_mid left b short told bounded f =
     let body = f.first_length ++ f.frame in
     let part = b.head ++ body in
-    let all = hands_more b.head body before mid after was left_mid left b.hands f.hands in
+    let all = passes_more b.head body before mid after was left_mid left b.hands f.hands in
     let body_size : length body ≡ 4 + size = omega (arith, length-append f.first_length f.frame, f.four, f.all) in
     let part_size : length part ≡ 16 + size = omega (arith, length-append b.head body, b.twelve, body_size) in
     let room : before.taken + (16 + size) ≤ max_input = omega (arith, all.taken, part_size) in
@@ -374,7 +374,7 @@ frame-read order size before mid after was left_mid left b short told bounded f 
     rw (b.known, told, f.kept) (rw (frame_is, rest_is, room_left) at one))
 
 pub frame-divides : {A : Type 0} (result : Result A NextRecord) (order : OctetOrder) (size : ℕ) (before mid after : Reading)
-    (was left_mid left : Option (List ℕ)) → Begins order size before mid was left_mid → size ≤ max_frame → after.order ≡ Some order →
+    (was left_mid left : Option (List ℕ)) → StartsAt order size before mid was left_mid → size ≤ max_frame → after.order ≡ Some order →
     after.taken ≤ max_input → Frames result size mid after left_mid left →
     Answers (answer_of result) before after was left
 frame-divides (Ok value) order size before mid after was left_mid left b short told bounded f =
@@ -384,8 +384,8 @@ frame-divides (Err answer) order size before mid after was left_mid left b short
     (frame-stops answer order size before mid after was left_mid left b short bounded stop)
 
 pub frame-takes : {A : Type 0} (result : Result A NextRecord) (order : OctetOrder) (size : ℕ) (before mid after : Reading)
-    (was left_mid left : Option (List ℕ)) → Begins order size before mid was left_mid → mid.taken ≤ after.taken → Frames result size mid after left_mid left →
-    Takes (answer_of result) before.taken after.taken
+    (was left_mid left : Option (List ℕ)) → StartsAt order size before mid was left_mid → mid.taken ≤ after.taken → Frames result size mid after left_mid left →
+    ConsumesSome (answer_of result) before.taken after.taken
 frame-takes (Ok value) order size before mid after was left_mid left b grows f =
     omega (arith, b.hands.taken, b.twelve, f.hands.taken, length-append f.first_length f.frame, f.four)
 frame-takes (Err answer) order size before mid after was left_mid left b grows stop = stops-take answer (4 + size) mid after left_mid left stop

@@ -49,9 +49,9 @@ unfolding records little_header little_head identity_frame
 cut_file = refl
 
 -- a second record is begun
-begun_file : contents (little_header ++ little_head ++ identity_frame ++ 0 ∷ []) ≡ record_of identity_frame (ends 1 CutFile)
+started_file : contents (little_header ++ little_head ++ identity_frame ++ 0 ∷ []) ≡ record_of identity_frame (ends 1 CutFile)
 unfolding records little_header little_head identity_frame
-begun_file = refl
+started_file = refl
 
 -- other magic numbers, other versions and another link type, of which the first is the answer
 nanoseconds : contents (161 ∷ 178 ∷ 60 ∷ 77 ∷ replicate 20 0) ≡ ends 0 BadMagic

@@ -5,7 +5,7 @@ use Rattle.std.proofs.lemmas.Bool.{lt-leb, le-leb, lt-ltb, le-ltb}
 use Rattle.eapol_capture.specs.declared.order.OctetOrder.{OctetOrder}
 use Rattle.eapol_capture.specs.declared.reader.NextRecord.{NextRecord}
 use Rattle.eapol_capture.specs.declared.reader.NextRecord.TheVariants.{End, CutFile, BadRecord, TooMuch}
-use Rattle.eapol_capture.specs.Files.{Contents, ends, record_of, number, missing, unless, records, all_records, max_frame, max_kept}
+use Rattle.eapol_capture.specs.Files.{Contents, ends, record_of, number, missing, unless, records, all_records, max_frame, max_stored}
 
 -- what so many octets are missing for
 pub none-missing : (count room : ℕ) (octets : List ℕ) → count ≤ room → count ≤ length octets → missing count room octets ≡ None
@@ -33,7 +33,7 @@ first : OctetOrder → ℕ → List ℕ → Contents → Contents
 first order room octets rest =
     unless 1 (missing 12 room octets)
     (cond (ltb max_frame (size_in order octets)) (ends 1 BadRecord)
-    (unless 1 (missing (16 + size_in order octets) room octets) (record_of (take max_kept (take (size_in order octets) (drop 16 octets))) rest)))
+    (unless 1 (missing (16 + size_in order octets) room octets) (record_of (take max_stored (take (size_in order octets) (drop 16 octets))) rest)))
 
 from_suc : (order : OctetOrder) (room x : ℕ) (rest : List ℕ) (most : ℕ) →
     records order room (x ∷ rest) (suc most) ≡
@@ -95,7 +95,7 @@ stops-late order room octets size answer is fits there short stops =
 
 pub one-record : (order : OctetOrder) (room : ℕ) (octets : List ℕ) (size : ℕ) → size ≡ number order (take 4 (drop 8 octets)) → size ≤ max_frame →
     16 + size ≤ room → 16 + size ≤ length octets →
-    all_records order room octets ≡ record_of (take max_kept (take size (drop 16 octets))) (all_records order (room - (16 + size)) (drop (16 + size) octets))
+    all_records order room octets ≡ record_of (take max_stored (take size (drop 16 octets))) (all_records order (room - (16 + size)) (drop (16 + size) octets))
 unfolding first size_in
 one-record order room octets size is short fits there =
     let none = none-missing 12 room octets (omega arith) (omega arith) in

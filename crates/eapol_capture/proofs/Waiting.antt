@@ -7,12 +7,12 @@ use Rattle.eapol_capture.specs.declared.order.OctetOrder.{OctetOrder}
 use Rattle.eapol_capture.specs.declared.reader.NextRecord.{NextRecord}
 use Rattle.eapol_capture.specs.declared.reader.NextRecord.TheVariants.{CutFile, Read}
 use Rattle.octet_io.specs.Lines.{max_input}
-use Rattle.eapol_capture.specs.Files.{number, order_of, order_or_fault, from_header, all_records, max_frame, max_kept}
+use Rattle.eapol_capture.specs.Files.{number, order_of, order_or_fault, from_header, all_records, max_frame, max_stored}
 use Rattle.eapol_capture.specs.Reading.{Reading, octets_left, is_open, Waits}
-use Rattle.eapol_capture.specs.Parts.{Hands, HandsAll, Stops, Frames, HasHeader, Heads, order_found, answer_of}
+use Rattle.eapol_capture.specs.Parts.{ConsumesPart, ConsumesAll, Stops, Frames, HasHeader, Heads, order_found, answer_of}
 use Rattle.eapol_capture.proofs.RecordLaws.{cut-missing, no-records, stops-early, stops-late}
-use Rattle.eapol_capture.proofs.Handing.{prepend-append, prepend-nil}
-use Rattle.eapol_capture.proofs.Dividing.{Begins, each-fault, header-is, size-front}
+use Rattle.eapol_capture.proofs.PassDelivery.{prepend-append, prepend-nil}
+use Rattle.eapol_capture.proofs.Dividing.{StartsAt, each-fault, header-is, size-front}
 
 -- the header
 
@@ -31,12 +31,12 @@ header-waits Read before after was left none fits bounded stop = record {
 }
 header-waits _ before after was left none fits bounded stop = tt
 
-pub header-heads : (found : Result OctetOrder NextRecord) (before mid after : Reading) (was left : Option (List ℕ)) → HandsAll 24 before mid was left →
+pub header-heads : (found : Result OctetOrder NextRecord) (before mid after : Reading) (was left : Option (List ℕ)) → ConsumesAll 24 before mid was left →
     found ≡ order_or_fault mid.frame → after ≡ record mid { order = order_found found } → Heads found before after was left
 header-heads (Ok order) before mid after was left all judged is =
-    let part_is : mid.frame ≡ all.part = all.kept ∙ take_all max_kept all.part (omega (arith, all.all)) in
+    let part_is : mid.frame ≡ all.part = all.kept ∙ take_all max_stored all.part (omega (arith, all.all)) in
     let good : order_or_fault all.part ≡ Ok order = rw part_is at (sym judged) in
-    let held : Hands all.part before (record mid { order = Some order }) was left =
+    let held : ConsumesPart all.part before (record mid { order = Some order }) was left =
     record { octets = all.hands.octets; taken = all.hands.taken; spent = all.hands.spent } in
     rw is (record { head = all.part; all = all.all; hands = held; judged = good; told = refl })
 header-heads (Err answer) before mid after was left all judged is =
@@ -102,7 +102,7 @@ frame-open order room size head part twelve is short few fits =
     rw (stops-late order room (head ++ part) size CutFile size_is (omega arith) (omega (arith, sizes)) short cut) refl
 
 pub frame-waits : {A : Type 0} (result : Result A NextRecord) (order : OctetOrder) (size : ℕ) (before mid after : Reading)
-    (was left_mid left : Option (List ℕ)) → Begins order size before mid was left_mid → size ≤ max_frame → after.taken ≤ max_input →
+    (was left_mid left : Option (List ℕ)) → StartsAt order size before mid was left_mid → size ≤ max_frame → after.taken ≤ max_input →
     Frames result size mid after left_mid left → Waits (answer_of result) before after was
 frame-waits (Err Read) order size before mid after was left_mid left b short bounded stop =
     let sizes = length-append b.head stop.part in

@@ -19,8 +19,8 @@ pub data Contents : Type 0 where
 abbrev pub max_frame : ℕ
 max_frame = 262144
 
-abbrev pub max_kept : ℕ
-max_kept = 4096
+abbrev pub max_stored : ℕ
+max_stored = 4096
 
 -- numbers of four and of two octets
 abbrev pub number : OctetOrder → List ℕ → ℕ
@@ -83,7 +83,7 @@ records order room (x ∷ rest) (suc most) =
     unless 1 (missing 12 room octets)
     (if nat_lt max_frame size then ends 1 BadRecord
     else unless 1 (missing whole room octets)
-    (record_of (take max_kept (take size (drop 16 octets))) (records order (room - whole) (drop whole octets) most)))
+    (record_of (take max_stored (take size (drop 16 octets))) (records order (room - whole) (drop whole octets) most)))
 
 abbrev pub all_records : OctetOrder → ℕ → List ℕ → Contents
 all_records order room octets = records order room octets (length octets)

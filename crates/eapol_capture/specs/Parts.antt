@@ -5,7 +5,7 @@ use Rattle.eapol_capture.specs.declared.order.OctetOrder.{OctetOrder}
 use Rattle.eapol_capture.specs.declared.reader.NextRecord.{NextRecord}
 use Rattle.eapol_capture.specs.declared.reader.NextRecord.TheVariants.{Record, End, CutFile, BadRecord, TooMuch, Read}
 use Rattle.octet_io.specs.Lines.{max_input}
-use Rattle.eapol_capture.specs.Files.{Contents, ends, order_or_fault, max_kept}
+use Rattle.eapol_capture.specs.Files.{Contents, ends, order_or_fault, max_stored}
 use Rattle.eapol_capture.specs.Reading.{Reading, octets_left, Waits}
 
 -- the answer that a step leads to, if it goes on to a record or stops
@@ -19,37 +19,37 @@ order_found (Ok order) = Some order
 order_found (Err answer) = None
 
 -- what no part changes
-pub record Keeps (before after : Reading) : Type 0 where
+pub record Preserves (before after : Reading) : Type 0 where
   pub order : after.order ≡ before.order
   pub number : after.number ≡ before.number
   pub over : after.over ≡ before.over
 
 -- these octets were consumed
-pub record Hands (part : List ℕ) (before after : Reading) (was left : Option (List ℕ)) : Type 0 where
+pub record ConsumesPart (part : List ℕ) (before after : Reading) (was left : Option (List ℕ)) : Type 0 where
   pub octets : octets_left before was ≡ prepend_known part (octets_left after left)
   pub taken : after.taken ≡ before.taken + length part
   pub spent : length before.held ≤ length part + length after.held
 
 -- so many octets were consumed, and a prefix of them was stored
-pub record HandsAll (count : ℕ) (before after : Reading) (was left : Option (List ℕ)) : Type 0 where
+pub record ConsumesAll (count : ℕ) (before after : Reading) (was left : Option (List ℕ)) : Type 0 where
   pub part : List ℕ
   pub all : length part ≡ count
-  pub hands : Hands part before after was left
-  pub kept : after.frame ≡ take max_kept part
+  pub hands : ConsumesPart part before after was left
+  pub kept : after.frame ≡ take max_stored part
 
 -- the file ended before
 pub record IsCut (count : ℕ) (before after : Reading) (was left : Option (List ℕ)) : Type 0 where
   pub part : List ℕ
   pub few : length part < count
-  pub hands : Hands part before after was left
-  pub none_held : after.held ≡ []
+  pub hands : ConsumesPart part before after was left
+  pub none_pending : after.held ≡ []
   pub none_left : left ≡ nothing_known left
 
 -- the octet past the limit came before
 pub record IsPast (count : ℕ) (before after : Reading) (was left : Option (List ℕ)) : Type 0 where
   pub part : List ℕ
   pub few : length part < count
-  pub hands : Hands part before after was left
+  pub hands : ConsumesPart part before after was left
   pub more : 0 < length after.held
   pub full : max_input ≤ after.taken
 
@@ -71,7 +71,7 @@ Stops answer count before after was left = ⊥
 
 -- the result of reading so many octets
 abbrev pub Parts : {A : Type 0} → Result A NextRecord → ℕ → Reading → Reading → Option (List ℕ) → Option (List ℕ) → Type 0
-Parts (Ok value) count before after was left = HandsAll count before after was left
+Parts (Ok value) count before after was left = ConsumesAll count before after was left
 Parts (Err answer) count before after was left = Stops answer count before after was left
 
 -- a frame of so many octets, behind its length before it was cut
@@ -80,8 +80,8 @@ pub record HasFrame (size : ℕ) (before after : Reading) (was left : Option (Li
   pub four : length first_length ≡ 4
   pub frame : List ℕ
   pub all : length frame ≡ size
-  pub hands : Hands (first_length ++ frame) before after was left
-  pub kept : after.frame ≡ take max_kept frame
+  pub hands : ConsumesPart (first_length ++ frame) before after was left
+  pub kept : after.frame ≡ take max_stored frame
 
 -- the result of reading such a frame
 abbrev pub Frames : {A : Type 0} → Result A NextRecord → ℕ → Reading → Reading → Option (List ℕ) → Option (List ℕ) → Type 0
@@ -105,7 +105,7 @@ Opens (Err answer) before after = Fails answer before after
 pub record HasHeader (order : OctetOrder) (before after : Reading) (was left : Option (List ℕ)) : Type 0 where
   pub head : List ℕ
   pub all : length head ≡ 24
-  pub hands : Hands head before after was left
+  pub hands : ConsumesPart head before after was left
   pub judged : order_or_fault head ≡ Ok order
   pub told : after.order ≡ Some order
 

@@ -66,36 +66,36 @@ abbrev pub records_at : Option OctetOrder → ℕ
 records_at None = 0
 records_at (Some order) = 1
 
-abbrev pub begun_in : NextRecord → Option OctetOrder → ℕ
-begun_in Record order = 1
-begun_in BadRecord order = 1
-begun_in CutFile order = records_at order
-begun_in TooMuch order = records_at order
-begun_in answer order = 0
+abbrev pub initiated_in : NextRecord → Option OctetOrder → ℕ
+initiated_in Record order = 1
+initiated_in BadRecord order = 1
+initiated_in CutFile order = records_at order
+initiated_in TooMuch order = records_at order
+initiated_in answer order = 0
 
 -- how one answer leads from a reader to the next
 abbrev pub Answers : NextRecord → Reading → Reading → Option (List ℕ) → Option (List ℕ) → Type 0
 Answers answer before after was left =
-    Divides answer (begun_in answer after.order) after.frame (contents_left before was) (contents_left after left)
+    Divides answer (initiated_in answer after.order) after.frame (contents_left before was) (contents_left after left)
 
 -- where the next record begins, in octets: behind the header
 abbrev pub header_left : Option OctetOrder → ℕ
 header_left None = 24
 header_left (Some order) = 0
 
-abbrev pub records_begin : Reading → ℕ
-records_begin reader = reader.taken + header_left reader.order
+abbrev pub records_start : Reading → ℕ
+records_start reader = reader.taken + header_left reader.order
 
 -- the records that an answer begins, the next one beginning at `start`: if a read fails, one of which an
 -- octet was consumed
 abbrev pub begun : NextRecord → ℕ → Reading → ℕ
 begun Read start after = min 1 (after.taken - start)
-begun answer start after = begun_in answer after.order
+begun answer start after = initiated_in answer after.order
 
 -- each record takes at least 16 octets
-abbrev pub Takes : NextRecord → ℕ → ℕ → Type 0
-Takes Record before after = before + 16 ≤ after
-Takes answer before after = before ≤ after
+abbrev pub ConsumesSome : NextRecord → ℕ → ℕ → Type 0
+ConsumesSome Record before after = before + 16 ≤ after
+ConsumesSome answer before after = before ≤ after
 
 -- at the end nothing is left
 abbrev pub Exhausts : NextRecord → Option (List ℕ) → Type 0

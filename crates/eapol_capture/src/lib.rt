@@ -8,6 +8,6 @@ mod order;
 mod reader;
 
 pub use frame::{FrameContents, FrameFinding, contents_of_frame, eap_of_frame};
-pub use laws::{fronts_carry_the_same, spelled_files_are_read, spelled_frames_carry_their_packets};
+pub use laws::{encoded_files_are_read, encoded_frames_carry_their_packets, fronts_carry_the_same};
 pub use order::OctetOrder;
 pub use reader::{NextRecord, PcapReader};

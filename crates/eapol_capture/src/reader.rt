@@ -5,7 +5,7 @@ ghost use Rattle.octet_io.specs.Known.{nothing_known};
 
 use crate::header::judge_header;
 use crate::order::OctetOrder;
-use octet_io::{Ahead, MAX_INPUT, Source};
+use octet_io::{MAX_INPUT, ReadBuffer, Source};
 use octet_lists::Octets;
 use std::marker::Model;
 
@@ -39,15 +39,15 @@ pub enum NextRecord {
 pub struct PcapReader {
     taken: u32,
     order: Option<OctetOrder>,
-    frame: Octets<MAX_KEPT>,
+    frame: Octets<MAX_STORED>,
     number: u32,
     over: bool,
-    ahead: Ahead,
+    ahead: ReadBuffer,
 }
 
 const MAX_FRAME: u32 = 262_144;
 
-const MAX_KEPT: usize = 4096;
+const MAX_STORED: usize = 4096;
 
 /// The octets of a file's header.
 const HEADER: u32 = 24;
@@ -74,9 +74,9 @@ impl PcapReader {
     ghost use Rattle.std.specs.Prelude.{None};
     ghost use Rattle.eapol_capture.specs.declared.reader.NextRecord.TheVariants.{Record, Read};
     ghost use Rattle.octet_io.specs.Lines.{max_input};
-    ghost use Rattle.eapol_capture.specs.Files.{max_kept, number, order_or_fault};
-    ghost use Rattle.eapol_capture.specs.Reading.{contents_left, octets_left, Answers, begun, records_begin, Takes, Exhausts, Waits, Faults, is_last};
-    ghost use Rattle.eapol_capture.specs.Parts.{answer_of, order_found, Keeps, Parts, Frames, Opens, Heads};
+    ghost use Rattle.eapol_capture.specs.Files.{max_stored, number, order_or_fault};
+    ghost use Rattle.eapol_capture.specs.Reading.{contents_left, octets_left, Answers, begun, records_start, ConsumesSome, Exhausts, Waits, Faults, is_last};
+    ghost use Rattle.eapol_capture.specs.Parts.{answer_of, order_found, Preserves, Parts, Frames, Opens, Heads};
 
     /// A reader that has read nothing.
     pub fn new() -> PcapReader
@@ -88,7 +88,7 @@ impl PcapReader {
             frame: Octets::new(),
             number: 0,
             over: false,
-            ahead: Ahead::new(),
+            ahead: ReadBuffer::new(),
         }
     }
 
@@ -100,9 +100,9 @@ impl PcapReader {
         // The answers are those of the octets that the reader has buffered and the source has left, however
         // they are cut into reads. If these decide, no further read is asked for.
         ensures contents { Answers result self.old self.new (S.shown.octets source.old) (S.shown.octets source.new) }
-        ensures number { self.new.number ≡ self.old.number + begun result (records_begin self.old) self.new }
+        ensures number { self.new.number ≡ self.old.number + begun result (records_start self.old) self.new }
         ensures over { self.new.over ≡ is_last result }
-        ensures takes { Takes result self.old.taken self.new.taken }
+        ensures takes { ConsumesSome result self.old.taken self.new.taken }
         ensures bounded { self.new.taken ≤ max_input }
         ensures exhausted { Exhausts result (S.shown.octets source.new) }
         ensures waits { Waits result self.old self.new (S.shown.octets source.old) }
@@ -119,7 +119,7 @@ impl PcapReader {
     /// The offset of the next record, in octets.
     fn start(&self) -> u32
         requires { self.now.over ≡ false }
-        ensures place { result ≡ records_begin self.now }
+        ensures place { result ≡ records_start self.now }
         ensures bounded { self.now.taken ≤ max_input }
         ensures counted { self.now.number ≤ self.now.taken }
     {
@@ -136,14 +136,14 @@ impl PcapReader {
         requires room { answer ≡ Record → self.old.number < self.old.taken }
         ensures { self.new ≡ record self.old { number = self.old.number + begun answer start self.old; over = is_last answer } }
     {
-        let has_begun = match answer {
+        let has_initiated = match answer {
             NextRecord::Record | NextRecord::BadRecord => true,
             NextRecord::CutFile | NextRecord::TooMuch => self.order.is_some(),
             NextRecord::Read => start < self.taken,
             _ => false,
         };
         self.over = answer != NextRecord::Record;
-        self.number += u32::from(has_begun);
+        self.number += u32::from(has_initiated);
     }
 
     /// Reads the header, if that wasn't done, and a record.
@@ -152,7 +152,7 @@ impl PcapReader {
         ensures contents { Answers result self.old self.new (S.shown.octets source.old) (S.shown.octets source.new) }
         ensures number { self.new.number ≡ self.old.number }
         ensures over { self.new.over ≡ self.old.over }
-        ensures takes { Takes result self.old.taken self.new.taken }
+        ensures takes { ConsumesSome result self.old.taken self.new.taken }
         ensures bounded { self.new.taken ≤ max_input }
         ensures exhausted { Exhausts result (S.shown.octets source.new) }
         ensures waits { Waits result self.old self.new (S.shown.octets source.old) }
@@ -204,7 +204,7 @@ impl PcapReader {
         ensures contents { Answers result self.old self.new (S.shown.octets source.old) (S.shown.octets source.new) }
         ensures number { self.new.number ≡ self.old.number }
         ensures over { self.new.over ≡ self.old.over }
-        ensures takes { Takes result self.old.taken self.new.taken }
+        ensures takes { ConsumesSome result self.old.taken self.new.taken }
         ensures bounded { self.new.taken ≤ max_input }
         ensures exhausted { Exhausts result (S.shown.octets source.new) }
         ensures waits { Waits result self.old self.new (S.shown.octets source.old) }
@@ -224,7 +224,7 @@ impl PcapReader {
         ensures contents { Answers (answer_of result) self.old self.new (S.shown.octets source.old) (S.shown.octets source.new) }
         ensures number { self.new.number ≡ self.old.number }
         ensures over { self.new.over ≡ self.old.over }
-        ensures takes { Takes (answer_of result) self.old.taken self.new.taken }
+        ensures takes { ConsumesSome (answer_of result) self.old.taken self.new.taken }
         ensures bounded { self.new.taken ≤ max_input }
         ensures exhausted { Exhausts (answer_of result) (S.shown.octets source.new) }
         ensures waits { Waits (answer_of result) self.old self.new (S.shown.octets source.old) }
@@ -250,7 +250,7 @@ impl PcapReader {
         requires bounded { self.old.taken ≤ max_input }
         ensures part { Parts result 12 self.old self.new (S.shown.octets source.old) (S.shown.octets source.new) }
         ensures length { IfOk result (λ size. size ≡ number order (take 4 (drop 8 self.new.frame))) }
-        ensures keeps { Keeps self.old self.new }
+        ensures keeps { Preserves self.old self.new }
         ensures grows { self.old.taken ≤ self.new.taken }
         ensures bounded { self.new.taken ≤ max_input }
         ensures read { Faults S.shown (answer_of result) source.old source.new }
@@ -264,7 +264,7 @@ impl PcapReader {
     fn read_body<S: Source>(&mut self, source: &mut S, size: u32) -> Result<(), NextRecord>
         requires bounded { self.old.taken ≤ max_input }
         ensures part { Frames result size self.old self.new (S.shown.octets source.old) (S.shown.octets source.new) }
-        ensures keeps { Keeps self.old self.new }
+        ensures keeps { Preserves self.old self.new }
         ensures grows { self.old.taken ≤ self.new.taken }
         ensures bounded { self.new.taken ≤ max_input }
         ensures read { Faults S.shown (answer_of result) source.old source.new }
@@ -278,9 +278,9 @@ impl PcapReader {
     /// `TooMuch`: the octet past the limit comes before.
     fn read_part<S: Source>(&mut self, source: &mut S, count: u32) -> Result<(), NextRecord>
         requires bounded { self.old.taken ≤ max_input }
-        ensures size { OnOk result (length self.new.frame ≡ min count max_kept) }
+        ensures size { OnOk result (length self.new.frame ≡ min count max_stored) }
         ensures part { Parts result count self.old self.new (S.shown.octets source.old) (S.shown.octets source.new) }
-        ensures keeps { Keeps self.old self.new }
+        ensures keeps { Preserves self.old self.new }
         ensures grows { self.old.taken ≤ self.new.taken }
         ensures bounded { self.new.taken ≤ max_input }
         ensures read { Faults S.shown (answer_of result) source.old source.new }
@@ -292,7 +292,7 @@ impl PcapReader {
             if !self.has_more(source)? {
                 return Err(NextRecord::CutFile);
             }
-            let handed = self.take_held(missing);
+            let handed = self.consume_pending(missing);
             if handed == 0 {
                 return Err(NextRecord::TooMuch);
             }
@@ -310,13 +310,13 @@ impl PcapReader {
 
     /// Whether an octet is left. Reads if none is buffered.
     fn has_more<S: Source>(&mut self, source: &mut S) -> Result<bool, NextRecord>
-        ensures keeps { Keeps self.old self.new }
+        ensures keeps { Preserves self.old self.new }
         ensures taken { self.new.taken ≡ self.old.taken }
         ensures frame { self.new.frame ≡ self.old.frame }
         ensures left { OnOk result (octets_left self.old (S.shown.octets source.old) ≡ octets_left self.new (S.shown.octets source.new)) }
         ensures held { OnOk result (length self.old.held ≤ length self.new.held) }
         ensures some { result ≡ Ok true → 0 < length self.new.held }
-        ensures none_held { result ≡ Ok false → self.new.held ≡ [] }
+        ensures none_pending { result ≡ Ok false → self.new.held ≡ [] }
         ensures none_left { result ≡ Ok false → S.shown.octets source.new ≡ nothing_known (S.shown.octets source.new) }
         ensures failed { IfErr result (λ answer. answer ≡ Read) }
         ensures spent { OnErr result (self.old.held ≡ []) }
@@ -333,20 +333,20 @@ impl PcapReader {
     }
 
     /// Consumes octets that it has buffered, at most so many and as many as pass no limit, and answers how many.
-    fn take_held(&mut self, most: u32) -> u32
+    fn consume_pending(&mut self, most: u32) -> u32
         ensures fits { result ≤ most }
         ensures there { result ≤ length self.old.held }
         ensures taken { self.new.taken ≡ self.old.taken + result }
         ensures held { self.new.held ≡ drop result self.old.held }
-        ensures kept { self.new.frame ≡ take max_kept (self.old.frame ++ take result self.old.held) }
+        ensures kept { self.new.frame ≡ take max_stored (self.old.frame ++ take result self.old.held) }
         ensures stuck { result ≡ 0 → 0 < most → 0 < length self.old.held → max_input ≤ self.new.taken }
-        ensures keeps { Keeps self.old self.new }
+        ensures keeps { Preserves self.old self.new }
         ensures bounded { self.new.taken ≤ max_input }
     {
         let budget = (MAX_INPUT - self.taken).min(most) as usize;
         let held = self.ahead.as_slice();
         let count = held.len().min(budget);
-        let kept = count.min(MAX_KEPT - self.frame.len());
+        let kept = count.min(MAX_STORED - self.frame.len());
         self.frame.put(&held[..kept]);
         self.ahead.skip(count);
         self.taken += count as u32;
@@ -356,7 +356,7 @@ impl PcapReader {
     /// If the last answer was `Record`, what was stored of its frame: the first octets, at most 4,096.
     pub fn frame(&self) -> &[u8]
         ensures same { result.now ≡ self.now.frame }
-        ensures fits { length result.now ≤ max_kept }
+        ensures fits { length result.now ≤ max_stored }
     {
         self.frame.as_slice()
     }

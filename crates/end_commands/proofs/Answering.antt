@@ -7,7 +7,7 @@ use Rattle.scenario_text.specs.Reading.{peer_setup_of, server_setup_of}
 use Rattle.end_pipe.specs.EndRun.{peer_table, server_table}
 use Rattle.end_pipe.specs.declared.table.Role.TheVariants.{Peer, Server}
 use Rattle.command_driver.specs.Commands.{answer}
-use Rattle.end_commands.specs.EndCommand.{end_closing, end_took, nothing_taken}
+use Rattle.end_commands.specs.EndCommand.{end_closing, end_line_result, initial_command}
 use Rattle.end_commands.specs.PeerCommand.{peer_answer}
 use Rattle.end_commands.specs.ServerCommand.{server_answer}
 use Rattle.end_commands.proofs.Scripted.{answers_are}
@@ -17,9 +17,9 @@ made : {A B : Type 0} (x : Result A LineFault) (f : A → B) → is_err x ≡ fa
 made (Ok a) f e = refl
 made (Err fault) f e = absurd cc
 
-pub peer_answers : (octets : List ℕ) → answer (end_took peer_table) (end_closing peer_table) 0 (nothing_taken Peer) (lines octets) ≡ peer_answer octets
+pub peer_answers : (octets : List ℕ) → answer (end_line_result peer_table) (end_closing peer_table) 0 (initial_command Peer) (lines octets) ≡ peer_answer octets
 peer_answers octets = answers_are Peer peer_table (λ s whole. made (peer_setup_of s) _ whole) octets
 
 pub server_answers : (octets : List ℕ)
-    → answer (end_took server_table) (end_closing server_table) 0 (nothing_taken Server) (lines octets) ≡ server_answer octets
+    → answer (end_line_result server_table) (end_closing server_table) 0 (initial_command Server) (lines octets) ≡ server_answer octets
 server_answers octets = answers_are Server server_table (λ s whole. made (server_setup_of s) _ whole) octets

@@ -10,14 +10,14 @@ use Rattle.scenario_text.specs.declared.settings.Settings.{Settings}
 use Rattle.end_pipe.proofs.EndSteps.{Follows, Header, Passed, NewSetting, AllSet, NewInput, AllRead, line_follows}
 use Rattle.end_pipe.specs.EndReading.{EndReading, ReadLine, finish_of, lacks_some, read_line}
 use Rattle.end_pipe.specs.EndReading as item
-use Rattle.end_pipe.specs.EndRun.{Begun, EndNow, MachineTable, end_after, end_step, told_of}
+use Rattle.end_pipe.specs.EndRun.{EndStart, EndNow, MachineTable, end_after, end_step, told_of}
 use Rattle.end_pipe.specs.declared.input.EndInput.{EndInput}
 use Rattle.end_pipe.specs.declared.table.Role.{Role}
 use Rattle.command_driver.specs.Answers.{Answer, after_text}
-use Rattle.command_driver.specs.Commands.{Took, after_ruling, answer, closing_answer, goes, refuses}
+use Rattle.command_driver.specs.Commands.{LineResult, after_ruling, answer, closing_answer, goes, refuses}
 use Rattle.command_driver.specs.declared.status.Status.TheVariants as status
-use Rattle.end_commands.specs.EndCommand.{CommandNow, begins_with, closing_by, end_closing, end_took, nothing_taken, took_reading}
-use Rattle.end_commands.specs.EndScript.{Script, adds, begun_answer, finish_ending, max_inputs, read_after, run_answer, script_answer, script_from, script_of, stops, taken_after, too_much_at, with_line}
+use Rattle.end_commands.specs.EndCommand.{CommandNow, begins_with, closing_by, end_closing, end_line_result, initial_command, reading_result}
+use Rattle.end_commands.specs.EndScript.{Script, adds, started_answer, finish_ending, max_inputs, read_after, run_answer, script_answer, script_from, script_of, stops, accepted_after, too_much_at, with_line}
 use Rattle.end_commands.specs.EndText.{start_text, told_text, tolds_text}
 
 -- before the line `events`, and from it on
@@ -31,7 +31,7 @@ pub data InRun : Phase → Type 0 where
 
 module _ {N : Type 0} (role : Role) (table : MachineTable N) (begins : (s : Settings) → lacks_some role s ≡ false → IsOk (table.begins s)) where
   abbrev answers : ℕ → CommandNow N → Lines → Answer
-  answers n c ls = answer (end_took table) (end_closing table) n c ls
+  answers n c ls = answer (end_line_result table) (end_closing table) n c ls
 
   abbrev reading : Phase → Settings → EndReading
   reading p s = record { role = role; phase = p; settings = s }
@@ -46,11 +46,11 @@ module _ {N : Type 0} (role : Role) (table : MachineTable N) (begins : (s : Sett
   -- what is answered from a line on, by what the reader answers
   abbrev line_answer : ℕ → CommandNow N → Lines → Result ReadLine LineFault → Answer
   line_answer n c rest x =
-      after_text (took_reading table c x).text
-      (after_ruling (n + 1) (took_reading table c x).ruling (answers (n + 1) (took_reading table c x).after rest))
+      after_text (reading_result table c x).text
+      (after_ruling (n + 1) (reading_result table c x).ruling (answers (n + 1) (reading_result table c x).after rest))
 
   abbrev line_script : ℕ → ℕ → EndReading → Lines → Result ReadLine LineFault → Script
-  line_script n taken r rest x = with_line (n + 1) taken x (script_from (n + 1) (taken_after taken x) (read_after r x) rest)
+  line_script n taken r rest x = with_line (n + 1) taken x (script_from (n + 1) (accepted_after taken x) (read_after r x) rest)
 
   abbrev run_script : ℕ → EndNow N → Script → Answer
   run_script taken e s = run_answer table taken e s.inputs s.ending
@@ -69,7 +69,7 @@ module _ {N : Type 0} (role : Role) (table : MachineTable N) (begins : (s : Sett
   -- an input, by whether it is one too many
   input_in_run : (n : ℕ) (s : Settings) (e : EndNow N) (taken : ℕ) (rest : Lines) (input : EndInput) → Continues (n + 1) rest → (over : Bool)
       → (let c = running phase.Events s e taken in
-      let t : Took (CommandNow N) = cond over (record { text = []; ruling = refuses (codes "TooMuch") status.TooMuch; after = c })
+      let t : LineResult (CommandNow N) = cond over (record { text = []; ruling = refuses (codes "TooMuch") status.TooMuch; after = c })
       (record { text = told_text (taken + 1) (end_step table e input).told; ruling = goes; after = running phase.Events s (end_step table e input).after (taken + 1) }) in
       after_text t.text (after_ruling (n + 1) t.ruling (answers (n + 1) t.after rest)))
       ≡ run_script taken e
@@ -102,7 +102,7 @@ module _ {N : Type 0} (role : Role) (table : MachineTable N) (begins : (s : Sett
 
   -- with an end the command answers the run of the inputs to come
   answers_in_run : (ls : Lines) (n : ℕ) → Continues n ls
-  unfolding answer end_took end_closing script_from end_after told_of tolds_text
+  unfolding answer end_line_result end_closing script_from end_after told_of tolds_text
   answers_in_run ended n p s e taken r = end_in_run n p s e taken (finish_of (reading p s))
   answers_in_run too_long n p s e taken r = refl
   answers_in_run too_much n p s e taken r = refl
@@ -122,18 +122,18 @@ module _ {N : Type 0} (role : Role) (table : MachineTable N) (begins : (s : Sett
   end_before n p s (Err fault) = refl
 
   -- the line `events`
-  begins_run : (n : ℕ) (s : Settings) (rest : Lines) (start : Result (Begun N) LineFault) → IsOk start
+  starts_run : (n : ℕ) (s : Settings) (rest : Lines) (start : Result (EndStart N) LineFault) → IsOk start
       → (let t = begins_with (waiting phase.Events s) start in after_text t.text (after_ruling (n + 1) t.ruling (answers (n + 1) t.after rest)))
-      ≡ (let script = script_from (n + 1) 0 (reading phase.Events s) rest in begun_answer table start script.inputs script.ending)
-  begins_run n s rest (Ok start) is = ap (after_text (start_text start.told)) (answers_in_run rest (n + 1) phase.Events s start.after 0 AtEvents)
-  begins_run n s rest (Err fault) is = absurd cc
+      ≡ (let script = script_from (n + 1) 0 (reading phase.Events s) rest in started_answer table start script.inputs script.ending)
+  starts_run n s rest (Ok start) is = ap (after_text (start_text start.told)) (answers_in_run rest (n + 1) phase.Events s start.after 0 AtEvents)
+  starts_run n s rest (Err fault) is = absurd cc
 
   line_before : (n : ℕ) (p : Phase) (s : Settings) (rest : Lines) → BeforeRun p → Waits (n + 1) rest → (out : ReadLine) → Follows role s p out
       → line_answer n (waiting p s) rest (Ok out) ≡ whole_script (line_script n 0 (reading p s) rest (Ok out))
   line_before n _ s rest r ih _ Header = ih phase.Settings no_settings AtSettings
   line_before n _ s rest r ih _ (Passed p) = ih p s r
   line_before n _ s rest r ih _ (NewSetting v) = ih phase.Settings (with_setting s v) AtSettings
-  line_before n _ s rest r ih _ (AllSet whole) = begins_run n s rest (table.begins s) (begins s whole)
+  line_before n _ s rest r ih _ (AllSet whole) = starts_run n s rest (table.begins s) (begins s whole)
   line_before n _ s rest r ih _ (NewInput input) = elim r [ ]
   line_before n _ s rest r ih _ AllRead = elim r [ ]
 
@@ -145,12 +145,12 @@ module _ {N : Type 0} (role : Role) (table : MachineTable N) (begins : (s : Sett
 
   -- before it the command answers what the text does
   answers_before : (ls : Lines) (n : ℕ) → Waits n ls
-  unfolding answer end_took end_closing script_from
+  unfolding answer end_line_result end_closing script_from
   answers_before ended n p s r = end_before n p s (finish_of (reading p s))
   answers_before too_long n p s r = refl
   answers_before too_much n p s r = refl
   answers_before (line l rest) n p s r =
       line_waits n p s rest r (answers_before rest (n + 1)) (read_line (reading p s) l) (line_follows (reading p s) l)
 
-  pub answers_are : (octets : List ℕ) → answers 0 (nothing_taken role) (lines octets) ≡ script_answer table (script_of role octets)
+  pub answers_are : (octets : List ℕ) → answers 0 (initial_command role) (lines octets) ≡ script_answer table (script_of role octets)
   answers_are octets = answers_before (lines octets) 0 phase.Unread no_settings AtUnread

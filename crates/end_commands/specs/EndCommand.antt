@@ -4,10 +4,10 @@ use Rattle.text_tables.specs.Words.{fault_word}
 use Rattle.text_tables.specs.declared.fault.LineFault.{LineFault}
 use Rattle.end_pipe.specs.EndReading.{EndReading, ReadLine, Item, finish_of, read_line, unread}
 use Rattle.end_pipe.specs.EndReading as item
-use Rattle.end_pipe.specs.EndRun.{Begun, EndNow, EndOutcome, MachineTable, end_now, end_step}
+use Rattle.end_pipe.specs.EndRun.{EndStart, EndNow, EndOutcome, MachineTable, end_now, end_step}
 use Rattle.end_pipe.specs.declared.input.EndInput.{EndInput}
 use Rattle.end_pipe.specs.declared.table.Role.{Role}
-use Rattle.command_driver.specs.Commands.{Took, Closing, goes, refuses, ends, misses}
+use Rattle.command_driver.specs.Commands.{LineResult, Closing, goes, refuses, ends, misses}
 use Rattle.command_driver.specs.declared.status.Status.TheVariants as status
 use Rattle.end_commands.specs.EndScript.{max_inputs}
 use Rattle.end_commands.specs.EndText.{told_text, start_text, last_text}
@@ -21,23 +21,23 @@ pub record CommandNow (N : Type 0) : Type 0 where
   pub taken : ℕ
 
 -- a line that brings nothing to write
-abbrev pub goes_silently : {N : Type 0} → CommandNow N → Took (CommandNow N)
-goes_silently c = record { text = []; ruling = goes; after = c }
+abbrev pub proceeds_silently : {N : Type 0} → CommandNow N → LineResult (CommandNow N)
+proceeds_silently c = record { text = []; ruling = goes; after = c }
 
-abbrev pub is_refused : {N : Type 0} → CommandNow N → List ℕ → Took (CommandNow N)
+abbrev pub is_refused : {N : Type 0} → CommandNow N → List ℕ → LineResult (CommandNow N)
 is_refused c word = record { text = []; ruling = refuses word status.Refused; after = c }
 
 -- the line `events`: the end begins
-abbrev pub begins_with : {N : Type 0} → CommandNow N → Result (Begun N) LineFault → Took (CommandNow N)
-begins_with c (Err fault) = goes_silently c
+abbrev pub begins_with : {N : Type 0} → CommandNow N → Result (EndStart N) LineFault → LineResult (CommandNow N)
+begins_with c (Err fault) = proceeds_silently c
 begins_with c (Ok start) = record { text = start_text start.told; ruling = goes; after = record c { pipe = Some start.after } }
 
-abbrev pub begins_in : {N : Type 0} → MachineTable N → CommandNow N → Option (EndNow N) → Took (CommandNow N)
-begins_in table c (Some e) = goes_silently c
-begins_in table c None = begins_with c (table.begins c.reader.settings)
+abbrev pub initiates_in : {N : Type 0} → MachineTable N → CommandNow N → Option (EndNow N) → LineResult (CommandNow N)
+initiates_in table c (Some e) = proceeds_silently c
+initiates_in table c None = begins_with c (table.begins c.reader.settings)
 
 -- an input: the end takes it, but for one too many
-abbrev pub steps_to : {N : Type 0} → CommandNow N → EndOutcome N → Took (CommandNow N)
+abbrev pub steps_to : {N : Type 0} → CommandNow N → EndOutcome N → LineResult (CommandNow N)
 steps_to c out =
     if nat_le max_inputs c.taken
     then record { text = []; ruling = refuses (codes "TooMuch") status.TooMuch; after = c }
@@ -47,30 +47,30 @@ steps_to c out =
       after = record c { pipe = Some out.after; taken = c.taken + 1 };
     }
 
-abbrev pub steps_in : {N : Type 0} → MachineTable N → CommandNow N → Option (EndNow N) → EndInput → Took (CommandNow N)
-steps_in table c None input = goes_silently c
+abbrev pub steps_in : {N : Type 0} → MachineTable N → CommandNow N → Option (EndNow N) → EndInput → LineResult (CommandNow N)
+steps_in table c None input = proceeds_silently c
 steps_in table c (Some e) input = steps_to c (end_step table e input)
 
 module _ {N : Type 0} (table : MachineTable N) where
-  abbrev pub begins_at : CommandNow N → Took (CommandNow N)
-  begins_at c = begins_in table c c.pipe
+  abbrev pub starts_at : CommandNow N → LineResult (CommandNow N)
+  starts_at c = initiates_in table c c.pipe
 
-  abbrev pub steps_at : CommandNow N → EndInput → Took (CommandNow N)
+  abbrev pub steps_at : CommandNow N → EndInput → LineResult (CommandNow N)
   steps_at c input = steps_in table c c.pipe input
 
-  abbrev pub took_item : CommandNow N → Item → Took (CommandNow N)
-  took_item c item.Nothing = goes_silently c
-  took_item c item.Ready = begins_at c
-  took_item c (item.Input input) = steps_at c input
-  took_item c item.End = goes_silently c
+  abbrev pub item_result : CommandNow N → Item → LineResult (CommandNow N)
+  item_result c item.Nothing = proceeds_silently c
+  item_result c item.Ready = starts_at c
+  item_result c (item.Input input) = steps_at c input
+  item_result c item.End = proceeds_silently c
 
-  abbrev pub took_reading : CommandNow N → Result ReadLine LineFault → Took (CommandNow N)
-  took_reading c (Err fault) = is_refused c (fault_word fault)
-  took_reading c (Ok r) = took_item (record c { reader = r.after }) r.item
+  abbrev pub reading_result : CommandNow N → Result ReadLine LineFault → LineResult (CommandNow N)
+  reading_result c (Err fault) = is_refused c (fault_word fault)
+  reading_result c (Ok r) = item_result (record c { reader = r.after }) r.item
 
   -- the result of a line
-  unfoldable pub end_took : CommandNow N → List ℕ → Took (CommandNow N)
-  end_took c l = took_reading c (read_line c.reader l)
+  unfoldable pub end_line_result : CommandNow N → List ℕ → LineResult (CommandNow N)
+  end_line_result c l = reading_result c (read_line c.reader l)
 
   -- the end of the input
   abbrev pub last_of : Option (EndNow N) → List ℕ
@@ -85,8 +85,8 @@ module _ {N : Type 0} (table : MachineTable N) where
   end_closing c = closing_by c (finish_of c.reader)
 
 -- nothing has been read
-abbrev pub nothing_taken : {N : Type 0} → Role → CommandNow N
-nothing_taken role = record { reader = unread role; pipe = None; taken = 0 }
+abbrev pub initial_command : {N : Type 0} → Role → CommandNow N
+initial_command role = record { reader = unread role; pipe = None; taken = 0 }
 
 -- no line fails for want of memory
 abbrev pub end_lacks : {N : Type 0} → CommandNow N → List ℕ → Bool
@@ -96,7 +96,7 @@ abbrev pub end_seen : {M E N : Type 0} → (E → N) → End M E → CommandNow 
 end_seen shown c = record { reader = c.reader; pipe = option_map (end_now shown) c.pipe; taken = c.taken }
 
 -- the objects of both methods are there until the end begins, and then inputs may come to it
-pub record IsReady {M E : Type 0} (is_going : E → Type 0) (has_both : List M → Type 0) (c : End M E) (lines : ℕ) : Type 0 where
+pub record IsReady {M E : Type 0} (is_running : E → Type 0) (has_both : List M → Type 0) (c : End M E) (lines : ℕ) : Type 0 where
   pub there : c.pipe ≡ None → IsSome c.methods
   pub objects : IfSome c.methods (λ methods. has_both methods.items)
-  pub going : IfSome c.pipe (λ p. is_going p.machine)
+  pub going : IfSome c.pipe (λ p. is_running p.machine)

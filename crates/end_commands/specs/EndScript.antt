@@ -6,7 +6,7 @@ use Rattle.text_tables.specs.declared.fault.LineFault.{LineFault}
 use Rattle.scenario_text.specs.declared.settings.Settings.{Settings}
 use Rattle.end_pipe.specs.EndReading.{EndReading, ReadLine, Item, unread, read_line, finish_of}
 use Rattle.end_pipe.specs.EndReading as item
-use Rattle.end_pipe.specs.EndRun.{Begun, EndNow, MachineTable, end_after, end_step, told_of}
+use Rattle.end_pipe.specs.EndRun.{EndStart, EndNow, MachineTable, end_after, end_step, told_of}
 use Rattle.end_pipe.specs.declared.input.EndInput.{EndInput}
 use Rattle.end_pipe.specs.declared.table.Role.{Role}
 use Rattle.command_driver.specs.Answers.{Answer, after_text, refusal}
@@ -57,9 +57,9 @@ abbrev pub read_after : EndReading → Result ReadLine LineFault → EndReading
 read_after r (Ok x) = x.after
 read_after r (Err fault) = r
 
-abbrev pub taken_after : ℕ → Result ReadLine LineFault → ℕ
-taken_after taken (Ok x) = if is_input x.item then taken + 1 else taken
-taken_after taken (Err fault) = taken
+abbrev pub accepted_after : ℕ → Result ReadLine LineFault → ℕ
+accepted_after taken (Ok x) = if is_input x.item then taken + 1 else taken
+accepted_after taken (Err fault) = taken
 
 -- the script from a line on, whose number is given and before which so many inputs have come
 abbrev pub with_line : ℕ → ℕ → Result ReadLine LineFault → Script → Script
@@ -73,7 +73,7 @@ script_from n taken r ended = stops (finish_ending (n + 1) (finish_of r))
 script_from n taken r too_long = stops (too_much_at (n + 1))
 script_from n taken r too_much = stops (too_much_at (n + 1))
 script_from n taken r (line l rest) =
-    with_line (n + 1) taken (read_line r l) (script_from (n + 1) (taken_after taken (read_line r l)) (read_after r (read_line r l)) rest)
+    with_line (n + 1) taken (read_line r l) (script_from (n + 1) (accepted_after taken (read_line r l)) (read_after r (read_line r l)) rest)
 
 -- the script that an input is to this end
 abbrev pub script_of : Role → List ℕ → Script
@@ -96,13 +96,13 @@ module _ {N : Type 0} (table : MachineTable N) where
   run_answer taken e inputs ending =
       after_text (tolds_text taken (told_of (end_step table) e inputs)) (ending_answer (end_after (end_step table) e inputs) ending)
 
-  abbrev pub begun_answer : Result (Begun N) LineFault → List EndInput → Ending → Answer
-  begun_answer (Err fault) inputs ending = unset_answer ending
-  begun_answer (Ok start) inputs ending = after_text (start_text start.told) (run_answer 0 start.after inputs ending)
+  abbrev pub started_answer : Result (EndStart N) LineFault → List EndInput → Ending → Answer
+  started_answer (Err fault) inputs ending = unset_answer ending
+  started_answer (Ok start) inputs ending = after_text (start_text start.told) (run_answer 0 start.after inputs ending)
 
   abbrev pub settings_answer : Option Settings → List EndInput → Ending → Answer
   settings_answer None inputs ending = unset_answer ending
-  settings_answer (Some settings) inputs ending = begun_answer (table.begins settings) inputs ending
+  settings_answer (Some settings) inputs ending = started_answer (table.begins settings) inputs ending
 
   abbrev pub script_answer : Script → Answer
   script_answer s = settings_answer s.settings s.inputs s.ending

@@ -9,7 +9,7 @@ ghost use Rattle.end_commands.specs.EndText.{told_text};
 
 use crate::lines::{write_last, write_step};
 use command_driver::{Close, Command, Next, Status, Trouble};
-use eap_method::{Kept, Tags};
+use eap_method::{Tags, TwoRecords};
 use end_pipe::{EndInput, EndPipe, EndReader, EndStep, Machine, Role};
 use octet_io::{Failed, Sink};
 use octet_lists::Packet;
@@ -30,15 +30,15 @@ pub struct End<M, E> {
     /// The packet that the end sends.
     pub(crate) packet: Packet,
     /// The records of its tags.
-    pub(crate) tags: Tags<Kept>,
+    pub(crate) tags: Tags<TwoRecords>,
 }
 
 /// How an end begins.
-pub trait Begins<M>: Machine {
+pub trait CanStart<M>: Machine {
     ghost use Rattle.std.specs.Prelude.{List, option_map};
-    ghost use Rattle.end_pipe.specs.EndRun.{told_with};
+    ghost use Rattle.end_pipe.specs.EndRun.{result_with};
     ghost use Rattle.command_driver.specs.Commands.{goes};
-    ghost use Rattle.end_commands.specs.EndCommand.{IsReady, begins_at, end_seen};
+    ghost use Rattle.end_commands.specs.EndCommand.{IsReady, starts_at, end_seen};
     ghost use Rattle.end_commands.specs.EndText.{start_text};
 
     /// Whether there is an object of each method.
@@ -47,26 +47,26 @@ pub trait Begins<M>: Machine {
     /// The line `events`: the end begins with the settings that were read. Answers what it does at its start, if it has
     /// one.
     fn begin(end: &mut End<M, Self>) -> Option<EndStep>
-        requires ready { IsReady Self.is_going has_both end.old 0 }
-        ensures ready_after { IsReady Self.is_going has_both end.new 0 }
-        ensures begins { begins_at Self.table (end_seen Self.shown end.old)
+        requires ready { IsReady Self.is_running has_both end.old 0 }
+        ensures ready_after { IsReady Self.is_running has_both end.new 0 }
+        ensures begins { starts_at Self.table (end_seen Self.shown end.old)
             ≡ record {
-              text = start_text (option_map (λ step. told_with step end.new.packet end.new.tags) result);
+              text = start_text (option_map (λ step. result_with step end.new.packet end.new.tags) result);
               ruling = goes;
               after = end_seen Self.shown end.new;
             } };
 }
 
-impl<M, E: Begins<M>> End<M, E> {
+impl<M, E: CanStart<M>> End<M, E> {
     ghost use Rattle.command_driver.specs.Commands.{AnswersLine, AnswersEnd, ends};
     ghost use Rattle.command_driver.specs.declared.status.Status.{Status};
-    ghost use Rattle.end_commands.specs.EndCommand.{IsReady, begins_at, end_seen, last_of, nothing_taken, steps_at};
+    ghost use Rattle.end_commands.specs.EndCommand.{IsReady, starts_at, end_seen, last_of, initial_command, steps_at};
 
     /// Nothing has been read yet of this end's text.
     pub fn new(role: Role, methods: Vec<M>) -> End<M, E>
         requires { E.has_both methods.items }
-        ensures seen { end_seen E.shown result ≡ nothing_taken role }
-        ensures ready { IsReady E.is_going E.has_both result 0 }
+        ensures seen { end_seen E.shown result ≡ initial_command role }
+        ensures ready { IsReady E.is_running E.has_both result 0 }
     {
         End {
             reader: EndReader::of_role(role),
@@ -81,16 +81,16 @@ impl<M, E: Begins<M>> End<M, E> {
     /// The line `events`.
     #[tactic(auto, unfolding(answer_text::specs::Writes::Appends))]
     fn begin<W: Sink>(&mut self, sink: &mut W) -> Result<Next, Trouble>
-        requires ready { IsReady E.is_going E.has_both self.old 0 }
-        ensures ready_after { IfOk result (λ next. IsReady E.is_going E.has_both self.new 0) }
+        requires ready { IsReady E.is_running E.has_both self.old 0 }
+        ensures ready_after { IfOk result (λ next. IsReady E.is_running E.has_both self.new 0) }
         ensures answers { AnswersLine W.shown
             result sink.old sink.new
-            (begins_at E.table (end_seen E.shown self.old)) false (end_seen E.shown self.new) }
+            (starts_at E.table (end_seen E.shown self.old)) false (end_seen E.shown self.new) }
     {
         match E::begin(self) {
-            None => Ok(Next::Goes),
+            None => Ok(Next::Proceed),
             Some(step) => match write_step(sink, 0, &step, self.packet.as_slice()) {
-                Ok(()) => Ok(Next::Goes),
+                Ok(()) => Ok(Next::Proceed),
                 Err(_) => Err(Trouble::Write),
             },
         }
@@ -99,14 +99,14 @@ impl<M, E: Begins<M>> End<M, E> {
     /// An input.
     #[tactic(auto, unfolding(answer_text::specs::Writes::Appends))]
     fn step<W: Sink>(&mut self, sink: &mut W, input: &EndInput) -> Result<Next, Trouble>
-        requires ready { IsReady E.is_going E.has_both self.old 0 }
-        ensures ready_after { IfOk result (λ next. IsReady E.is_going E.has_both self.new 0) }
+        requires ready { IsReady E.is_running E.has_both self.old 0 }
+        ensures ready_after { IfOk result (λ next. IsReady E.is_running E.has_both self.new 0) }
         ensures answers { AnswersLine W.shown
             result sink.old sink.new
             (steps_at E.table (end_seen E.shown self.old) input.now) false (end_seen E.shown self.new) }
     {
         match &mut self.pipe {
-            None => Ok(Next::Goes),
+            None => Ok(Next::Proceed),
             Some(pipe) => {
                 if MAX_INPUTS <= self.taken {
                     return Ok(Next::Refuses("TooMuch", Status::TooMuch));
@@ -120,7 +120,7 @@ impl<M, E: Begins<M>> End<M, E> {
                     &mut self.packet,
                     &mut self.tags,
                 ) {
-                    Ok(()) => Ok(Next::Goes),
+                    Ok(()) => Ok(Next::Proceed),
                     Err(_) => Err(Trouble::Write),
                 }
             }
@@ -152,10 +152,10 @@ fn tell<E: Machine, W: Sink>(
     number: u32,
     input: &EndInput,
     packet: &mut Packet,
-    tags: &mut Tags<Kept>,
+    tags: &mut Tags<TwoRecords>,
 ) -> Result<(), Failed>
-    requires { E.is_going pipe.old.machine }
-    ensures going { E.is_going pipe.new.machine }
+    requires { E.is_running pipe.old.machine }
+    ensures going { E.is_running pipe.new.machine }
     ensures after { (end_step E.table (end_now E.shown pipe.old) input.now).after ≡ end_now E.shown pipe.new }
     ensures text { Appends W.shown result sink.old sink.new
         (told_text number (end_step E.table (end_now E.shown pipe.old) input.now).told) }
@@ -164,29 +164,29 @@ fn tell<E: Machine, W: Sink>(
     write_step(sink, number, &step, packet.as_slice())
 }
 
-impl<M, E: Begins<M>> Command for End<M, E> {
-    ghost use Rattle.end_commands.specs.EndCommand.{CommandNow, IsReady, end_closing, end_lacks, end_seen, end_took};
+impl<M, E: CanStart<M>> Command for End<M, E> {
+    ghost use Rattle.end_commands.specs.EndCommand.{CommandNow, IsReady, end_closing, end_lacks, end_seen, end_line_result};
 
     ghost Seen = { CommandNow E.Now };
 
     ghost seen = { end_seen E.shown };
 
-    ghost took = { end_took E.table };
+    ghost took = { end_line_result E.table };
 
     ghost closing = { end_closing E.table };
 
     ghost lacks = { end_lacks };
 
-    ghost holds = { IsReady E.is_going E.has_both };
+    ghost holds = { IsReady E.is_running E.has_both };
 
-    #[tactic(auto, unfolding(crate::specs::EndCommand::end_took))]
+    #[tactic(auto, unfolding(crate::specs::EndCommand::end_line_result))]
     fn take<W: Sink>(&mut self, sink: &mut W, line: &[u8]) -> Result<Next, Trouble> {
         let mut input = EndInput::Idle;
         match self.reader.line_into(line, &mut input) {
-            Ok(ItemKind::Nothing) => Ok(Next::Goes),
+            Ok(ItemKind::Nothing) => Ok(Next::Proceed),
             Ok(ItemKind::Ready) => self.begin(sink),
             Ok(ItemKind::Event) => self.step(sink, &input),
-            Ok(ItemKind::End) => Ok(Next::Goes),
+            Ok(ItemKind::End) => Ok(Next::Proceed),
             Err(fault) => Ok(Next::Refuses(fault.word(), Status::Refused)),
         }
     }

@@ -4,7 +4,7 @@
 ghost use Rattle.std.specs.Prelude.{Some, None, if◌then◌else◌};
 ghost use Rattle.eap_method.specs.Tags.{Tags};
 ghost use Rattle.answer_text.specs.Writes.{Appends};
-ghost use Rattle.end_pipe.specs.EndRun.{told_with};
+ghost use Rattle.end_pipe.specs.EndRun.{result_with};
 ghost use Rattle.end_commands.specs.EndText.{acted_text, keys_line, keys_text, last_text, send_text, skip_line, told_text};
 
 use answer_text::Piece::{Hex, Leading, Text};
@@ -25,7 +25,7 @@ pub fn write_step<W: Sink>(
     octets: &[u8],
 ) -> Result<(), Failed>
     ensures { (tags : Tags) → Appends W.shown result sink.old sink.new
-        (told_text number (told_with told.now octets.now tags)) }
+        (told_text number (result_with told.now octets.now tags)) }
 {
     if told.skipped {
         write_skip(sink, number)
@@ -65,7 +65,7 @@ fn write_acted<W: Sink>(
     octets: &[u8],
 ) -> Result<(), Failed>
     ensures { (tags : Tags) → Appends W.shown result sink.old sink.new
-        (acted_text number (told_with told.now octets.now tags)) }
+        (acted_text number (result_with told.now octets.now tags)) }
 {
     write_states(sink, number, told.step.path.as_slice())?;
     write_cause(sink, number, told.step.cause)?;

@@ -2,11 +2,11 @@
 
 ghost use Rattle.std.specs.Prelude.{◌≡◌};
 ghost use Rattle.scenario_text.specs.Valid.{IsValidPeer};
-ghost use Rattle.end_pipe.specs.EndRun.{peer_begun, peer_end};
+ghost use Rattle.end_pipe.specs.EndRun.{started_peer, peer_end};
 ghost use Rattle.command_driver.specs.Responding.{Responds, reading, never};
 ghost use Rattle.end_commands.specs.PeerCommand.{HasBothPeers, peer_answer};
 
-use crate::end::{Begins, End};
+use crate::end::{CanStart, End};
 use command_driver::{Status, drive};
 use eap_method::PeerMethod;
 use end_pipe::{EndStep, PeerPipe, Role};
@@ -18,12 +18,12 @@ use peer_machine::PeerMachine;
 pub fn peer_of<M: PeerMethod>(setup: PeerSetup, methods: Vec<M>) -> PeerPipe<M>
     requires valid { IsValidPeer setup }
     requires both { HasBothPeers M.peer_shown methods.items }
-    ensures { peer_end M.peer_shown result ≡ peer_begun setup }
+    ensures { peer_end M.peer_shown result ≡ started_peer setup }
 {
     PeerPipe::new(setup, methods)
 }
 
-impl<M: PeerMethod> Begins<M> for PeerMachine<M> {
+impl<M: PeerMethod> CanStart<M> for PeerMachine<M> {
     ghost use Rattle.end_commands.specs.PeerCommand.{HasBothPeers};
 
     ghost has_both = { HasBothPeers M.peer_shown };

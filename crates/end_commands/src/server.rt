@@ -6,7 +6,7 @@ ghost use Rattle.command_driver.specs.Responding.{Responds, reading, never};
 ghost use Rattle.end_pipe.specs.EndRun.{server_end, server_unstarted};
 ghost use Rattle.end_commands.specs.ServerCommand.{HasBothServers, server_answer};
 
-use crate::end::{Begins, End};
+use crate::end::{CanStart, End};
 use command_driver::{Status, drive};
 use eap_method::ServerMethod;
 use end_pipe::{EndStep, Role, ServerPipe, StandAloneServer};
@@ -29,7 +29,7 @@ pub fn server_of<M: ServerMethod>(
     ServerPipe::new(setup, first_id, max_retrans, methods)
 }
 
-impl<M: ServerMethod> Begins<M> for StandAloneServer<M> {
+impl<M: ServerMethod> CanStart<M> for StandAloneServer<M> {
     ghost use Rattle.end_commands.specs.ServerCommand.{HasBothServers};
 
     ghost has_both = { HasBothServers M.server_shown };

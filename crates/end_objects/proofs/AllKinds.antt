@@ -5,7 +5,7 @@ use Rattle.std.specs.List.{list_all}
 use Rattle.std.proofs.lemmas.Bool.{or_cases, eqb-true, and_parts, and_from}
 use Rattle.std.proofs.lemmas.List.Folds.{list_all-append}
 use Rattle.octet_lists.specs.Among.{psk_kind, gpsk_kind, is_kind, is_among, are_distinct}
-use Rattle.login_setup.specs.Setup.{are_kinds, fits_kind}
+use Rattle.login_setup.specs.Setup.{are_kinds, is_valid_for}
 use Rattle.eap_method.specs.Peer.{have_each}
 use Rattle.end_objects.specs.Settings.{SettingsValue, all_kinds, kind_if, keyed_kinds, key_for, key_or_none}
 
@@ -16,7 +16,7 @@ one_of_both true gpsk short wide fits = refl
 one_of_both false true short wide fits = refl
 one_of_both false false short wide fits = absurd (cc fits)
 
-pub kind_of_key : (kind : ℕ) (key : List ℕ) → fits_kind kind key ≡ true → is_kind kind ≡ true
+pub kind_of_key : (kind : ℕ) (key : List ℕ) → is_valid_for kind key ≡ true → is_kind kind ≡ true
 kind_of_key kind key fits =
     one_of_both (kind == psk_kind) (kind == gpsk_kind) (length key == 16) (nat_le 32 (length key) && nat_le (length key) 64) fits
 
@@ -24,33 +24,33 @@ kind_of_key kind key fits =
 
 -- a key fits its method, if it has octets
 abbrev pub FitsIfAny : ℕ → List ℕ → Type 0
-FitsIfAny kind key = IfSome (key_or_none key) (λ octets. IsTrue (fits_kind kind octets))
+FitsIfAny kind key = IfSome (key_or_none key) (λ octets. IsTrue (is_valid_for kind octets))
 
-keyed_fits : (fits : ℕ → Bool) (kind : ℕ) (key : List ℕ) → fits kind ≡ fits_kind kind key → list_all fits (kind_if key kind) ≡ true → FitsIfAny kind key
+keyed_fits : (fits : ℕ → Bool) (kind : ℕ) (key : List ℕ) → fits kind ≡ is_valid_for kind key → list_all fits (kind_if key kind) ≡ true → FitsIfAny kind key
 keyed_fits fits kind [] is h = tt
 keyed_fits fits kind (octet ∷ rest) is h = sym is ∙ (and_parts (fits kind) true h).0
 
-pub both_fit : (told : SettingsValue) → list_all (λ kind. fits_kind kind (key_for told kind)) (keyed_kinds told) ≡ true
+pub both_fit : (told : SettingsValue) → list_all (λ kind. is_valid_for kind (key_for told kind)) (keyed_kinds told) ≡ true
     → FitsIfAny psk_kind told.psk_key × FitsIfAny gpsk_kind told.gpsk_key
 unfolding keyed_kinds
 both_fit told fit =
     let gpsk = kind_if told.gpsk_key gpsk_kind in let psk = kind_if told.psk_key psk_kind in
-    let p : ℕ → Bool = λ kind. fits_kind kind (key_for told kind) in
+    let p : ℕ → Bool = λ kind. is_valid_for kind (key_for told kind) in
     let each = and_parts (list_all p gpsk) (list_all p psk) (sym (list_all-append p gpsk psk) ∙ fit) in
     (keyed_fits p psk_kind told.psk_key refl each.1, keyed_fits p gpsk_kind told.gpsk_key refl each.0)
 
-fitting_size : (kind : ℕ) (key : List ℕ) → fits_kind kind key ≡ true → length key ≤ 64
-fitting_size kind key h = grind arith
+bounded_size : (kind : ℕ) (key : List ℕ) → is_valid_for kind key ≡ true → length key ≤ 64
+bounded_size kind key h = grind arith
 
 size_if_any : (kind : ℕ) (key : List ℕ) → FitsIfAny kind key → length key ≤ 64
 size_if_any kind [] fits = omega arith
-size_if_any kind (octet ∷ rest) fits = fitting_size kind (octet ∷ rest) fits
+size_if_any kind (octet ∷ rest) fits = bounded_size kind (octet ∷ rest) fits
 
 size_of_either : (is_psk : Bool) (psk gpsk : List ℕ) → length psk ≤ 64 → length gpsk ≤ 64 → length (if is_psk then psk else gpsk) ≤ 64
 size_of_either true psk gpsk short wide = short
 size_of_either false psk gpsk short wide = wide
 
-pub key_size : (told : SettingsValue) (kind : ℕ) → list_all (λ kind. fits_kind kind (key_for told kind)) (keyed_kinds told) ≡ true
+pub key_size : (told : SettingsValue) (kind : ℕ) → list_all (λ kind. is_valid_for kind (key_for told kind)) (keyed_kinds told) ≡ true
     → length (key_for told kind) ≤ 64
 key_size told kind fit =
     let both = both_fit told fit in

@@ -1,7 +1,7 @@
 -- What holds of the methods that there are, one by one.
 pub mod AllKinds
 -- The objects that are made one after the other are of the Types that are wanted, in their order.
-pub mod MadeObjects
+pub mod Constructed
 -- Users pass their test exactly where each is of one of the two methods and has a key that fits it.
 mod Sound
 -- What is known of settings that aren't refused.

@@ -8,7 +8,7 @@ use Rattle.std.proofs.lemmas.List.Folds.{list_all-map}
 use Rattle.std.proofs.lemmas.List.Sums.{AllPass-from_list_all, list_all-from_AllPass}
 use Rattle.octet_lists.specs.Among.{psk_kind, gpsk_kind, is_kind, is_among, are_distinct, is_filled}
 use Rattle.octet_lists.specs.Sizes.{max_name}
-use Rattle.login_setup.specs.Setup.{key_of, are_kinds, are_suites, fits_kind, IsSoundPeer, HasKeys, IsSoundServer}
+use Rattle.login_setup.specs.Setup.{key_of, are_kinds, are_suites, is_valid_for, IsSoundPeer, HasKeys, IsSoundServer}
 use Rattle.login_setup.specs.declared.setup.PeerSetup.{PeerSetup}
 use Rattle.login_setup.specs.declared.users.User.{User}
 use Rattle.end_objects.specs.Settings.{SettingsValue, or_else, kind_if, keyed_kinds, named_kinds, all_kinds, kinds_of, first_kind, suites_of, key_for, key_or_none, peer_setup_of, user_with, users_of, server_setup_of}
@@ -93,37 +93,37 @@ server_passes told none =
 
 -- ---- sizes
 
-name_fits : (name : List ℕ) → is_name name ≡ true → length name ≤ max_name
-name_fits [] h = omega arith
-name_fits (octet ∷ rest) h = grind arith
+name_bounded : (name : List ℕ) → is_name name ≡ true → length name ≤ max_name
+name_bounded [] h = omega arith
+name_bounded (octet ∷ rest) h = grind arith
 
 other_fits : (told : SettingsValue) → has_long_other told ≡ false → length told.other ≤ max_name
 other_fits told h = grind arith
 
 -- whether the key for a method fits it
-abbrev key_fits : SettingsValue → ℕ → Bool
-key_fits told kind = fits_kind kind (key_for told kind)
+abbrev key_is_valid : SettingsValue → ℕ → Bool
+key_is_valid told kind = is_valid_for kind (key_for told kind)
 
 -- each key that there is fits, and there is one for each wanted method
-keys_fit : (wanted : List ℕ) (told : SettingsValue) → has_keys wanted told ≡ true → list_all (key_fits told) (keyed_kinds told) ≡ true
+keys_are_valid : (wanted : List ℕ) (told : SettingsValue) → has_keys wanted told ≡ true → list_all (key_is_valid told) (keyed_kinds told) ≡ true
 unfolding has_keys
-keys_fit wanted told h = (and_parts (list_all (key_fits told) (keyed_kinds told)) (have_each (keyed_kinds told) wanted) h).0
+keys_are_valid wanted told h = (and_parts (list_all (key_is_valid told) (keyed_kinds told)) (have_each (keyed_kinds told) wanted) h).0
 
 are_keyed : (wanted : List ℕ) (told : SettingsValue) → has_keys wanted told ≡ true → have_each (keyed_kinds told) wanted ≡ true
 unfolding has_keys
-are_keyed wanted told h = (and_parts (list_all (key_fits told) (keyed_kinds told)) (have_each (keyed_kinds told) wanted) h).1
+are_keyed wanted told h = (and_parts (list_all (key_is_valid told) (keyed_kinds told)) (have_each (keyed_kinds told) wanted) h).1
 
 pub peer_name : (told : SettingsValue) → peer_refusal told ≡ None → length told.name ≤ max_name
-peer_name told none = name_fits told.name (peer_passes told none).name
+peer_name told none = name_bounded told.name (peer_passes told none).name
 
 pub peer_other : (told : SettingsValue) → peer_refusal told ≡ None → length told.other ≤ max_name
 peer_other told none = other_fits told (peer_passes told none).other
 
 pub peer_key : (told : SettingsValue) → peer_refusal told ≡ None → (kind : ℕ) → length (key_for told kind) ≤ 64
-peer_key told none kind = key_size told kind (keys_fit (kinds_of told) told (peer_passes told none).keys)
+peer_key told none kind = key_size told kind (keys_are_valid (kinds_of told) told (peer_passes told none).keys)
 
 pub server_name : (told : SettingsValue) → server_refusal told ≡ None → length told.name ≤ max_name
-server_name told none = name_fits told.name (server_passes told none).name
+server_name told none = name_bounded told.name (server_passes told none).name
 
 -- ---- methods
 
@@ -156,7 +156,7 @@ first_is_kind told h = first_is_known (kinds_of told) (kinds_are_some told) h
 pub peer_is_sound : (told : SettingsValue) (nonce : List ℕ) → peer_refusal told ≡ None → IsSoundPeer (peer_setup_of told nonce)
 unfolding peer_setup_of
 peer_is_sound told nonce none =
-    let p = peer_passes told none in let both = both_fit told (keys_fit (kinds_of told) told p.keys) in record {
+    let p = peer_passes told none in let both = both_fit told (keys_are_valid (kinds_of told) told p.keys) in record {
       methods = p.kinds;
       suites = p.suites;
       psk47 = both.0;
@@ -190,10 +190,10 @@ first_is_among : (kinds : List ℕ) → 0 < length kinds → is_among kinds (sli
 first_is_among [] some = absurd (omega (arith, some))
 first_is_among (kind ∷ rest) some = or_left (kind == kind) (is_among rest kind) (eq-eqb kind kind refl)
 
-pub first_key_fits : (told : SettingsValue) → peer_refusal told ≡ None → fits_kind (first_kind told) (key_for told (first_kind told)) ≡ true
-first_key_fits told none =
+pub first_key_is_valid : (told : SettingsValue) → peer_refusal told ≡ None → is_valid_for (first_kind told) (key_for told (first_kind told)) ≡ true
+first_key_is_valid told none =
     let is = kind_is_keyed told (first_kind told) none (first_is_among (kinds_of told) (kinds_are_some told)) in
-    each_one (key_fits told) (keyed_kinds told) (first_kind told) (keys_fit (kinds_of told) told (peer_passes told none).keys) is
+    each_one (key_is_valid told) (keyed_kinds told) (first_kind told) (keys_are_valid (kinds_of told) told (peer_passes told none).keys) is
 
 -- ---- a server's user
 
@@ -205,21 +205,21 @@ unfolding user_refusal
 user_other told none =
     let p = three_pass (has_other_size told) (not (is_name told.other)) (not (has_keys [] told && is_filled (keyed_kinds told)))
     refusal.OtherSize refusal.BadOther refusal.BadKey none in record {
-      name = name_fits told.other (is_so (is_name told.other) p.0);
+      name = name_bounded told.other (is_so (is_name told.other) p.0);
       keys = (and_parts (has_keys [] told) (is_filled (keyed_kinds told)) (is_so (has_keys [] told && is_filled (keyed_kinds told)) p.1)).0;
     }
 
 -- the user of a method for which there is a key
-pub user_key_fits : (told : SettingsValue) (kind : ℕ) → IsSoundOther told → is_among (keyed_kinds told) kind ≡ true
-    → fits_kind kind (key_for told kind) ≡ true
-user_key_fits told kind other is = each_one (key_fits told) (keyed_kinds told) kind (keys_fit [] told other.keys) is
+pub user_key_is_valid : (told : SettingsValue) (kind : ℕ) → IsSoundOther told → is_among (keyed_kinds told) kind ≡ true
+    → is_valid_for kind (key_for told kind) ≡ true
+user_key_is_valid told kind other is = each_one (key_is_valid told) (keyed_kinds told) kind (keys_are_valid [] told other.keys) is
 
 pub user_key_size : (told : SettingsValue) (kind : ℕ) → IsSoundOther told → is_among (keyed_kinds told) kind ≡ true
     → length (key_for told kind) ≤ 64
-user_key_size told kind other is = key_size told kind (keys_fit [] told other.keys)
+user_key_size told kind other is = key_size told kind (keys_are_valid [] told other.keys)
 
 pub user_is_known : (told : SettingsValue) (kind : ℕ) → IsSoundOther told → is_among (keyed_kinds told) kind ≡ true → is_kind kind ≡ true
-user_is_known told kind other is = kind_of_key kind (key_for told kind) (user_key_fits told kind other is)
+user_is_known told kind other is = kind_of_key kind (key_for told kind) (user_key_is_valid told kind other is)
 
 sound_if : (there : Bool) (users : List User) → list_all is_sound_user users ≡ true → list_all is_sound_user (if there then users else []) ≡ true
 sound_if true users h = h
@@ -229,9 +229,9 @@ users_are_sound : (told : SettingsValue) → IsSoundOther told → list_all is_s
 unfolding users_of
 users_are_sound told other =
     sound_if (is_filled told.other) (map (user_with told) (keyed_kinds told))
-    (list_all-map is_sound_user (user_with told) (keyed_kinds told) ∙ keys_fit [] told other.keys)
+    (list_all-map is_sound_user (user_with told) (keyed_kinds told) ∙ keys_are_valid [] told other.keys)
 
-pub users_have_keys : (told : SettingsValue) → IsSoundOther told → All (λ user. IsTrue (fits_kind user.kind user.psk)) (users_of told)
+pub users_have_keys : (told : SettingsValue) → IsSoundOther told → All (λ user. IsTrue (is_valid_for user.kind user.psk)) (users_of told)
 users_have_keys told other = have_keys (users_of told) (users_are_sound told other)
 
 pub users_have_kinds : (told : SettingsValue) → IsSoundOther told → All (λ user. IsTrue (is_kind user.kind)) (users_of told)
@@ -244,5 +244,5 @@ alone_is_sound told nonce none = let p = server_passes told none in record {
   methods = p.kinds;
   suites = p.suites;
   kinds = All-nil (λ (user : User). IsTrue (is_kind user.kind));
-  keys = All-nil (λ (user : User). IsTrue (fits_kind user.kind user.psk));
+  keys = All-nil (λ (user : User). IsTrue (is_valid_for user.kind user.psk));
 }

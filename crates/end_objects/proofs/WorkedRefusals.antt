@@ -126,9 +126,9 @@ first_method = refl
 -- ---- a server
 
 -- with a user and both keys, with one of them, without a user
-server_taken : ServerIs both None × ServerIs (end (key 16) [] (51 ∷ 47 ∷ [])) None × ServerIs (record (end [] [] none) { other = [] }) None
+server_accepted_tags : ServerIs both None × ServerIs (end (key 16) [] (51 ∷ 47 ∷ [])) None × ServerIs (record (end [] [] none) { other = [] }) None
 unfolding server_refusal kinds_of named_kinds keyed_kinds suites_of has_bad_methods has_bad_suites has_keys has_key_of_user
-server_taken = (refl, refl, refl)
+server_accepted_tags = (refl, refl, refl)
 
 -- a key without a user, a user without a key, a key of another size
 server_bad_key : ServerIs (record both { other = [] }) (Some refusal.BadKey) × ServerIs (end [] [] none) (Some refusal.BadKey)
@@ -148,7 +148,7 @@ retries : (stand_alone_refusal both 10 ≡ None) × (stand_alone_refusal both 11
 unfolding stand_alone_refusal server_refusal kinds_of named_kinds keyed_kinds suites_of has_bad_methods has_bad_suites has_keys has_key_of_user
 retries = (refl, refl, refl)
 
-server_made : server_setup_of (record both { barred = 1 }) (replicate 32 34) ≡ record {
+initial_server : server_setup_of (record both { barred = 1 }) (replicate 32 34) ≡ record {
   name = codes "ann";
   methods = 51 ∷ 47 ∷ [];
   suites = 1 ∷ 2 ∷ [];
@@ -157,7 +157,7 @@ server_made : server_setup_of (record both { barred = 1 }) (replicate 32 34) ≡
   expanded = false;
 }
 unfolding server_setup_of kinds_of named_kinds keyed_kinds suites_of users_of
-server_made = refl
+initial_server = refl
 
 no_user : users_of (record both { other = [] }) ≡ []
 unfolding users_of keyed_kinds

@@ -4,7 +4,7 @@ use Rattle.std.specs.Prelude.{codes}
 use Rattle.std.proofs.lemmas.Bool.{true≢false}
 use Rattle.std.proofs.lemmas.List.Elements.{All-from_recursion}
 use Rattle.octet_lists.specs.Among.{is_kind}
-use Rattle.login_setup.specs.Setup.{IsSoundPeer, HasKeys, IsSoundServer, fits_kind}
+use Rattle.login_setup.specs.Setup.{IsSoundPeer, HasKeys, IsSoundServer, is_valid_for}
 use Rattle.login_setup.specs.declared.setup.Accepts.TheVariants.{Any}
 use Rattle.login_setup.specs.declared.setup.PeerSetup.{PeerSetup}
 use Rattle.login_setup.specs.declared.setup.ServerSetup.{ServerSetup}
@@ -34,64 +34,64 @@ peer methods suites psk47 psk51 = record {
   expanded = false;
 }
 
-abbrev IsTaken : PeerSetup → Type 0
-IsTaken setup = IsSoundPeer setup × HasKeys setup
+abbrev IsConsumed : PeerSetup → Type 0
+IsConsumed setup = IsSoundPeer setup × HasKeys setup
 
-both_methods : IsTaken (peer (51 ∷ 47 ∷ []) both (key 16) (key 32))
+both_methods : IsConsumed (peer (51 ∷ 47 ∷ []) both (key 16) (key 32))
 both_methods = (record { methods = refl; suites = refl; psk47 = refl; psk51 = refl }, refl)
 
-gpsk_alone : IsTaken (peer (51 ∷ []) (1 ∷ []) (key 16) (key 64))
+gpsk_alone : IsConsumed (peer (51 ∷ []) (1 ∷ []) (key 16) (key 64))
 gpsk_alone = (record { methods = refl; suites = refl; psk47 = refl; psk51 = refl }, refl)
 
-psk_alone : IsTaken (peer (47 ∷ []) both (key 16) None)
+psk_alone : IsConsumed (peer (47 ∷ []) both (key 16) None)
 psk_alone = (record { methods = refl; suites = refl; psk47 = refl; psk51 = tt }, refl)
 
-neither : IsTaken (peer [] both None None)
+neither : IsConsumed (peer [] both None None)
 neither = (record { methods = refl; suites = refl; psk47 = tt; psk51 = tt }, refl)
 
 -- a key is missing
-no_psk_key : IsTaken (peer (51 ∷ 47 ∷ []) both None (key 32)) → ⊥
+no_psk_key : IsConsumed (peer (51 ∷ 47 ∷ []) both None (key 32)) → ⊥
 no_psk_key t = not_so _ refl t.1
 
-no_gpsk_key : IsTaken (peer (51 ∷ 47 ∷ []) both (key 16) None) → ⊥
+no_gpsk_key : IsConsumed (peer (51 ∷ 47 ∷ []) both (key 16) None) → ⊥
 no_gpsk_key t = not_so _ refl t.1
 
 -- a key has another size, also where its method isn't allowed
-short_psk_key : IsTaken (peer (47 ∷ []) both (key 15) None) → ⊥
+short_psk_key : IsConsumed (peer (47 ∷ []) both (key 15) None) → ⊥
 short_psk_key t = not_so _ refl t.0.psk47
 
-long_psk_key : IsTaken (peer (47 ∷ []) both (key 17) None) → ⊥
+long_psk_key : IsConsumed (peer (47 ∷ []) both (key 17) None) → ⊥
 long_psk_key t = not_so _ refl t.0.psk47
 
-short_gpsk_key : IsTaken (peer (51 ∷ []) both None (key 31)) → ⊥
+short_gpsk_key : IsConsumed (peer (51 ∷ []) both None (key 31)) → ⊥
 short_gpsk_key t = not_so _ refl t.0.psk51
 
-empty_psk_key : IsTaken (peer (51 ∷ []) both (key 0) (key 32)) → ⊥
+empty_psk_key : IsConsumed (peer (51 ∷ []) both (key 0) (key 32)) → ⊥
 empty_psk_key t = not_so _ refl t.0.psk47
 
-idle_gpsk_key : IsTaken (peer (47 ∷ []) both (key 16) (key 16)) → ⊥
+idle_gpsk_key : IsConsumed (peer (47 ∷ []) both (key 16) (key 16)) → ⊥
 idle_gpsk_key t = not_so _ refl t.0.psk51
 
 -- another method, one twice; no suite, another suite, one twice
-other_method : IsTaken (peer (4 ∷ []) both (key 16) (key 32)) → ⊥
+other_method : IsConsumed (peer (4 ∷ []) both (key 16) (key 32)) → ⊥
 other_method t = not_so _ refl t.0.methods
 
-expanded_method : IsTaken (peer (51 ∷ 254 ∷ []) both (key 16) (key 32)) → ⊥
+expanded_method : IsConsumed (peer (51 ∷ 254 ∷ []) both (key 16) (key 32)) → ⊥
 expanded_method t = not_so _ refl t.0.methods
 
-method_twice : IsTaken (peer (47 ∷ 47 ∷ []) both (key 16) (key 32)) → ⊥
+method_twice : IsConsumed (peer (47 ∷ 47 ∷ []) both (key 16) (key 32)) → ⊥
 method_twice t = not_so _ refl t.0.methods
 
-no_suite : IsTaken (peer (51 ∷ 47 ∷ []) [] (key 16) (key 32)) → ⊥
+no_suite : IsConsumed (peer (51 ∷ 47 ∷ []) [] (key 16) (key 32)) → ⊥
 no_suite t = not_so _ refl t.0.suites
 
-suite_zero : IsTaken (peer (51 ∷ 47 ∷ []) (0 ∷ []) (key 16) (key 32)) → ⊥
+suite_zero : IsConsumed (peer (51 ∷ 47 ∷ []) (0 ∷ []) (key 16) (key 32)) → ⊥
 suite_zero t = not_so _ refl t.0.suites
 
-suite_three : IsTaken (peer (51 ∷ 47 ∷ []) (1 ∷ 3 ∷ []) (key 16) (key 32)) → ⊥
+suite_three : IsConsumed (peer (51 ∷ 47 ∷ []) (1 ∷ 3 ∷ []) (key 16) (key 32)) → ⊥
 suite_three t = not_so _ refl t.0.suites
 
-suite_twice : IsTaken (peer (51 ∷ 47 ∷ []) (2 ∷ 2 ∷ []) (key 16) (key 32)) → ⊥
+suite_twice : IsConsumed (peer (51 ∷ 47 ∷ []) (2 ∷ 2 ∷ []) (key 16) (key 32)) → ⊥
 suite_twice t = not_so _ refl t.0.suites
 
 -- ---- a server with these methods and suites, and two users of these kinds with keys of so many octets
@@ -117,7 +117,7 @@ psk_and_gpsk = record {
   methods = refl;
   suites = refl;
   kinds = All-from_recursion (λ (it : User). IsTrue (is_kind it.kind)) (users 47 16 51 64) (refl, (refl, tt));
-  keys = All-from_recursion (λ (it : User). IsTrue (fits_kind it.kind it.psk)) (users 47 16 51 64) (refl, (refl, tt));
+  keys = All-from_recursion (λ (it : User). IsTrue (is_valid_for it.kind it.psk)) (users 47 16 51 64) (refl, (refl, tt));
 }
 
 -- a user may be of a method that the server doesn't propose
@@ -126,7 +126,7 @@ no_methods = record {
   methods = refl;
   suites = refl;
   kinds = All-from_recursion (λ (it : User). IsTrue (is_kind it.kind)) (users 51 32 51 33) (refl, (refl, tt));
-  keys = All-from_recursion (λ (it : User). IsTrue (fits_kind it.kind it.psk)) (users 51 32 51 33) (refl, (refl, tt));
+  keys = All-from_recursion (λ (it : User). IsTrue (is_valid_for it.kind it.psk)) (users 51 32 51 33) (refl, (refl, tt));
 }
 
 -- a user of another method, and one with a key of another size, the first and the second

@@ -3,7 +3,7 @@ use Rattle.std.specs.Prelude.{◌≡◌, ℕ, ◌≤◌, List, [], ◌∷◌, le
 use Rattle.std.specs.List.{list_any, list_all}
 use Rattle.octet_lists.specs.Among.{is_filled}
 use Rattle.octet_lists.specs.Sizes.{max_name}
-use Rattle.login_setup.specs.Setup.{are_kinds, are_suites, fits_kind}
+use Rattle.login_setup.specs.Setup.{are_kinds, are_suites, is_valid_for}
 use Rattle.eap_method.specs.Peer.{have_each}
 use Rattle.end_objects.specs.Settings.{SettingsValue, is_set, keyed_kinds, named_kinds, kinds_of, suites_of, key_for}
 use Rattle.end_objects.specs.declared.refusals.Refusal.{Refusal}
@@ -45,7 +45,7 @@ has_long_other told = nat_lt max_name (length told.other)
 
 -- whether each key fits its method, and there is one for each of these methods
 unfoldable pub has_keys : List ℕ → SettingsValue → Bool
-has_keys wanted told = list_all (λ kind. fits_kind kind (key_for told kind)) (keyed_kinds told) && have_each (keyed_kinds told) wanted
+has_keys wanted told = list_all (λ kind. is_valid_for kind (key_for told kind)) (keyed_kinds told) && have_each (keyed_kinds told) wanted
 
 -- whether there is a key exactly if there is a user
 unfoldable pub has_key_of_user : SettingsValue → Bool

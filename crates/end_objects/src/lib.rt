@@ -1,13 +1,13 @@
 //! An object of either method for each end, and the settings of an end from octets and numbers.
 #![tactic(auto)]
 
-mod making;
+mod constructors;
 mod objects;
 mod refusals;
 mod settings;
 mod soundness;
 
-pub use making::{peer_objects, server_objects};
+pub use constructors::{peer_objects, server_objects};
 pub use objects::{Nonces, PeerObject, ServerObject, peer_object, server_object};
 pub use refusals::{
     Refusal, peer_refusal, retry_refusal, server_refusal, stand_alone_refusal, user_refusal,

@@ -2,7 +2,7 @@
 
 ghost use Rattle.std.specs.Prelude.{◌≡◌, ◌≤◌, None, IsTrue};
 ghost use Rattle.std.specs.List.{list_all};
-ghost use Rattle.login_setup.specs.Setup.{are_kinds, fits_kind};
+ghost use Rattle.login_setup.specs.Setup.{are_kinds, is_valid_for};
 ghost use Rattle.eap_method.specs.Peer.{have_each};
 ghost use Rattle.end_objects.specs.Settings.{settings_of, kinds_of, key_for};
 ghost use Rattle.end_objects.specs.Refusals.{has_other_size, has_gap, has_bad_methods, has_bad_suites, is_name, has_keys, has_key_of_user, end_refusal, peer_refusal, server_refusal, retry_refusal, stand_alone_refusal, user_refusal, IsSoundOther};
@@ -75,8 +75,8 @@ fn is_name(name: &[u8]) -> bool
 }
 
 /// Whether the keys for these methods fit them.
-fn are_fitting(kinds: &[u8], settings: &Settings) -> bool
-    ensures { result ≡ list_all (λ kind. fits_kind kind (key_for (settings_of settings.now) kind)) kinds.now }
+fn are_valid(kinds: &[u8], settings: &Settings) -> bool
+    ensures { result ≡ list_all (λ kind. is_valid_for kind (key_for (settings_of settings.now) kind)) kinds.now }
 {
     kinds
         .iter()
@@ -96,7 +96,7 @@ fn has_keys(wanted: &[u8], settings: &Settings) -> bool
     ensures { result ≡ has_keys wanted.now (settings_of settings.now) }
 {
     let keyed = keyed_kinds(settings);
-    are_fitting(keyed.as_slice(), settings) && have_each(keyed.as_slice(), wanted)
+    are_valid(keyed.as_slice(), settings) && have_each(keyed.as_slice(), wanted)
 }
 
 /// Whether there is a key exactly if there is a user.

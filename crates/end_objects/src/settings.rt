@@ -3,7 +3,7 @@
 ghost use Rattle.std.specs.Prelude.{◌≡◌, ◌≤◌, [], length, map, true, None, All, IsTrue};
 ghost use Rattle.octet_lists.specs.Among.{is_among, is_kind};
 ghost use Rattle.octet_lists.specs.Sizes.{max_name};
-ghost use Rattle.login_setup.specs.Setup.{are_kinds, fits_kind, IsSoundPeer, HasKeys, IsSoundServer};
+ghost use Rattle.login_setup.specs.Setup.{are_kinds, is_valid_for, IsSoundPeer, HasKeys, IsSoundServer};
 ghost use Rattle.end_objects.specs.Settings.{settings_of, or_else, numbers_of, keyed_kinds, named_kinds, kinds_of, first_kind, suites_of, key_for, key_or_none, accepts_of, peer_setup_of, user_with, users_of, server_setup_of, credential_of, side_of};
 ghost use Rattle.end_objects.specs.Refusals.{peer_refusal, server_refusal, IsSoundOther};
 
@@ -191,7 +191,7 @@ pub fn user_of(settings: &Settings, kind: u8) -> User
     requires keyed { is_among (keyed_kinds (settings_of settings.now)) kind ≡ true }
     ensures made { result ≡ user_with (settings_of settings.now) kind }
     ensures kind { is_kind kind ≡ true }
-    ensures key { fits_kind kind (key_for (settings_of settings.now) kind) ≡ true }
+    ensures key { is_valid_for kind (key_for (settings_of settings.now) kind) ≡ true }
 {
     User {
         name: Identity::of(settings.other),
@@ -243,7 +243,7 @@ pub fn users_of(settings: &Settings) -> Users
     requires other { IsSoundOther (settings_of settings.now) }
     ensures made { result ≡ users_of (settings_of settings.now) }
     ensures kinds { All (λ user. IsTrue (is_kind user.kind)) result }
-    ensures keys { All (λ user. IsTrue (fits_kind user.kind user.psk)) result }
+    ensures keys { All (λ user. IsTrue (is_valid_for user.kind user.psk)) result }
 {
     let mut users = Users::new();
     add_users(&mut users, settings);
@@ -272,7 +272,7 @@ pub fn server_alone(settings: &Settings, nonce: &Nonce) -> ServerSetup
 pub fn credential(settings: &Settings) -> Credential
     requires taken { peer_refusal (settings_of settings.now) ≡ None }
     ensures made { result ≡ credential_of (settings_of settings.now) }
-    ensures key { IsTrue (fits_kind (first_kind (settings_of settings.now)) result.psk) }
+    ensures key { IsTrue (is_valid_for (first_kind (settings_of settings.now)) result.psk) }
 {
     Credential {
         id_p: Identity::of(settings.name),

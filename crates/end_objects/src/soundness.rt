@@ -3,7 +3,7 @@
 ghost use Rattle.std.specs.Prelude.{◌≡◌, ◌↔◌, IsTrue};
 ghost use Rattle.std.specs.List.{list_all};
 ghost use Rattle.octet_lists.specs.Among.{is_kind, are_distinct};
-ghost use Rattle.login_setup.specs.Setup.{are_kinds, are_suites, fits_kind};
+ghost use Rattle.login_setup.specs.Setup.{are_kinds, are_suites, is_valid_for};
 ghost use Rattle.login_setup.specs.Setup.{IsSoundPeer, HasKeys, IsSoundServer};
 ghost use Rattle.end_objects.specs.Soundness.{is_suite, is_sound_key, is_sound_user};
 
@@ -46,7 +46,7 @@ fn is_kind(kind: u8) -> bool
 
 /// Whether the key has the size that the method of this Type requires; false for any other Type.
 pub(crate) fn fits(kind: u8, psk: &[u8]) -> bool
-    ensures { result ≡ fits_kind kind psk.now }
+    ensures { result ≡ is_valid_for kind psk.now }
 {
     if kind == PSK_KIND {
         psk.len() == 16

@@ -3,9 +3,9 @@ use Rattle.std.proofs.Common.{◌≡◌, ℕ, Bool, true, false, cond, codes, Li
 use Rattle.std.specs.Str.{bytes_eq}
 use Rattle.text_tables.proofs.Reading as steps
 use Rattle.text_tables.proofs.Reading.{Stepped, stepped}
-use Rattle.text_tables.specs.Phases.{may_stand}
+use Rattle.text_tables.specs.Phases.{may_occur}
 use Rattle.text_tables.specs.Texts as texts
-use Rattle.text_tables.specs.Texts.{entry_in, read_at, read_begin}
+use Rattle.text_tables.specs.Texts.{entry_in, read_at, read_first_line}
 use Rattle.text_tables.specs.declared.phase.Phase.{Phase}
 use Rattle.text_tables.specs.declared.phase.Phase.TheVariants as phase
 use Rattle.scenario_text.specs.Reading.{no_settings, with_setting}
@@ -32,18 +32,18 @@ module _ (role : Role) (s : Settings) where
   abbrev at : Phase → EndReading
   at p = record { role = role; phase = p; settings = s }
 
-  taken_follows : (p : Phase) (e : Entry) → may_stand p (part_of e) ≡ true → is_missing role s e ≡ false → Follows role s p (line_of_entry role p s e)
-  taken_follows phase.Settings (entry.Set v) m n = NewSetting v
-  taken_follows phase.Settings entry.Events m n = AllSet n
-  taken_follows phase.Events (entry.Comes input) m n = NewInput input
-  taken_follows phase.Events entry.End m n = AllRead
-  taken_follows other e m n = absurd cc
+  accepted_follows : (p : Phase) (e : Entry) → may_occur p (part_of e) ≡ true → is_missing role s e ≡ false → Follows role s p (line_of_entry role p s e)
+  accepted_follows phase.Settings (entry.Set v) m n = NewSetting v
+  accepted_follows phase.Settings entry.Events m n = AllSet n
+  accepted_follows phase.Events (entry.Arrives input) m n = NewInput input
+  accepted_follows phase.Events entry.End m n = AllRead
+  accepted_follows other e m n = absurd cc
 
   stepped_follows : (p : Phase) (line : List ℕ) (out : ReadLine) → Stepped row_of end (at p) line out → Follows role s p out
   stepped_follows p line _ (steps.Passed is) = Passed p
-  stepped_follows p line _ (steps.Entered k own may) = taken_follows p (entry_in row_of end (at p) line) may.stands may.whole
+  stepped_follows p line _ (steps.Entered k own may) = accepted_follows p (entry_in row_of end (at p) line) may.stands may.whole
 
-  header_read : (out : ReadLine) (same : Bool) → read_begin row_of end (cond same (Some (record { role = role; phase = phase.Settings; settings = no_settings })) None) ≡ Ok out
+  header_read : (out : ReadLine) (same : Bool) → read_first_line row_of end (cond same (Some (record { role = role; phase = phase.Settings; settings = no_settings })) None) ≡ Ok out
       → Follows role s phase.Unread out
   header_read out true e =
       let is : line_of item.Nothing role phase.Settings no_settings ≡ out = cc in subst (Follows role s phase.Unread) is Header

@@ -1,7 +1,7 @@
 -- A stand-alone server that has started stays one, whatever comes to it.
 use Rattle.std.proofs.Common.{◌≡◌, Option, Some, None, true, false, refl, ◌∙◌, subst}
 use Rattle.std.proofs.lemmas.Bool.{or_right}
-use Rattle.server_machine.specs.Inputs.{ServerInput, server_takes, timeout}
+use Rattle.server_machine.specs.Inputs.{ServerInput, server_accepts, timeout}
 use Rattle.server_machine.specs.ServerTable.{ServerAnswer, ServerNow, answer, is_backend, is_ready, is_started, server_start, server_timeout}
 use Rattle.server_machine.specs.declared.variables.Role.TheVariants.{StandAlone}
 use Rattle.server_machine.specs.declared.variables.ServerVariables.{ServerVariables}
@@ -18,7 +18,7 @@ serves now None serving = serving
 serves now (Some input) serving =
     let same = stays_as_it_is now input in
     let alone = same.role ∙ serving.role in
-    record { role = alone; started = started_if (server_takes now input).after.vars alone (same.ready (or_right (is_backend now.vars) (is_started now.vars) serving.started)) }
+    record { role = alone; started = started_if (server_accepts now input).after.vars alone (same.ready (or_right (is_backend now.vars) (is_started now.vars) serving.started)) }
 
 pub still_serves : (now after : ServerNow) (input : Option ServerInput) (step : Step) → server_answers now input ≡ answer step after → IsServing now.vars
     → IsServing after.vars

@@ -14,7 +14,7 @@ use Rattle.end_pipe.specs.declared.table.EndWord.TheVariants as word
 pub data Entry : Type 0 where
   Set : Setting → Entry
   Events : Entry
-  Comes : EndInput → Entry
+  Arrives : EndInput → Entry
   End : Entry
 
 -- a setting says what it says in a scenario; no other line of a scenario is in the tables of both ends
@@ -26,16 +26,16 @@ setting_entry other = End
 unfoldable pub entry_of : EndWord → List (List ℕ) → Entry
 entry_of (word.Setting keyword) ws = setting_entry (item_of keyword ws)
 entry_of word.Events ws = Events
-entry_of word.Packet ws = Comes (inputs.Octets (octets_of (word_in ws 1)))
-entry_of word.Timeout ws = Comes inputs.Timeout
-entry_of word.Idle ws = Comes inputs.Idle
-entry_of word.AltAccept ws = Comes inputs.AltAccept
-entry_of word.AltReject ws = Comes inputs.AltReject
+entry_of word.Packet ws = Arrives (inputs.Octets (octets_of (word_in ws 1)))
+entry_of word.Timeout ws = Arrives inputs.Timeout
+entry_of word.Idle ws = Arrives inputs.Idle
+entry_of word.AltAccept ws = Arrives inputs.AltAccept
+entry_of word.AltReject ws = Arrives inputs.AltReject
 entry_of word.End ws = End
 
 -- what a line contains, with the input that was written if it has one
 abbrev pub entry_with : told.Entry → EndInput → Entry
 entry_with (told.TheVariants.Set v) input = Set v
 entry_with told.TheVariants.Events input = Events
-entry_with told.TheVariants.Happens input = Comes input
+entry_with told.TheVariants.Happens input = Arrives input
 entry_with told.TheVariants.End input = End

@@ -115,7 +115,7 @@ reading_after_header role line =
 abbrev pub part_of : Entry → Part
 part_of (entry.Set v) = part.Setting
 part_of entry.Events = part.Opening
-part_of (entry.Comes input) = part.Event
+part_of (entry.Arrives input) = part.Event
 part_of entry.End = part.End
 
 -- BadCount: a 17th user
@@ -124,9 +124,9 @@ is_crowded s (word.Setting keyword) = scenario.is_crowded s keyword
 is_crowded s other = false
 
 -- Repeated: a setting that came before
-abbrev pub came_before : Settings → Entry → Bool
-came_before s (entry.Set v) = has_setting s v
-came_before s e = false
+abbrev pub occurred_before : Settings → Entry → Bool
+occurred_before s (entry.Set v) = has_setting s v
+occurred_before s e = false
 
 -- Missing: the line `events`, and a needed setting isn't there
 abbrev pub is_missing : Role → Settings → Entry → Bool
@@ -137,7 +137,7 @@ is_missing role s e = false
 abbrev pub line_of_entry : Role → Phase → Settings → Entry → ReadLine
 line_of_entry role p s (entry.Set v) = line_of Nothing role p (with_setting s v)
 line_of_entry role p s entry.Events = line_of Ready role phase.Events s
-line_of_entry role p s (entry.Comes input) = line_of (Input input) role p s
+line_of_entry role p s (entry.Arrives input) = line_of (Input input) role p s
 line_of_entry role p s entry.End = line_of End role phase.Ended s
 
 abbrev pub end : texts.Table EndWord Entry EndReading Item
@@ -150,7 +150,7 @@ end = record {
   begun = λ r. reading_after_header r.role;
   nothing = Nothing;
   is_crowded = λ r. is_crowded r.settings;
-  came_before = λ r. came_before r.settings;
+  occurred_before = λ r. occurred_before r.settings;
   is_missing = λ r. is_missing r.role r.settings;
   taken = λ r. line_of_entry r.role r.phase r.settings;
 }
@@ -164,6 +164,6 @@ abbrev pub finish_of : EndReading → Result (Unit {0}) LineFault
 finish_of r = phases.finish_of r.phase
 
 -- what a line contains is within its limits
-abbrev pub IsValidTold : told.Entry → Type 0
-IsValidTold (told.TheVariants.Set v) = IsValidSetting v
-IsValidTold other = Unit {0}
+abbrev pub IsValidContent : told.Entry → Type 0
+IsValidContent (told.TheVariants.Set v) = IsValidSetting v
+IsValidContent other = Unit {0}

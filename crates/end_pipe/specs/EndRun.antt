@@ -8,12 +8,12 @@ use Rattle.eap_method.specs.Server.{ServerShown}
 use Rattle.eap_method.specs.Steps.{Step, enters, step_with}
 use Rattle.eap_method.specs.Tags.{Tags, no_tags}
 use Rattle.eap_method.specs.declared.values.Report.{Report}
-use Rattle.peer_machine.specs.Inputs.{PeerInput, peer_takes}
+use Rattle.peer_machine.specs.Inputs.{PeerInput, peer_accepts}
 use Rattle.peer_machine.specs.PeerTable as peers
-use Rattle.peer_machine.specs.PeerTable.{PeerValue, PeerNow, PeerAnswer, peer_made, peer_reports}
-use Rattle.server_machine.specs.Inputs.{ServerInput, server_takes}
+use Rattle.peer_machine.specs.PeerTable.{PeerValue, PeerNow, PeerAnswer, initial_peer, peer_reports}
+use Rattle.server_machine.specs.Inputs.{ServerInput, server_accepts}
 use Rattle.server_machine.specs.ServerTable as servers
-use Rattle.server_machine.specs.ServerTable.{ServerValue, ServerNow, ServerAnswer, is_started, server_made, server_reports, server_start}
+use Rattle.server_machine.specs.ServerTable.{ServerValue, ServerNow, ServerAnswer, is_started, initial_server, server_reports, server_start}
 use Rattle.server_machine.specs.declared.variables.Role.TheVariants.{StandAlone}
 use Rattle.server_machine.specs.declared.variables.ServerVariables.{ServerVariables}
 use Rattle.text_tables.specs.Fields.{◌>>=◌}
@@ -32,8 +32,8 @@ pub record EndTold : Type 0 where
   pub named : Option Report
 
 -- the result of a call, with the packet and the records that it wrote
-abbrev pub told_with : brief.EndStep → List ℕ → Tags → EndTold
-told_with told packet tags =
+abbrev pub result_with : brief.EndStep → List ℕ → Tags → EndTold
+result_with told packet tags =
     record { step = step_with told.step packet tags; skipped = told.skipped; named = told.named }
 
 -- an end: what its machine is, and whether it has had a report
@@ -66,13 +66,13 @@ abbrev pub move_of : {N : Type 0} → Step → N → Moved N
 move_of step after = record { step = step; after = after }
 
 -- what settings begin: an end, and the result of its start, if it has one
-pub record Begun (N : Type 0) : Type 0 where
+pub record EndStart (N : Type 0) : Type 0 where
   pub told : Option EndTold
   pub after : EndNow N
 
 -- a machine: what settings begin, what it does at each input, its state, and what it reports
 pub record MachineTable (N : Type 0) : Type 0 where
-  pub begins : Settings → Result (Begun N) LineFault
+  pub begins : Settings → Result (EndStart N) LineFault
   pub moves : N → EndInput → Moved N
   pub state : N → State
   pub reports : N → Option Report
@@ -91,18 +91,18 @@ end_step table e input = if is_skipped (table.state e.now) input then skips e el
 -- the peer
 
 abbrev pub peer_answers : PeerNow → Option PeerInput → PeerAnswer
-peer_answers now (Some input) = peer_takes now input
+peer_answers now (Some input) = peer_accepts now input
 peer_answers now None = peers.answer (enters [] no_tags) now
 
 abbrev pub peer_moved : PeerAnswer → Moved PeerNow
 peer_moved out = move_of out.step out.after
 
-abbrev pub peer_begun : PeerSetup → EndNow PeerNow
-peer_begun setup = record { now = peer_made setup; held = false }
+abbrev pub started_peer : PeerSetup → EndNow PeerNow
+started_peer setup = record { now = initial_peer setup; held = false }
 
 abbrev pub peer_table : MachineTable PeerNow
 peer_table = record {
-  begins = λ settings. peer_setup_of settings >>= λ setup. Ok (record { told = None; after = peer_begun setup });
+  begins = λ settings. peer_setup_of settings >>= λ setup. Ok (record { told = None; after = started_peer setup });
   moves = λ now input. peer_moved (peer_answers now (peer_input input));
   state = λ now. now.vars.state;
   reports = peer_reports;
@@ -114,29 +114,29 @@ peer_step = end_step peer_table
 -- the server; its start is no input
 
 abbrev pub server_answers : ServerNow → Option ServerInput → ServerAnswer
-server_answers now (Some input) = server_takes now input
+server_answers now (Some input) = server_accepts now input
 server_answers now None = servers.answer (enters [] no_tags) now
 
 abbrev pub server_moved : ServerAnswer → Moved ServerNow
 server_moved out = move_of out.step out.after
 
 abbrev pub server_unstarted : ServerSetup → ℕ → ℕ → EndNow ServerNow
-server_unstarted setup first_id max_retrans = record { now = server_made StandAlone setup first_id max_retrans; held = false }
+server_unstarted setup first_id max_retrans = record { now = initial_server StandAlone setup first_id max_retrans; held = false }
 
 unfoldable pub server_starts : EndNow ServerNow → EndOutcome ServerNow
 server_starts e = goes server_reports e.held (server_moved (server_start e.now))
 
-abbrev pub begun_with : EndOutcome ServerNow → Begun ServerNow
-begun_with out = record { told = Some out.told; after = out.after }
+abbrev pub started_with : EndOutcome ServerNow → EndStart ServerNow
+started_with out = record { told = Some out.told; after = out.after }
 
-abbrev pub server_begun : ServerSetup → ℕ → ℕ → EndNow ServerNow
-server_begun setup first_id max_retrans = (server_starts (server_unstarted setup first_id max_retrans)).after
+abbrev pub started_server : ServerSetup → ℕ → ℕ → EndNow ServerNow
+started_server setup first_id max_retrans = (server_starts (server_unstarted setup first_id max_retrans)).after
 
 abbrev pub server_table : MachineTable ServerNow
 server_table = record {
   begins = λ settings.
       server_setup_of settings >>= λ setup.
-      Ok (begun_with (server_starts (server_unstarted setup (unwrap_or settings.first_id 0) (unwrap_or settings.max_retrans 4))));
+      Ok (started_with (server_starts (server_unstarted setup (unwrap_or settings.first_id 0) (unwrap_or settings.max_retrans 4))));
   moves = λ now input. server_moved (server_answers now (server_input input));
   state = λ now. now.vars.state;
   reports = server_reports;
@@ -157,20 +157,20 @@ module _ {N : Type 0} (step : EndNow N → EndInput → EndOutcome N) where
   told_of e (input ∷ rest) = (step e input).told ∷ told_of (step e input).after rest
 
   -- an end that has begun so has had these inputs if it is as they have left it
-  abbrev pub StandsFor : EndNow N → List EndInput → EndNow N → Type 0
-  StandsFor begun inputs e = e ≡ end_after begun inputs
+  abbrev pub IsStateAfter : EndNow N → List EndInput → EndNow N → Type 0
+  IsStateAfter begun inputs e = e ≡ end_after begun inputs
 
   -- one more input, and its result: that is the next of the results of the inputs, and the end has then had them all
-  pub record GoesOn (begun : EndNow N) (inputs : List EndInput) (input : EndInput) (told : EndTold) (after : EndNow N) : Type 0 where
+  pub record HasContinued (begun : EndNow N) (inputs : List EndInput) (input : EndInput) (told : EndTold) (after : EndNow N) : Type 0 where
     pub next : told_of begun (inputs ++ input ∷ []) ≡ told_of begun inputs ++ told ∷ []
-    pub stands : StandsFor begun (inputs ++ input ∷ []) after
+    pub stands : IsStateAfter begun (inputs ++ input ∷ []) after
 
-abbrev pub PeerStandsFor : PeerSetup → List EndInput → EndNow PeerNow → Type 0
-PeerStandsFor setup = StandsFor peer_step (peer_begun setup)
+abbrev pub IsPeerAfter : PeerSetup → List EndInput → EndNow PeerNow → Type 0
+IsPeerAfter setup = IsStateAfter peer_step (started_peer setup)
 
 -- a server that has started
-abbrev pub ServerStandsFor : ServerSetup → ℕ → ℕ → List EndInput → EndNow ServerNow → Type 0
-ServerStandsFor setup first_id max_retrans = StandsFor server_step (server_begun setup first_id max_retrans)
+abbrev pub IsServerAfter : ServerSetup → ℕ → ℕ → List EndInput → EndNow ServerNow → Type 0
+IsServerAfter setup first_id max_retrans = IsStateAfter server_step (started_server setup first_id max_retrans)
 
 -- a pipe as its fields show it, and what it is, if that of its machine is shown
 pub record PipeValue (E : Type 0) : Type 0 where

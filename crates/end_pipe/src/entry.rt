@@ -2,7 +2,7 @@
 
 ghost use Rattle.std.specs.Prelude.{◌≡◌};
 ghost use Rattle.text_tables.specs.Words.{words};
-ghost use Rattle.text_tables.specs.Fits.{Fits};
+ghost use Rattle.text_tables.specs.IsValidRow.{IsValidRow};
 ghost use Rattle.scenario_text.specs.Entries.{item_of};
 ghost use Rattle.scenario_text.specs.Keywords as scenario;
 ghost use Rattle.end_pipe.specs.EndTable.{row_of};
@@ -18,7 +18,7 @@ use text_tables::{octets, word_in};
 /// What a keyword says with the words of its line, which fit its row. An input is written to `input`.
 #[tactic(auto, unfolding(crate::specs::EndContents::entry_of))]
 pub fn entry_of(word: EndWord, line: &[u8], input: &mut EndInput) -> Entry
-    requires { Fits (row_of word) (words line.now) }
+    requires { IsValidRow (row_of word) (words line.now) }
     ensures { entry_of word (words line.now) ≡ entry_with result input.new }
 {
     match word {
@@ -50,7 +50,7 @@ pub fn entry_of(word: EndWord, line: &[u8], input: &mut EndInput) -> Entry
 
 /// What a setting says with the words of its line. (By itself, so that no other line makes room for an event.)
 fn setting_entry(keyword: Keyword, line: &[u8]) -> Entry
-    requires { Fits (scenario.row_of keyword) (words line.now) }
+    requires { IsValidRow (scenario.row_of keyword) (words line.now) }
     ensures { (input : EndInput) → setting_entry (item_of keyword (words line.now)) ≡ entry_with result input }
 {
     let mut event = Event::Idle;

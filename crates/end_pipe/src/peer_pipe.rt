@@ -3,11 +3,11 @@
 ghost use Rattle.std.specs.Prelude.{◌≡◌, [], map, true};
 ghost use Rattle.login_setup.specs.Setup.{IsSoundPeer, HasKeys};
 ghost use Rattle.eap_method.specs.Peer.{have_each, peer_kinds};
-ghost use Rattle.end_pipe.specs.EndRun.{PeerStandsFor, peer_begun, peer_end};
+ghost use Rattle.end_pipe.specs.EndRun.{IsPeerAfter, started_peer, peer_end};
 
 use crate::input::EndInput;
 use crate::pipe::{EndPipe, Machine};
-use eap_method::{Kept, PeerMethod, Report, Step, Tags};
+use eap_method::{PeerMethod, Report, Step, Tags, TwoRecords};
 use eap_packet::State;
 use login_setup::PeerSetup;
 use octet_lists::Packet;
@@ -23,8 +23,8 @@ impl<M: PeerMethod> PeerPipe<M> {
         requires sound { IsSoundPeer setup }
         requires keys { HasKeys setup }
         requires objects { have_each (peer_kinds (map M.peer_shown methods.items)) setup.methods ≡ true }
-        ensures begun { peer_end M.peer_shown result ≡ peer_begun setup }
-        ensures stands { PeerStandsFor setup [] (peer_end M.peer_shown result) }
+        ensures begun { peer_end M.peer_shown result ≡ started_peer setup }
+        ensures stands { IsPeerAfter setup [] (peer_end M.peer_shown result) }
     {
         EndPipe {
             machine: PeerMachine::new(setup, methods),
@@ -43,9 +43,9 @@ impl<M: PeerMethod> Machine for PeerMachine<M> {
 
     ghost table = { peer_table };
 
-    ghost is_going = { λ machine. Unit {0} };
+    ghost is_running = { λ machine. Unit {0} };
 
-    fn take(&mut self, input: &EndInput, packet: &mut Packet, tags: &mut Tags<Kept>) -> Step {
+    fn take(&mut self, input: &EndInput, packet: &mut Packet, tags: &mut Tags<TwoRecords>) -> Step {
         packet.clear();
         tags.clear();
         match input {

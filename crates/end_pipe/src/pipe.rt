@@ -2,13 +2,13 @@
 
 ghost use Rattle.std.specs.Prelude.{◌≡◌, ◌||◌, List, false, is_some};
 ghost use Rattle.eap_method.specs.Steps.{step_with};
-ghost use Rattle.end_pipe.specs.EndRun.{EndNow, GoesOn, StandsFor, end_now, end_step, first_report, move_of, outcome, told_with};
+ghost use Rattle.end_pipe.specs.EndRun.{EndNow, HasContinued, IsStateAfter, end_now, end_step, first_report, move_of, outcome, result_with};
 ghost use Rattle.end_pipe.specs.Inputs.{is_skipped};
 ghost use Rattle.end_pipe.specs.declared.input.EndInput.{EndInput};
 
 use crate::input::EndInput;
 use crate::told::{EndStep, EndTold};
-use eap_method::{Kept, Report, Step, Tags, has_ended};
+use eap_method::{Report, Step, Tags, TwoRecords, has_ended};
 use eap_packet::State;
 use octet_lists::Packet;
 use std::marker::Model;
@@ -27,16 +27,16 @@ pub trait Machine: Drop {
     ghost table: { MachineTable Now };
 
     /// Whether inputs may come: to the server once it has started, to the peer always.
-    ghost is_going: { Self → Type 0 };
+    ghost is_running: { Self → Type 0 };
 
     /// Takes an input that isn't skipped. The packet that is sent is written into `packet`, the records of the tags into
     /// `tags`, in place of what was there.
-    fn take(&mut self, input: &EndInput, packet: &mut Packet, tags: &mut Tags<Kept>) -> Step
-        requires going { is_going self.old }
+    fn take(&mut self, input: &EndInput, packet: &mut Packet, tags: &mut Tags<TwoRecords>) -> Step
+        requires going { is_running self.old }
         requires heard { is_skipped (table.state (shown self.old)) input.now ≡ false }
         ensures step { table.moves (shown self.old) input.now
             ≡ move_of (step_with result packet.new tags.new) (shown self.new) }
-        ensures going { is_going self.new };
+        ensures going { is_running self.new };
 
     /// The machine's state.
     fn state(&self) -> State
@@ -71,15 +71,15 @@ impl<E: Machine> EndPipe<E> {
         &mut self,
         input: &EndInput,
         packet: &mut Packet,
-        tags: &mut Tags<Kept>,
+        tags: &mut Tags<TwoRecords>,
     ) -> EndStep
-        requires { E.is_going self.old.machine }
+        requires { E.is_running self.old.machine }
         ensures step { end_step E.table (end_now E.shown self.old) input.now
-            ≡ outcome (told_with result packet.new tags.new) (end_now E.shown self.new) }
-        ensures going { E.is_going self.new.machine }
+            ≡ outcome (result_with result packet.new tags.new) (end_now E.shown self.new) }
+        ensures going { E.is_running self.new.machine }
         ensures goes_on { (begun : EndNow E.Now) (inputs : List EndInput)
-            → StandsFor (end_step E.table) begun inputs (end_now E.shown self.old)
-            → GoesOn (end_step E.table) begun inputs input.now (told_with result packet.new tags.new)
+            → IsStateAfter (end_step E.table) begun inputs (end_now E.shown self.old)
+            → HasContinued (end_step E.table) begun inputs input.now (result_with result packet.new tags.new)
             (end_now E.shown self.new) }
     {
         self.step_by_table(input, packet, tags)
@@ -87,12 +87,12 @@ impl<E: Machine> EndPipe<E> {
 
     /// The same, with the packet and the records in its answer.
     pub fn step(&mut self, input: &EndInput) -> EndTold
-        requires { E.is_going self.old.machine }
+        requires { E.is_running self.old.machine }
         ensures step { end_step E.table (end_now E.shown self.old) input.now ≡ outcome result (end_now E.shown self.new) }
-        ensures going { E.is_going self.new.machine }
+        ensures going { E.is_running self.new.machine }
         ensures goes_on { (begun : EndNow E.Now) (inputs : List EndInput)
-            → StandsFor (end_step E.table) begun inputs (end_now E.shown self.old)
-            → GoesOn (end_step E.table) begun inputs input.now result (end_now E.shown self.new) }
+            → IsStateAfter (end_step E.table) begun inputs (end_now E.shown self.old)
+            → HasContinued (end_step E.table) begun inputs input.now result (end_now E.shown self.new) }
     {
         let mut packet = Packet::new();
         let mut tags = Tags::new();
@@ -114,12 +114,12 @@ impl<E: Machine> EndPipe<E> {
         &mut self,
         input: &EndInput,
         packet: &mut Packet,
-        tags: &mut Tags<Kept>,
+        tags: &mut Tags<TwoRecords>,
     ) -> EndStep
-        requires { E.is_going self.old.machine }
+        requires { E.is_running self.old.machine }
         ensures step { end_step E.table (end_now E.shown self.old) input.now
-            ≡ outcome (told_with result packet.new tags.new) (end_now E.shown self.new) }
-        ensures going { E.is_going self.new.machine }
+            ≡ outcome (result_with result packet.new tags.new) (end_now E.shown self.new) }
+        ensures going { E.is_running self.new.machine }
     {
         if !input.is_octets() && has_ended(self.machine.state()) {
             packet.clear();

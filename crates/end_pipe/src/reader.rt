@@ -168,7 +168,7 @@ impl Text for EndReader {
     ghost use Rattle.end_pipe.specs.EndContents as contents;
     ghost use Rattle.end_pipe.specs.EndContents.{entry_with};
     ghost use Rattle.end_pipe.specs.EndReading as reading;
-    ghost use Rattle.end_pipe.specs.EndReading.{HasSetup, IsValidTold, end, item_with};
+    ghost use Rattle.end_pipe.specs.EndReading.{HasSetup, IsValidContent, end, item_with};
 
     type Word = EndWord;
 
@@ -180,7 +180,7 @@ impl Text for EndReader {
 
     ghost Whole = { contents.Entry };
 
-    ghost Said = { reading.Item };
+    ghost Meaning = { reading.Item };
 
     ghost table = { end };
 
@@ -188,7 +188,7 @@ impl Text for EndReader {
 
     ghost says = { item_with };
 
-    ghost is_valid = { IsValidTold };
+    ghost is_valid = { IsValidContent };
 
     ghost is_so = { HasSetup };
 
@@ -229,7 +229,7 @@ impl Text for EndReader {
         }
     }
 
-    fn came_before(&self, entry: &Entry) -> bool {
+    fn occurred_before(&self, entry: &Entry) -> bool {
         match entry {
             Entry::Set(setting) => self.settings.has(setting),
             _ => false,

@@ -6,12 +6,12 @@ ghost use Rattle.login_setup.specs.declared.setup.ServerSetup.{ServerSetup};
 ghost use Rattle.eap_method.specs.Peer.{have_each};
 ghost use Rattle.eap_method.specs.Server.{server_kinds};
 ghost use Rattle.server_machine.specs.ServerTable.{is_started};
-ghost use Rattle.end_pipe.specs.EndRun.{ServerStandsFor, outcome, server_end, server_starts, server_unstarted, told_with};
+ghost use Rattle.end_pipe.specs.EndRun.{IsServerAfter, outcome, server_end, server_starts, server_unstarted, result_with};
 
 use crate::input::EndInput;
 use crate::pipe::{EndPipe, Machine, first_report};
 use crate::told::{EndStep, EndTold};
-use eap_method::{Kept, Report, ServerMethod, Step, Tags};
+use eap_method::{Report, ServerMethod, Step, Tags, TwoRecords};
 use eap_packet::State;
 use login_setup::ServerSetup;
 use octet_lists::Packet;
@@ -57,14 +57,14 @@ impl<M: ServerMethod> ServerPipe<M> {
     }
 
     /// The server, which hasn't started, starts: it asks for the peer's identity, in `packet`.
-    pub fn start_into(&mut self, packet: &mut Packet, tags: &mut Tags<Kept>) -> EndStep
+    pub fn start_into(&mut self, packet: &mut Packet, tags: &mut Tags<TwoRecords>) -> EndStep
         requires { is_started self.old.machine.vars ≡ false }
         ensures start { server_starts (server_end M.server_shown self.old)
-            ≡ outcome (told_with result packet.new tags.new) (server_end M.server_shown self.new) }
+            ≡ outcome (result_with result packet.new tags.new) (server_end M.server_shown self.new) }
         ensures started { is_started self.new.machine.vars ≡ true }
         ensures stands { (setup : ServerSetup) (first_id max_retrans : ℕ)
             → server_end M.server_shown self.old ≡ server_unstarted setup first_id max_retrans
-            → ServerStandsFor setup first_id max_retrans [] (server_end M.server_shown self.new) }
+            → IsServerAfter setup first_id max_retrans [] (server_end M.server_shown self.new) }
     {
         self.start_by_table(packet, tags)
     }
@@ -76,7 +76,7 @@ impl<M: ServerMethod> ServerPipe<M> {
         ensures started { is_started self.new.machine.vars ≡ true }
         ensures stands { (setup : ServerSetup) (first_id max_retrans : ℕ)
             → server_end M.server_shown self.old ≡ server_unstarted setup first_id max_retrans
-            → ServerStandsFor setup first_id max_retrans [] (server_end M.server_shown self.new) }
+            → IsServerAfter setup first_id max_retrans [] (server_end M.server_shown self.new) }
     {
         let mut packet = Packet::new();
         let mut tags = Tags::new();
@@ -94,10 +94,10 @@ impl<M: ServerMethod> ServerPipe<M> {
 
     /// The same as `start`, without the clause that follows from the others.
     #[tactic(auto, unfolding(crate::specs::EndRun::server_starts))]
-    fn start_by_table(&mut self, packet: &mut Packet, tags: &mut Tags<Kept>) -> EndStep
+    fn start_by_table(&mut self, packet: &mut Packet, tags: &mut Tags<TwoRecords>) -> EndStep
         requires { is_started self.old.machine.vars ≡ false }
         ensures start { server_starts (server_end M.server_shown self.old)
-            ≡ outcome (told_with result packet.new tags.new) (server_end M.server_shown self.new) }
+            ≡ outcome (result_with result packet.new tags.new) (server_end M.server_shown self.new) }
         ensures started { is_started self.new.machine.vars ≡ true }
     {
         tags.clear();
@@ -123,9 +123,9 @@ impl<M: ServerMethod> Machine for StandAloneServer<M> {
 
     ghost table = { server_table };
 
-    ghost is_going = { λ machine. is_started machine.vars ≡ true };
+    ghost is_running = { λ machine. is_started machine.vars ≡ true };
 
-    fn take(&mut self, input: &EndInput, packet: &mut Packet, tags: &mut Tags<Kept>) -> Step {
+    fn take(&mut self, input: &EndInput, packet: &mut Packet, tags: &mut Tags<TwoRecords>) -> Step {
         packet.clear();
         tags.clear();
         match input {

@@ -50,11 +50,11 @@ impl Model for EndTold {
 }
 
 impl EndStep {
-    ghost use Rattle.end_pipe.specs.EndRun.{told_with};
+    ghost use Rattle.end_pipe.specs.EndRun.{result_with};
 
     /// The step with the packet and the records that its call wrote.
     pub fn with(self, packet: Packet, tags: Tags) -> EndTold
-        ensures { result ≡ told_with self packet tags }
+        ensures { result ≡ result_with self packet tags }
     {
         let step = self.step.with(packet, tags);
         EndTold {

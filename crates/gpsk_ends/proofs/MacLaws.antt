@@ -70,10 +70,10 @@ mac_with suite (gpsk4 pd none) mac e = refl
 mac_with suite (fail code) mac e = none_is_short suite e
 mac_with suite (protected_fail code none) mac e = refl
 
-spelled_with : (suite : Suite) (message : Message) (mac : List ℕ) → length (mac_of message) ≡ ks_of suite →
+encoding_with : (suite : Suite) (message : Message) (mac : List ℕ) → length (mac_of message) ≡ ks_of suite →
     spelled (with_mac message mac) ≡ op_code message ∷ covered_of message ++ mac
 unfolding spelled
-spelled_with suite message mac e =
+encoding_with suite message mac e =
     let o = op_with message mac in
     let c = covered_with message mac in
     let m = mac_with suite message mac e in
@@ -107,9 +107,9 @@ front_cut code id count op ks covered mac e =
     let size = length-append (front_of code id count op covered) mac in
     take_at (front_of code id count op covered) mac _ (omega arith)
 
-front_begins : (code id count op : ℕ) (covered : List ℕ) → 6 ≤ length (front_of code id count op covered)
+front_starts : (code id count op : ℕ) (covered : List ℕ) → 6 ≤ length (front_of code id count op covered)
 unfolding front_of
-front_begins code id count op covered = omega arith
+front_starts code id count op covered = omega arith
 
 front_covered : (code id count op : ℕ) (covered : List ℕ) → drop 6 (front_of code id count op covered) ≡ covered
 unfolding front_of
@@ -146,9 +146,9 @@ in_parts : (code : Code) (id : ℕ) (message : Message) (packet : List ℕ) → 
 unfolding spelled
 in_parts code id message packet t e = e ∙ typed code id (spelled message) t ∙ parts (number_of code) id (op_code message) (covered_of message) (mac_of message)
 
-pub mac_fits : (code : Code) (id : ℕ) (suite : Suite) (message : Message) (packet : List ℕ) → IsTrue (has_type code) → length (mac_of message) ≡ ks_of suite →
+pub mac_length_bounded : (code : Code) (id : ℕ) (suite : Suite) (message : Message) (packet : List ℕ) → IsTrue (has_type code) → length (mac_of message) ≡ ks_of suite →
     packet ≡ packets.spelled (value_with code id 51 (spelled message)) → ks_of suite ≤ length packet
-mac_fits code id suite message packet t m e =
+mac_length_bounded code id suite message packet t m e =
     let count = length (51 ∷ op_code message ∷ covered_of message ++ mac_of message) + 4 in
     let front = front_of (number_of code) id count (op_code message) (covered_of message) in
     let size = ap length (in_parts code id message packet t e) ∙ length-append front (mac_of message) in
@@ -166,11 +166,11 @@ is_front code id suite message packet octets t m e o =
     let cut : octets ≡ front_of n id count op covered =
     o ∙ ap (λ (l : List ℕ). take (length l - ks_of suite) l) (in_parts code id message packet t e) ∙ front_cut n id count op (ks_of suite) covered mac m in
     record {
-      begins = subst (λ (l : List ℕ). 6 ≤ length l) (sym cut) (front_begins n id count op covered);
+      begins = subst (λ (l : List ℕ). 6 ≤ length l) (sym cut) (front_starts n id count op covered);
       covered = ap (λ (l : List ℕ). drop 6 l) cut ∙ front_covered n id count op covered;
       sealed = λ tag h.
           ap (λ (l : List ℕ). l ++ tag) cut ∙ front_joined n id op covered mac tag (h ∙ sym m)
-          ∙ ap (λ (l : List ℕ). frame_of n id (51 ∷ l)) (sym (spelled_with suite message tag m))
+          ∙ ap (λ (l : List ℕ). frame_of n id (51 ∷ l)) (sym (encoding_with suite message tag m))
           ∙ sym (typed code id (spelled (with_mac message tag)) t);
     }
 

@@ -1,5 +1,5 @@
 pub mod Failures
-pub mod Heard
+pub mod Classified
 pub mod Keys
 pub mod Nonces
 pub mod PeerLogin

@@ -8,7 +8,7 @@ abbrev pub login_of : Inside → Login
 login_of kept = record { cred = kept.own.cred; nonce = kept.own.nonce; id_s = kept.id_s; rand_s = kept.rand_s; suite = kept.keys.suite }
 
 -- the keys are those of the login; a nonce has 32 octets
-pub record IsKept (kept : Inside) : Type 0 where
+pub record IsConsistent (kept : Inside) : Type 0 where
   pub keys : kept.keys.keys ≡ keys_of (login_of kept)
   pub rand_p : length kept.own.nonce ≡ 32
   pub rand_s : length kept.rand_s ≡ 32

@@ -15,7 +15,7 @@ login_of kept = record {
 }
 
 -- the keys are those of the login; a nonce has 32 octets
-pub record IsKept (kept : Inside) : Type 0 where
+pub record IsConsistent (kept : Inside) : Type 0 where
   pub keys : kept.keys.keys ≡ keys_of (login_of kept)
   pub rand_p : length kept.rand_p ≡ 32
   pub rand_s : length kept.own.nonce ≡ 32

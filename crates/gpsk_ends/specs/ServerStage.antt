@@ -17,7 +17,7 @@ use Rattle.gpsk_ends.specs.declared.server.stage.Stage.TheVariants as stage
 
 -- the server's state without a login
 abbrev pub view_alone : ServerSide → List ℕ → Alone → View
-view_alone own nonce alone.Begun = begun own nonce
+view_alone own nonce alone.Initial = begun own nonce
 view_alone own nonce alone.Asked = asked own nonce
 view_alone own nonce alone.Refusing = refusing own nonce
 view_alone own nonce alone.Refused = refused own nonce

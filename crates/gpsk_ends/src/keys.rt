@@ -5,7 +5,7 @@ ghost use Rattle.octet_lists.specs.Suite.{ks_of};
 ghost use Rattle.octet_lists.specs.Sizes.{max_name};
 ghost use Rattle.eap_packet.specs.Packet.{has_type};
 ghost use Rattle.gpsk_messages.specs.Message.{message_of, mac_of, size_of, spelled, without_mac};
-ghost use Rattle.eap_method.specs.Room.{HasRoom};
+ghost use Rattle.eap_method.specs.Capacity.{HasCapacity};
 ghost use Rattle.gpsk_ends.specs.Sealed.{packet_of, record_of};
 
 use crate::records::set_alone;
@@ -108,7 +108,7 @@ impl Keys {
         requires mac { length (mac_of (message_of view.now)) ≡ ks_of self.now.suite }
         ensures packet { packet.new ≡ packet_of code id self.now.suite self.now.keys.sk (without_mac (message_of view.now)) }
         ensures record { made.new ≡ record_of self.now.suite self.now.keys.sk psk.now (without_mac (message_of view.now)) ∷ [] }
-        ensures room { HasRoom packet.new }
+        ensures room { HasCapacity packet.new }
     {
         write_front(view, code, id, self.suite, packet);
         let covered = &packet.as_slice()[BEFORE_COVERED..];

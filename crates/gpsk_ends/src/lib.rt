@@ -2,10 +2,10 @@
 //! allocates memory.
 #![tactic(auto)]
 
-mod hearing;
 mod keys;
 mod nonces;
 mod peer;
+mod receiving;
 mod records;
 mod sealing;
 mod server;

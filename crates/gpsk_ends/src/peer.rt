@@ -10,9 +10,9 @@ mod stage;
 mod turns;
 
 use crate::nonces::Nonces;
-use crate::peer::login::Begun;
+use crate::peer::login::Initial;
 use crate::peer::stage::{Phase, Stage};
-use crate::peer::turns::hears_request;
+use crate::peer::turns::handle_request;
 use eap_method::{Credential, PeerAnswer, PeerMethod, Records, Report, Tags};
 use octet_lists::{GPSK_KIND, Nonce, Packet};
 use std::marker::Model;
@@ -85,7 +85,7 @@ impl PeerMethod for GpskPeer {
 
     fn begin(&mut self, cred: &Credential, nonce: &Nonce) {
         self.stage = Stage::Fresh {
-            own: Begun {
+            own: Initial {
                 cred: cred.copy(),
                 nonce: *nonce,
             },
@@ -103,7 +103,7 @@ impl PeerMethod for GpskPeer {
         packet: &mut Packet,
         tags: &mut Tags<R>,
     ) -> PeerAnswer {
-        match hears_request(&mut self.stage, request, packet, tags) {
+        match handle_request(&mut self.stage, request, packet, tags) {
             PeerAnswer::Discard(cause) => {
                 tags.clear();
                 PeerAnswer::Discard(cause)

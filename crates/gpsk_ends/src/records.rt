@@ -5,7 +5,7 @@ ghost use Rattle.octet_lists.specs.Sizes.{max_packet};
 ghost use Rattle.gpsk_messages.specs.Message.{message_of};
 ghost use Rattle.eap_method.specs.declared.tags.Label.TheVariants.{Sk};
 ghost use Rattle.eap_method.specs.GpskTags.{sk_record};
-ghost use Rattle.gpsk_ends.specs.Heard.{IsHeard};
+ghost use Rattle.gpsk_ends.specs.Classified.{IsReceived};
 
 use eap_method::{Label, Records, TagList};
 use gpsk_messages::{GpskMessage, covered_part, mac_part};
@@ -29,7 +29,7 @@ pub(crate) fn record<R: Records>(
     body: &[u8],
     psk: &Secret,
 )
-    requires { IsHeard (message_of view.now) body.now }
+    requires { IsReceived (message_of view.now) body.now }
     ensures { list.new ≡ sk_record psk.now (message_of view.now) ∷ [] }
 {
     set_alone(list, psk, covered_part(view, body), mac_part(view));

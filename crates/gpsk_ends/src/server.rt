@@ -9,9 +9,9 @@ mod stage;
 mod turns;
 
 use crate::nonces::Nonces;
-use crate::server::login::Begun;
+use crate::server::login::Initial;
 use crate::server::stage::{Alone, Phase, Stage};
-use crate::server::turns::{ask, hears_response};
+use crate::server::turns::{ask, handle_response};
 use eap_method::{Records, Report, ServerAnswer, ServerMethod, ServerSide, Tags};
 use login_setup::Users;
 use octet_lists::{GPSK_KIND, Nonce, Packet};
@@ -98,11 +98,11 @@ impl ServerMethod for GpskServer {
 
     fn begin(&mut self, own: &ServerSide, nonce: &Nonce) {
         self.stage = Stage::Alone {
-            own: Begun {
+            own: Initial {
                 side: own.copy(),
                 nonce: *nonce,
             },
-            phase: Alone::Begun,
+            phase: Alone::Initial,
         };
     }
 
@@ -131,7 +131,7 @@ impl ServerMethod for GpskServer {
         packet: &mut Packet,
         tags: &mut Tags<R>,
     ) -> ServerAnswer {
-        match hears_response(&mut self.stage, response, next_id, users, packet, tags) {
+        match handle_response(&mut self.stage, response, next_id, users, packet, tags) {
             ServerAnswer::Discard(cause) => {
                 tags.clear();
                 ServerAnswer::Discard(cause)

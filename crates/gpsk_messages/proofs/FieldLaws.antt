@@ -25,28 +25,28 @@ unfolding and_then
 step_again read step x e = rw e refl
 
 -- what a reader took from the front
-pub record Takes (octets text rest : List ℕ) : Type 0 where
+pub record PrefixedBy (octets text rest : List ℕ) : Type 0 where
   pub parts : octets ≡ text ++ rest
   pub rest_small : IsOctets rest
 
-pub Takes-then : {a x b y c : List ℕ} → Takes a x b → Takes b y c → Takes a (x ++ y) c
-Takes-then {a} {x} {b} {y} {c} p q = record {
+pub PrefixedBy-then : {a x b y c : List ℕ} → PrefixedBy a x b → PrefixedBy b y c → PrefixedBy a (x ++ y) c
+PrefixedBy-then {a} {x} {b} {y} {c} p q = record {
   parts = p.parts ∙ ap (λ (t : List ℕ). x ++ t) q.parts ∙ sym (append_assoc x y c);
   rest_small = q.rest_small;
 }
 
 -- ---- what is read is spelled so
 
-pub exact_takes : (count : ℕ) (octets : List ℕ) (x : List ℕ × List ℕ) → IsOctets octets → exact_at count octets ≡ Some x →
-    Takes octets x.0 x.1 × (length x.0 ≡ count)
+pub exact_consumes : (count : ℕ) (octets : List ℕ) (x : List ℕ × List ℕ) → IsOctets octets → exact_at count octets ≡ Some x →
+    PrefixedBy octets x.0 x.1 × (length x.0 ≡ count)
 unfolding exact_at
-exact_takes count octets x small e =
+exact_consumes count octets x small e =
     let g = cond_some {A = List ℕ × List ℕ} (leb count (length octets)) (take count octets, drop count octets) x e in
-    let whole : Takes octets (take count octets) (drop count octets) = record {
+    let whole : PrefixedBy octets (take count octets) (drop count octets) = record {
       parts = sym (take-append-drop count octets);
       rest_small = All-drop (λ b. b < 256) count octets small;
     } in
-    subst (λ (p : List ℕ × List ℕ). Takes octets p.0 p.1 × (length p.0 ≡ count)) g.1 (whole, length-take-le count octets (leb-true count (length octets) g.0))
+    subst (λ (p : List ℕ × List ℕ). PrefixedBy octets p.0 p.1 × (length p.0 ≡ count)) g.1 (whole, length-take-le count octets (leb-true count (length octets) g.0))
 
 exact_small : (count : ℕ) (octets : List ℕ) (x : List ℕ × List ℕ) → IsOctets octets → exact_at count octets ≡ Some x → IsOctets x.0
 unfolding exact_at
@@ -54,56 +54,56 @@ exact_small count octets x small e =
     let g = cond_some {A = List ℕ × List ℕ} (leb count (length octets)) (take count octets, drop count octets) x e in
     subst (λ (p : List ℕ × List ℕ). IsOctets p.0) g.1 (All-take (λ b. b < 256) count octets small)
 
-pub sized_takes : (octets : List ℕ) (x : List ℕ × List ℕ) → IsOctets octets → sized_at octets ≡ Some x → Takes octets (field_with_length x.0) x.1 × IsBlock x.0
+pub sized_consumes : (octets : List ℕ) (x : List ℕ × List ℕ) → IsOctets octets → sized_at octets ≡ Some x → PrefixedBy octets (field_with_length x.0) x.1 × IsBlock x.0
 unfolding sized_at
-sized_takes [] x small e = absurd cc
-sized_takes (high ∷ []) x small e = absurd cc
-sized_takes (high ∷ low ∷ octets) x small e =
+sized_consumes [] x small e = absurd cc
+sized_consumes (high ∷ []) x small e = absurd cc
+sized_consumes (high ∷ low ∷ octets) x small e =
     let high_small : high < 256 = small 0 0 (omega arith) in
     let low_small : low < 256 = small 1 0 (omega arith) in
     let tail = All-tail (λ b. b < 256) low octets (All-tail (λ b. b < 256) high (low ∷ octets) small) in
-    let t = exact_takes (256 * high + low) octets x tail e in
+    let t = exact_consumes (256 * high + low) octets x tail e in
     let count = t.1 in
     let first : length x.0 / 256 ≡ high = omega arith in
     let second : length x.0 % 256 ≡ low = omega arith in
     let joined = t.0.parts in
     (record { parts = cc; rest_small = t.0.rest_small }, omega arith)
 
-pub identity_takes : (octets : List ℕ) (x : List ℕ × List ℕ) → IsOctets octets → identity_at octets ≡ Some x → Takes octets (field_with_length x.0) x.1 × IsIdentity x.0
+pub identity_consumes : (octets : List ℕ) (x : List ℕ × List ℕ) → IsOctets octets → identity_at octets ≡ Some x → PrefixedBy octets (field_with_length x.0) x.1 × IsIdentity x.0
 unfolding identity_at
-identity_takes octets x small e =
+identity_consumes octets x small e =
     let s = step_of _ _ _ e in
     let g = cond_some (leb (length s.0.0) 253) s.0 x s.2 in
-    subst (λ (p : List ℕ × List ℕ). Takes octets (field_with_length p.0) p.1 × IsIdentity p.0) g.1 ((sized_takes octets s.0 small s.1).0, leb-true (length s.0.0) 253 g.0)
+    subst (λ (p : List ℕ × List ℕ). PrefixedBy octets (field_with_length p.0) p.1 × IsIdentity p.0) g.1 ((sized_consumes octets s.0 small s.1).0, leb-true (length s.0.0) 253 g.0)
 
-pub suites_takes : (octets : List ℕ) (x : List ℕ × List ℕ) → IsOctets octets → suites_at octets ≡ Some x → Takes octets (field_with_length x.0) x.1 × IsSuiteList x.0
+pub suites_consume : (octets : List ℕ) (x : List ℕ × List ℕ) → IsOctets octets → suites_at octets ≡ Some x → PrefixedBy octets (field_with_length x.0) x.1 × IsSuiteList x.0
 unfolding suites_at
-suites_takes octets x small e =
+suites_consume octets x small e =
     let s = step_of _ _ _ e in
     let size = length s.0.0 in
     let g = cond_some (ltb 0 size && eqb (size % 6) 0) s.0 x s.2 in
     let tests = and_parts (ltb 0 size) (eqb (size % 6) 0) g.0 in
-    let t = sized_takes octets s.0 small s.1 in
+    let t = sized_consumes octets s.0 small s.1 in
     let list : IsSuiteList s.0.0 = record { some = ltb-true 0 size tests.0; whole = eqb-true (size % 6) 0 tests.1; size = t.1 } in
-    subst (λ (p : List ℕ × List ℕ). Takes octets (field_with_length p.0) p.1 × IsSuiteList p.0) g.1 (t.0, list)
+    subst (λ (p : List ℕ × List ℕ). PrefixedBy octets (field_with_length p.0) p.1 × IsSuiteList p.0) g.1 (t.0, list)
 
 suite_front : (suite : Suite) (octets : List ℕ) (x : Suite × List ℕ) → IsOctets (suite_octets suite ++ octets) → (suite, octets) ≡ x →
-    Takes (suite_octets suite ++ octets) (suite_octets x.0) x.1
+    PrefixedBy (suite_octets suite ++ octets) (suite_octets x.0) x.1
 suite_front suite octets x small e =
-    let taken : Takes (suite_octets suite ++ octets) (suite_octets suite) octets = record { parts = refl; rest_small = All-drop (λ b. b < 256) 6 (suite_octets suite ++ octets) small } in
-    subst (λ (p : Suite × List ℕ). Takes (suite_octets suite ++ octets) (suite_octets p.0) p.1) e taken
+    let taken : PrefixedBy (suite_octets suite ++ octets) (suite_octets suite) octets = record { parts = refl; rest_small = All-drop (λ b. b < 256) 6 (suite_octets suite ++ octets) small } in
+    subst (λ (p : Suite × List ℕ). PrefixedBy (suite_octets suite ++ octets) (suite_octets p.0) p.1) e taken
 
-pub suite_takes : (octets : List ℕ) (x : Suite × List ℕ) → IsOctets octets → suite_at octets ≡ Some x → Takes octets (suite_octets x.0) x.1
+pub suite_consumes : (octets : List ℕ) (x : Suite × List ℕ) → IsOctets octets → suite_at octets ≡ Some x → PrefixedBy octets (suite_octets x.0) x.1
 unfolding suite_at
-suite_takes (zero ∷ zero ∷ zero ∷ zero ∷ zero ∷ suc zero ∷ octets) x small e =
+suite_consumes (zero ∷ zero ∷ zero ∷ zero ∷ zero ∷ suc zero ∷ octets) x small e =
     suite_front Cmac octets x small (same_Some (Cmac, octets) x e)
-suite_takes (zero ∷ zero ∷ zero ∷ zero ∷ zero ∷ suc (suc zero) ∷ octets) x small e =
+suite_consumes (zero ∷ zero ∷ zero ∷ zero ∷ zero ∷ suc (suc zero) ∷ octets) x small e =
     suite_front Hmac octets x small (same_Some (Hmac, octets) x e)
-suite_takes (zero ∷ zero ∷ zero ∷ zero ∷ zero ∷ suc (suc (suc n)) ∷ octets) x small e =
+suite_consumes (zero ∷ zero ∷ zero ∷ zero ∷ zero ∷ suc (suc (suc n)) ∷ octets) x small e =
     let first = ne_eqb (suc (suc (suc n))) 1 (omega arith) in
     let second = ne_eqb (suc (suc (suc n))) 2 (omega arith) in
     absurd (cc (first, second, e))
-suite_takes octets x small e = absurd cc
+suite_consumes octets x small e = absurd cc
 
 -- an octet at any place
 small_at : (octets : List ℕ) → IsOctets octets → (i : ℕ) → get_or octets i 0 < 256
@@ -113,17 +113,17 @@ small_at octets small i =
       | inr past ↦ rw (get_or_past octets i 0 past) (omega arith)
     ]
 
-pub code_takes : (octets : List ℕ) (x : ℕ × List ℕ) → IsOctets octets → code_at octets ≡ Some x → Takes octets (to_be_bytes w32 x.0) x.1 × (x.0 < 2 ^ 32)
+pub code_consumes : (octets : List ℕ) (x : ℕ × List ℕ) → IsOctets octets → code_at octets ≡ Some x → PrefixedBy octets (to_be_bytes w32 x.0) x.1 × (x.0 < 2 ^ 32)
 unfolding code_at
-code_takes octets x small e =
+code_consumes octets x small e =
     let s = step_of _ _ _ e in
     let front = s.0.0 in
-    let t = exact_takes 4 octets s.0 small s.1 in
+    let t = exact_consumes 4 octets s.0 small s.1 in
     let fits = small_at front (exact_small 4 octets s.0 small s.1) in
     let back : to_be_bytes w32 (from_be_bytes w32 front) ≡ front = be_bytes_4 front (from_be_bytes w32 front) t.1 fits refl in
     let below : from_be_bytes w32 front < 2 ^ 32 = omega (arith, fits 0, fits 1, fits 2, fits 3) in
-    let taken : Takes octets (to_be_bytes w32 (from_be_bytes w32 front)) s.0.1 = record { parts = t.0.parts ∙ ap (λ (f : List ℕ). f ++ s.0.1) (sym back); rest_small = t.0.rest_small } in
-    subst (λ (p : ℕ × List ℕ). Takes octets (to_be_bytes w32 p.0) p.1 × (p.0 < 2 ^ 32)) (same_Some (from_be_bytes w32 front, s.0.1) x s.2) (taken, below)
+    let taken : PrefixedBy octets (to_be_bytes w32 (from_be_bytes w32 front)) s.0.1 = record { parts = t.0.parts ∙ ap (λ (f : List ℕ). f ++ s.0.1) (sym back); rest_small = t.0.rest_small } in
+    subst (λ (p : ℕ × List ℕ). PrefixedBy octets (to_be_bytes w32 p.0) p.1 × (p.0 < 2 ^ 32)) (same_Some (from_be_bytes w32 front, s.0.1) x s.2) (taken, below)
 
 -- ---- what is spelled so is read
 

@@ -8,30 +8,30 @@ use Rattle.octet_lists.specs.Suite.{suite_octets}
 use Rattle.eap_packet.specs.Packet.{IsOctets}
 use Rattle.gpsk_messages.specs.Message.{Message, gpsk1, gpsk2, gpsk3, gpsk4, fail, protected_fail, op_code, field_with_length, covered_of, without_mac, AreFields}
 use Rattle.gpsk_messages.specs.Reading.{and_then, gpsk1_at, gpsk2_at, gpsk3_at, gpsk4_at, fail_at, protected_fail_at, fields_at}
-use Rattle.gpsk_messages.proofs.FieldLaws.{step_of, step_again, Takes-then, exact_takes, sized_takes, identity_takes, suites_takes, suite_takes, code_takes, exact_again, sized_again, identity_again, suites_again, suite_again, code_again}
+use Rattle.gpsk_messages.proofs.FieldLaws.{step_of, step_again, PrefixedBy-then, exact_consumes, sized_consumes, identity_consumes, suites_consume, suite_consumes, code_consumes, exact_again, sized_again, identity_again, suites_again, suite_again, code_again}
 
 -- what is read behind an OP-Code: the fields of a message, within their limits
-pub record TakesFields (code : ℕ) (octets : List ℕ) (x : Message × List ℕ) : Type 0 where
+pub record ConsumesFields (code : ℕ) (octets : List ℕ) (x : Message × List ℕ) : Type 0 where
   pub op : op_code x.0 ≡ code
   pub fields : AreFields x.0
   pub parts : octets ≡ covered_of x.0 ++ x.1
 
-gpsk1_takes : (octets : List ℕ) (x : Message × List ℕ) → IsOctets octets → gpsk1_at octets ≡ Some x → TakesFields 1 octets x
+gpsk1_consumes : (octets : List ℕ) (x : Message × List ℕ) → IsOctets octets → gpsk1_at octets ≡ Some x → ConsumesFields 1 octets x
 unfolding gpsk1_at covered_of
-gpsk1_takes octets x small e =
+gpsk1_consumes octets x small e =
     let id_s = step_of _ _ _ e in
     let rand_s = step_of _ _ _ id_s.2 in
     let list = step_of _ _ _ rand_s.2 in
-    let t0 = identity_takes octets id_s.0 small id_s.1 in
-    let t1 = exact_takes 32 id_s.0.1 rand_s.0 t0.0.rest_small rand_s.1 in
-    let t2 = suites_takes rand_s.0.1 list.0 t1.0.rest_small list.1 in
-    let joined = Takes-then t0.0 (Takes-then t1.0 t2.0) in
+    let t0 = identity_consumes octets id_s.0 small id_s.1 in
+    let t1 = exact_consumes 32 id_s.0.1 rand_s.0 t0.0.rest_small rand_s.1 in
+    let t2 = suites_consume rand_s.0.1 list.0 t1.0.rest_small list.1 in
+    let joined = PrefixedBy-then t0.0 (PrefixedBy-then t1.0 t2.0) in
     let found : Message × List ℕ = (gpsk1 id_s.0.0 rand_s.0.0 list.0.0, list.0.1) in
-    subst (TakesFields 1 octets) {x = found} (same_Some found x list.2) (record { op = refl {a = 1}; fields = (t0.1, t1.1, t2.1); parts = joined.parts })
+    subst (ConsumesFields 1 octets) {x = found} (same_Some found x list.2) (record { op = refl {a = 1}; fields = (t0.1, t1.1, t2.1); parts = joined.parts })
 
-gpsk2_takes : (octets : List ℕ) (x : Message × List ℕ) → IsOctets octets → gpsk2_at octets ≡ Some x → TakesFields 2 octets x
+gpsk2_consumes : (octets : List ℕ) (x : Message × List ℕ) → IsOctets octets → gpsk2_at octets ≡ Some x → ConsumesFields 2 octets x
 unfolding gpsk2_at covered_of
-gpsk2_takes octets x small e =
+gpsk2_consumes octets x small e =
     let id_p = step_of _ _ _ e in
     let id_s = step_of _ _ _ id_p.2 in
     let rand_p = step_of _ _ _ id_s.2 in
@@ -39,75 +39,75 @@ gpsk2_takes octets x small e =
     let list = step_of _ _ _ rand_s.2 in
     let suite = step_of _ _ _ list.2 in
     let pd = step_of _ _ _ suite.2 in
-    let t0 = identity_takes octets id_p.0 small id_p.1 in
-    let t1 = identity_takes id_p.0.1 id_s.0 t0.0.rest_small id_s.1 in
-    let t2 = exact_takes 32 id_s.0.1 rand_p.0 t1.0.rest_small rand_p.1 in
-    let t3 = exact_takes 32 rand_p.0.1 rand_s.0 t2.0.rest_small rand_s.1 in
-    let t4 = suites_takes rand_s.0.1 list.0 t3.0.rest_small list.1 in
-    let t5 = suite_takes list.0.1 suite.0 t4.0.rest_small suite.1 in
-    let t6 = sized_takes suite.0.1 pd.0 t5.rest_small pd.1 in
-    let joined = Takes-then t0.0 (Takes-then t1.0 (Takes-then t2.0 (Takes-then t3.0 (Takes-then t4.0 (Takes-then t5 t6.0))))) in
+    let t0 = identity_consumes octets id_p.0 small id_p.1 in
+    let t1 = identity_consumes id_p.0.1 id_s.0 t0.0.rest_small id_s.1 in
+    let t2 = exact_consumes 32 id_s.0.1 rand_p.0 t1.0.rest_small rand_p.1 in
+    let t3 = exact_consumes 32 rand_p.0.1 rand_s.0 t2.0.rest_small rand_s.1 in
+    let t4 = suites_consume rand_s.0.1 list.0 t3.0.rest_small list.1 in
+    let t5 = suite_consumes list.0.1 suite.0 t4.0.rest_small suite.1 in
+    let t6 = sized_consumes suite.0.1 pd.0 t5.rest_small pd.1 in
+    let joined = PrefixedBy-then t0.0 (PrefixedBy-then t1.0 (PrefixedBy-then t2.0 (PrefixedBy-then t3.0 (PrefixedBy-then t4.0 (PrefixedBy-then t5 t6.0))))) in
     let found : Message × List ℕ = (gpsk2 id_p.0.0 id_s.0.0 rand_p.0.0 rand_s.0.0 list.0.0 suite.0.0 pd.0.0 [], pd.0.1) in
-    subst (TakesFields 2 octets) {x = found} (same_Some found x pd.2) (record { op = refl {a = 2}; fields = (t0.1, t1.1, t2.1, t3.1, t4.1, t6.1); parts = joined.parts })
+    subst (ConsumesFields 2 octets) {x = found} (same_Some found x pd.2) (record { op = refl {a = 2}; fields = (t0.1, t1.1, t2.1, t3.1, t4.1, t6.1); parts = joined.parts })
 
-gpsk3_takes : (octets : List ℕ) (x : Message × List ℕ) → IsOctets octets → gpsk3_at octets ≡ Some x → TakesFields 3 octets x
+gpsk3_consumes : (octets : List ℕ) (x : Message × List ℕ) → IsOctets octets → gpsk3_at octets ≡ Some x → ConsumesFields 3 octets x
 unfolding gpsk3_at covered_of
-gpsk3_takes octets x small e =
+gpsk3_consumes octets x small e =
     let rand_p = step_of _ _ _ e in
     let rand_s = step_of _ _ _ rand_p.2 in
     let id_s = step_of _ _ _ rand_s.2 in
     let suite = step_of _ _ _ id_s.2 in
     let pd = step_of _ _ _ suite.2 in
-    let t0 = exact_takes 32 octets rand_p.0 small rand_p.1 in
-    let t1 = exact_takes 32 rand_p.0.1 rand_s.0 t0.0.rest_small rand_s.1 in
-    let t2 = identity_takes rand_s.0.1 id_s.0 t1.0.rest_small id_s.1 in
-    let t3 = suite_takes id_s.0.1 suite.0 t2.0.rest_small suite.1 in
-    let t4 = sized_takes suite.0.1 pd.0 t3.rest_small pd.1 in
-    let joined = Takes-then t0.0 (Takes-then t1.0 (Takes-then t2.0 (Takes-then t3 t4.0))) in
+    let t0 = exact_consumes 32 octets rand_p.0 small rand_p.1 in
+    let t1 = exact_consumes 32 rand_p.0.1 rand_s.0 t0.0.rest_small rand_s.1 in
+    let t2 = identity_consumes rand_s.0.1 id_s.0 t1.0.rest_small id_s.1 in
+    let t3 = suite_consumes id_s.0.1 suite.0 t2.0.rest_small suite.1 in
+    let t4 = sized_consumes suite.0.1 pd.0 t3.rest_small pd.1 in
+    let joined = PrefixedBy-then t0.0 (PrefixedBy-then t1.0 (PrefixedBy-then t2.0 (PrefixedBy-then t3 t4.0))) in
     let found : Message × List ℕ = (gpsk3 rand_p.0.0 rand_s.0.0 id_s.0.0 suite.0.0 pd.0.0 [], pd.0.1) in
-    subst (TakesFields 3 octets) {x = found} (same_Some found x pd.2) (record { op = refl {a = 3}; fields = (t0.1, t1.1, t2.1, t4.1); parts = joined.parts })
+    subst (ConsumesFields 3 octets) {x = found} (same_Some found x pd.2) (record { op = refl {a = 3}; fields = (t0.1, t1.1, t2.1, t4.1); parts = joined.parts })
 
-gpsk4_takes : (octets : List ℕ) (x : Message × List ℕ) → IsOctets octets → gpsk4_at octets ≡ Some x → TakesFields 4 octets x
+gpsk4_consumes : (octets : List ℕ) (x : Message × List ℕ) → IsOctets octets → gpsk4_at octets ≡ Some x → ConsumesFields 4 octets x
 unfolding gpsk4_at covered_of
-gpsk4_takes octets x small e =
+gpsk4_consumes octets x small e =
     let pd = step_of _ _ _ e in
-    let t = sized_takes octets pd.0 small pd.1 in
-    subst (TakesFields 4 octets) (same_Some _ x pd.2) (record { op = refl; fields = t.1; parts = t.0.parts })
+    let t = sized_consumes octets pd.0 small pd.1 in
+    subst (ConsumesFields 4 octets) (same_Some _ x pd.2) (record { op = refl; fields = t.1; parts = t.0.parts })
 
-fail_takes : (octets : List ℕ) (x : Message × List ℕ) → IsOctets octets → fail_at octets ≡ Some x → TakesFields 5 octets x
+fail_consumes : (octets : List ℕ) (x : Message × List ℕ) → IsOctets octets → fail_at octets ≡ Some x → ConsumesFields 5 octets x
 unfolding fail_at covered_of
-fail_takes octets x small e =
+fail_consumes octets x small e =
     let code = step_of _ _ _ e in
-    let t = code_takes octets code.0 small code.1 in
-    subst (TakesFields 5 octets) (same_Some _ x code.2) (record { op = refl; fields = t.1; parts = t.0.parts })
+    let t = code_consumes octets code.0 small code.1 in
+    subst (ConsumesFields 5 octets) (same_Some _ x code.2) (record { op = refl; fields = t.1; parts = t.0.parts })
 
-protected_fail_takes : (octets : List ℕ) (x : Message × List ℕ) → IsOctets octets → protected_fail_at octets ≡ Some x → TakesFields 6 octets x
+protected_fail_consumes : (octets : List ℕ) (x : Message × List ℕ) → IsOctets octets → protected_fail_at octets ≡ Some x → ConsumesFields 6 octets x
 unfolding protected_fail_at covered_of
-protected_fail_takes octets x small e =
+protected_fail_consumes octets x small e =
     let code = step_of _ _ _ e in
-    let t = code_takes octets code.0 small code.1 in
-    subst (TakesFields 6 octets) (same_Some _ x code.2) (record { op = refl; fields = t.1; parts = t.0.parts })
+    let t = code_consumes octets code.0 small code.1 in
+    subst (ConsumesFields 6 octets) (same_Some _ x code.2) (record { op = refl; fields = t.1; parts = t.0.parts })
 
 -- the test of an OP-Code, and what stands behind it
 tested : (op code : ℕ) (octets : List ℕ) (x : Message × List ℕ) (then_read else_read : Option (Message × List ℕ)) →
-    (then_read ≡ Some x → TakesFields code octets x) → (else_read ≡ Some x → TakesFields op octets x) →
-    cond (eqb op code) then_read else_read ≡ Some x → TakesFields op octets x
+    (then_read ≡ Some x → ConsumesFields code octets x) → (else_read ≡ Some x → ConsumesFields op octets x) →
+    cond (eqb op code) then_read else_read ≡ Some x → ConsumesFields op octets x
 tested op code octets x then_read else_read good other e =
     elim (cases_Bool (eqb op code)) [
-      | inl same ↦ subst (λ (c : ℕ). TakesFields c octets x) (sym (eqb-true op code same)) (good (sym (cond-true _ _ _ same) ∙ e))
+      | inl same ↦ subst (λ (c : ℕ). ConsumesFields c octets x) (sym (eqb-true op code same)) (good (sym (cond-true _ _ _ same) ∙ e))
       | inr differs ↦ other (sym (cond-false _ _ _ differs) ∙ e)
     ]
 
-pub fields_takes : (op : ℕ) (octets : List ℕ) (x : Message × List ℕ) → IsOctets (op ∷ octets) → fields_at op octets ≡ Some x → TakesFields op octets x
+pub fields_consume : (op : ℕ) (octets : List ℕ) (x : Message × List ℕ) → IsOctets (op ∷ octets) → fields_at op octets ≡ Some x → ConsumesFields op octets x
 unfolding fields_at
-fields_takes op octets x small =
+fields_consume op octets x small =
     let tail = All-tail (λ b. b < 256) op octets small in
-    tested op 1 octets x _ _ (gpsk1_takes octets x tail)
-    (tested op 2 octets x _ _ (gpsk2_takes octets x tail)
-    (tested op 3 octets x _ _ (gpsk3_takes octets x tail)
-    (tested op 4 octets x _ _ (gpsk4_takes octets x tail)
-    (tested op 5 octets x _ _ (fail_takes octets x tail)
-    (tested op 6 octets x _ _ (protected_fail_takes octets x tail) (λ e. absurd cc))))))
+    tested op 1 octets x _ _ (gpsk1_consumes octets x tail)
+    (tested op 2 octets x _ _ (gpsk2_consumes octets x tail)
+    (tested op 3 octets x _ _ (gpsk3_consumes octets x tail)
+    (tested op 4 octets x _ _ (gpsk4_consumes octets x tail)
+    (tested op 5 octets x _ _ (fail_consumes octets x tail)
+    (tested op 6 octets x _ _ (protected_fail_consumes octets x tail) (λ e. absurd cc))))))
 
 -- ---- what is spelled so is read
 

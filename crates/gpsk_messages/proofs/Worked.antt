@@ -22,9 +22,9 @@ rand = replicate 32 34
 first_octets : List ℕ
 first_octets = 1 ∷ 0 ∷ 3 ∷ 115 ∷ 114 ∷ 118 ∷ rand ++ (0 ∷ 12 ∷ suite_1 ++ suite_2)
 
-first_spelled : spelled (gpsk1 srv rand (suite_1 ++ suite_2)) ≡ first_octets
+first_encoded : spelled (gpsk1 srv rand (suite_1 ++ suite_2)) ≡ first_octets
 unfolding spelled covered_of first_octets srv suite_1 suite_2 rand
-first_spelled = refl
+first_encoded = refl
 
 first_read : read_of None first_octets ≡ Ok (gpsk1 srv rand (suite_1 ++ suite_2))
 unfolding read_of loose_of fields_at gpsk1_at and_then exact_at sized_at identity_at suites_at first_octets srv suite_1 suite_2 rand

@@ -7,26 +7,26 @@ use Rattle.gpsk_messages.specs.Message.{Message, op_code, covered_of, mac_of, wi
 use Rattle.gpsk_messages.specs.Reading.{read_of}
 
 -- what is encoded so is read
-abbrev pub SpellingsAreRead : Type 0
-SpellingsAreRead = (ks : Option ℕ) (octets : List ℕ) (message : Message) → IsGpsk ks message octets → read_of ks octets ≡ Ok message
+abbrev pub EncodingsAreRead : Type 0
+EncodingsAreRead = (ks : Option ℕ) (octets : List ℕ) (message : Message) → IsGpsk ks message octets → read_of ks octets ≡ Ok message
 
 -- what is read is the message that the octets encode
-abbrev pub ReadsTheSpelling : Type 0
-ReadsTheSpelling =
+abbrev pub ReadsTheEncoding : Type 0
+ReadsTheEncoding =
     (ks : Option ℕ) (octets : List ℕ) (message : Message) → IsOctets octets → (read_of ks octets ≡ Ok message) ↔ IsGpsk ks message octets
 
 -- no two messages have one encoding, whatever the number of suites
-abbrev pub SpellingsAreApart : Type 0
-SpellingsAreApart =
+abbrev pub EncodingsAreApart : Type 0
+EncodingsAreApart =
     (ks : Option ℕ) (octets : List ℕ) (one other : Message) → IsGpskLoose ks one octets → IsGpskLoose ks other octets → one ≡ other
 
 -- GpskShape comes exactly if the octets encode no message, whatever the number of suites
-abbrev pub ShapelessSpellsNothing : Type 0
-ShapelessSpellsNothing =
+abbrev pub ShapelessEncodesNothing : Type 0
+ShapelessEncodesNothing =
     (ks : Option ℕ) (octets : List ℕ) → IsOctets octets → (read_of ks octets ≡ Err GpskShape) ↔ ((message : Message) → ¬ IsGpskLoose ks message octets)
 
 -- the octets encode a message, but none whose list has at most 20 suites
-pub record SpellsALongList (ks : Option ℕ) (octets : List ℕ) : Type 0 where
+pub record EncodesALongList (ks : Option ℕ) (octets : List ℕ) : Type 0 where
   pub message : Message
   pub spells : IsGpskLoose ks message octets
   pub no_other : (other : Message) → ¬ IsGpsk ks other octets
@@ -34,16 +34,16 @@ pub record SpellsALongList (ks : Option ℕ) (octets : List ℕ) : Type 0 where
 -- why octets are refused
 abbrev pub Refuses : Option ℕ → List ℕ → Cause → Type 0
 Refuses ks octets cause =
-    ((cause ≡ GpskShape) × ((message : Message) → ¬ IsGpskLoose ks message octets)) ⊎ ((cause ≡ ListTooLong) × SpellsALongList ks octets)
+    ((cause ≡ GpskShape) × ((message : Message) → ¬ IsGpskLoose ks message octets)) ⊎ ((cause ≡ ListTooLong) × EncodesALongList ks octets)
 
 -- ListTooLong comes exactly if the octets encode a message, but none whose list has at most 20 suites
-abbrev pub LongListsAreTold : Type 0
-LongListsAreTold =
-    (ks : Option ℕ) (octets : List ℕ) → IsOctets octets → (read_of ks octets ≡ Err ListTooLong) ↔ SpellsALongList ks octets
+abbrev pub LongListsAreNamed : Type 0
+LongListsAreNamed =
+    (ks : Option ℕ) (octets : List ℕ) → IsOctets octets → (read_of ks octets ≡ Err ListTooLong) ↔ EncodesALongList ks octets
 
 -- the octets of an encoding
-abbrev pub SpellingsAreSized : Type 0
-SpellingsAreSized = (message : Message) → length (spelled message) ≡ size_of message
+abbrev pub EncodingsAreSized : Type 0
+EncodingsAreSized = (message : Message) → length (spelled message) ≡ size_of message
 
 -- the covered octets are those after the OP-Code up to the MAC
 abbrev pub CoveredIsTheMiddle : Type 0
@@ -52,7 +52,7 @@ CoveredIsTheMiddle =
     take (length (spelled message) - 1 - ks) (drop 1 (spelled message)) ≡ covered_of message
 
 -- two messages of one kind with equal covered octets have equal fields but for the MAC
-abbrev pub CoveredTellsTheFields : Type 0
-CoveredTellsTheFields =
+abbrev pub CoveredOctetsFixFields : Type 0
+CoveredOctetsFixFields =
     (one other : Message) → AreFields one → AreFields other → op_code one ≡ op_code other →
     covered_of one ≡ covered_of other → without_mac one ≡ without_mac other

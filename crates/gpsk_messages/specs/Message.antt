@@ -122,7 +122,7 @@ HasMac ks (protected_fail code mac) = IsMacSize ks (length mac)
 pub record IsGpskLoose (ks : Option ℕ) (message : Message) (octets : List ℕ) : Type 0 where
   pub fields : AreFields message
   pub mac : HasMac ks message
-  pub spelling : octets ≡ spelled message
+  pub encoding_of : octets ≡ spelled message
 
 -- the octets are the message's encoding, and a list has at most 20 suites
 pub record IsGpsk (ks : Option ℕ) (message : Message) (octets : List ℕ) : Type 0 where

@@ -114,13 +114,13 @@ is_mac_size (Some ks) size = size == ks
 is_mac_size None size = (size == 16) || (size == 32)
 
 -- whether so many octets behind the fields are the message's MAC; nothing follows it
-abbrev pub takes_mac : Option ℕ → Message → ℕ → Bool
-takes_mac ks (gpsk1 id_s rand_s list) size = size == 0
-takes_mac ks (gpsk2 id_p id_s rand_p rand_s list suite pd mac) size = size == ks_of suite
-takes_mac ks (gpsk3 rand_p rand_s id_s suite pd mac) size = size == ks_of suite
-takes_mac ks (gpsk4 pd mac) size = is_mac_size ks size
-takes_mac ks (fail code) size = size == 0
-takes_mac ks (protected_fail code mac) size = is_mac_size ks size
+abbrev pub accepts_mac : Option ℕ → Message → ℕ → Bool
+accepts_mac ks (gpsk1 id_s rand_s list) size = size == 0
+accepts_mac ks (gpsk2 id_p id_s rand_p rand_s list suite pd mac) size = size == ks_of suite
+accepts_mac ks (gpsk3 rand_p rand_s id_s suite pd mac) size = size == ks_of suite
+accepts_mac ks (gpsk4 pd mac) size = is_mac_size ks size
+accepts_mac ks (fail code) size = size == 0
+accepts_mac ks (protected_fail code mac) size = is_mac_size ks size
 
 -- the message with this MAC
 abbrev pub with_mac : Message → List ℕ → Message
@@ -131,15 +131,15 @@ with_mac (gpsk4 pd none) mac = gpsk4 pd mac
 with_mac (fail code) mac = fail code
 with_mac (protected_fail code none) mac = protected_fail code mac
 
-abbrev pub message_if_mac_fits : Option ℕ → Message × List ℕ → Option Message
-message_if_mac_fits ks fields = some_if (takes_mac ks fields.0 (length fields.1)) (with_mac fields.0 fields.1)
+abbrev pub message_if_mac_matches : Option ℕ → Message × List ℕ → Option Message
+message_if_mac_matches ks fields = some_if (accepts_mac ks fields.0 (length fields.1)) (with_mac fields.0 fields.1)
 
 -- the message that the octets encode, with any number of suites in a list
 unfoldable pub loose_of : Option ℕ → List ℕ → Option Message
 loose_of ks [] = None
 loose_of ks (op ∷ octets) = do
   fields ← fields_at op octets
-  message_if_mac_fits ks fields
+  message_if_mac_matches ks fields
 
 -- a list has at most 20 suites
 abbrev pub outcome_of : Option Message → Result Message Cause

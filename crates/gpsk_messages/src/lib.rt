@@ -10,8 +10,8 @@ mod view;
 mod writing;
 
 pub use laws::{
-    covered_is_the_middle, covered_tells_the_fields, long_lists_are_told, reads_the_spelling,
-    shapeless_spells_nothing, spellings_are_apart, spellings_are_read, spellings_are_sized,
+    covered_is_the_middle, covered_octets_fix_fields, encodings_are_apart, encodings_are_read,
+    encodings_are_sized, long_lists_are_named, reads_the_encoding, shapeless_encodes_nothing,
 };
 pub use parts::{covered_part, mac_part};
 pub use plain::{GpskView, read_gpsk, write_gpsk};

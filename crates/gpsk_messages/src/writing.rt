@@ -10,7 +10,7 @@ ghost use Rattle.gpsk_messages.specs.Message.{message_of, op_code, spelled, fiel
 
 use crate::view::{Gpsk1, Gpsk2, GpskMessage};
 use byteorder::{BigEndian, ByteOrder};
-use eap_packet::{Code, begin_into};
+use eap_packet::{Code, init_into};
 use octet_lists::{GPSK_KIND, Packet, Suite};
 
 /// Appends a field behind its length, for which there is room.
@@ -157,12 +157,12 @@ fn put_message(packet: &mut Packet, view: &GpskMessage)
 
 /// Writes the Request or the Response of Type 51 with this Identifier whose Type-Data encodes the
 /// message, in place of what the packet had.
-#[tactic(auto, using(crate::proofs::Grammar::spellings_are_sized))]
+#[tactic(auto, using(crate::proofs::Grammar::encodings_are_sized))]
 pub fn write_gpsk_into(packet: &mut Packet, view: &GpskMessage, code: Code, id: u8)
     requires typed { IsTrue (has_type code) }
     requires fits { size_of (message_of view.now) + 5 ≤ max_packet }
     ensures { packet.new ≡ packets.spelled (value_with code id 51 (spelled (message_of view.now))) }
 {
-    begin_into(packet, code, id, GPSK_KIND, size_of(view));
+    init_into(packet, code, id, GPSK_KIND, size_of(view));
     put_message(packet, view);
 }

@@ -1,2 +1,2 @@
 pub mod Hmac
-pub mod Holds
+pub mod Represents

@@ -4,7 +4,7 @@
 
 ghost use Rattle.std.specs.Prelude.{◌≡◌, ℕ, ◌≤◌, List, [], ◌++◌, length};
 ghost use Rattle.hmac_mac.specs.Hmac.{block_key, filled, hmac_sha256, padded};
-ghost use Rattle.hmac_mac.specs.Holds.{Holds};
+ghost use Rattle.hmac_mac.specs.Represents.{Represents};
 ghost use Rattle.sha2.specs.Hashers.{Holds256};
 ghost use Rattle.sha2.specs.Sha256.{sha256};
 
@@ -92,10 +92,10 @@ pub struct HmacKey {
 }
 
 impl HmacKey {
-    ghost use Rattle.hmac_mac.specs.Holds.{IsKeyOf};
+    ghost use Rattle.hmac_mac.specs.Represents.{IsKeyOf};
 
     /// The key of these octets, of any number: if they are over 64, they are replaced by their SHA-256.
-    #[tactic(auto, unfolding(crate::specs::Holds::IsKeyOf))]
+    #[tactic(auto, unfolding(crate::specs::Represents::IsKeyOf))]
     pub fn new(key: &[u8]) -> HmacKey
         ensures { IsKeyOf result key.now }
     {
@@ -107,7 +107,7 @@ impl HmacKey {
     }
 
     /// HMAC-SHA256 of a text in one piece.
-    #[tactic(auto, unfolding(crate::specs::Holds::IsKeyOf, crate::specs::Hmac::hmac, crate::specs::Hmac::hmac_sha256))]
+    #[tactic(auto, unfolding(crate::specs::Represents::IsKeyOf, crate::specs::Hmac::hmac, crate::specs::Hmac::hmac_sha256))]
     pub fn tag_whole(&self, text: &[u8]) -> [u8; 32]
         ensures { (key : List ℕ) → IsKeyOf self.now key → result ≡ hmac_sha256 key text.now }
     {
@@ -115,9 +115,9 @@ impl HmacKey {
     }
 
     /// An authenticator of the empty text under this key.
-    #[tactic(auto, unfolding(crate::specs::Holds::Holds, crate::specs::Holds::IsKeyOf))]
+    #[tactic(auto, unfolding(crate::specs::Represents::Represents, crate::specs::Represents::IsKeyOf))]
     pub fn begin(&self) -> Hmac
-        ensures { (key : List ℕ) → IsKeyOf self.now key → Holds result key [] }
+        ensures { (key : List ℕ) → IsKeyOf self.now key → Represents result key [] }
     {
         Hmac {
             inner: copy_of(&self.inner),
@@ -137,26 +137,26 @@ pub struct Hmac {
 impl Hmac {
     /// An authenticator of the empty text under `key`, of any length: a key over 64 octets is
     /// replaced by its SHA-256.
-    #[tactic(auto, unfolding(crate::specs::Holds::Holds, crate::specs::Holds::IsKeyOf))]
+    #[tactic(auto, unfolding(crate::specs::Represents::Represents, crate::specs::Represents::IsKeyOf))]
     pub fn new(key: &[u8]) -> Hmac
-        ensures { Holds result key.now [] }
+        ensures { Represents result key.now [] }
     {
         let HmacKey { inner, outer } = HmacKey::new(key);
         Hmac { inner, outer }
     }
 
     /// Adds `piece` at the end of the text.
-    #[tactic(auto, unfolding(crate::specs::Holds::Holds))]
+    #[tactic(auto, unfolding(crate::specs::Represents::Represents))]
     pub fn update(&mut self, piece: &[u8])
-        ensures { (key text : List ℕ) → Holds self.old key text → Holds self.new key (text ++ piece.now) }
+        ensures { (key text : List ℕ) → Represents self.old key text → Represents self.new key (text ++ piece.now) }
     {
         self.inner.update(piece);
     }
 
     /// The 32 octets of HMAC-SHA256 over all pieces joined.
-    #[tactic(auto, unfolding(crate::specs::Holds::Holds, crate::specs::Hmac::hmac, crate::specs::Hmac::hmac_sha256))]
+    #[tactic(auto, unfolding(crate::specs::Represents::Represents, crate::specs::Hmac::hmac, crate::specs::Hmac::hmac_sha256))]
     pub fn finish(self) -> [u8; 32]
-        ensures { (key text : List ℕ) → Holds self key text → result ≡ hmac_sha256 key text }
+        ensures { (key text : List ℕ) → Represents self key text → result ≡ hmac_sha256 key text }
     {
         let Hmac { inner, mut outer } = self;
         let digest = inner.finalize();

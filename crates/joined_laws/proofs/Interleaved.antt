@@ -7,19 +7,19 @@ use Rattle.login_setup.specs.declared.setup.Setup.{Setup}
 use Rattle.eap_method.specs.Steps.{is_end}
 use Rattle.eap_method.specs.declared.values.Report.{Report}
 use Rattle.peer_machine.specs.Inputs as peer_inputs
-use Rattle.peer_machine.specs.Inputs.{PeerInput, peer_takes}
+use Rattle.peer_machine.specs.Inputs.{PeerInput, peer_accepts}
 use Rattle.peer_machine.specs.PeerTable.{PeerNow}
 use Rattle.server_machine.specs.Inputs as server_inputs
-use Rattle.server_machine.specs.Inputs.{server_takes}
+use Rattle.server_machine.specs.Inputs.{server_accepts}
 use Rattle.server_machine.specs.ServerTable.{ServerNow}
 use Rattle.eap_world.specs.Conversations.{Conversations}
 use Rattle.eap_world.specs.Sent.{Sent}
 use Rattle.eap_world.specs.World as world
-use Rattle.eap_world.specs.World.{Parties, WorldNow, act, called_unless, first_skip, run_after, world_made, world_start, world_step}
+use Rattle.eap_world.specs.World.{Parties, WorldNow, act, called_unless, first_skip, run_after, initial_world, world_start, world_step}
 use Rattle.eap_world.specs.declared.told.Skip.TheVariants.{Ended, NoTimer}
-use Rattle.end_pipe.specs.EndRun.{EndNow, Moved, MachineTable, end_after, end_step, goes as end_goes, peer_answers, peer_begun, peer_step, peer_table, skips, server_answers, server_begun, server_starts, server_step, server_table}
+use Rattle.end_pipe.specs.EndRun.{EndNow, Moved, MachineTable, end_after, end_step, goes as end_goes, peer_answers, started_peer, peer_step, peer_table, skips, server_answers, started_server, server_starts, server_step, server_table}
 use Rattle.end_pipe.specs.Inputs.{is_skipped, peer_input, server_input}
-use Rattle.joined_laws.specs.Joined.{Comes, InterleavingsAreRuns, event_of, is_input, peers_of, servers_of, to_peer, to_server}
+use Rattle.joined_laws.specs.Joined.{Arrives, InterleavingsAreRuns, event_of, is_input, peers_of, servers_of, to_peer, to_server}
 use Rattle.end_pipe.specs.declared.input.EndInput.{EndInput}
 use Rattle.end_pipe.specs.declared.input.EndInput.TheVariants as inputs
 
@@ -41,15 +41,15 @@ unfolding end_step
 moves table e input = moved_by table.reports e (table.moves e.now input) (is_skipped (table.state e.now) input)
 
 -- what comes to one end makes that of it, and nothing of the other
-abbrev pub peer_next : Comes → PeerNow → PeerNow
+abbrev pub peer_next : Arrives → PeerNow → PeerNow
 peer_next (to_peer input) now = peer_moved now input
 peer_next (to_server input) now = now
 
-abbrev pub server_next : Comes → ServerNow → ServerNow
+abbrev pub server_next : Arrives → ServerNow → ServerNow
 server_next (to_peer input) now = now
 server_next (to_server input) now = server_moved now input
 
-pub record Next (input : Comes) (before after : Parties) : Type 0 where
+pub record Next (input : Arrives) (before after : Parties) : Type 0 where
   pub alone : after.mode ≡ mode.Alone
   pub peer : after.peer ≡ peer_next input before.peer
   pub server : after.server ≡ server_next input before.server
@@ -66,14 +66,14 @@ record NextServer (before : Parties) (now : ServerNow) (after : Parties) : Type 
 
 -- a report of the lower layer
 report_acts : (parties : Parties) (input : PeerInput) → parties.mode ≡ mode.Alone → (over : Bool)
-    → NextPeer parties (cond over parties.peer (peer_takes parties.peer input).after)
+    → NextPeer parties (cond over parties.peer (peer_accepts parties.peer input).after)
     (called_unless parties (first_skip ((over, Ended) ∷ [])) (Some (world.to_peer input))).after
 report_acts parties input alone true = record { alone = alone; peer = refl; server = refl }
 report_acts parties input alone false = record { alone = alone; peer = refl; server = refl }
 
 -- the end of the timer
 timer_acts : (parties : Parties) → parties.mode ≡ mode.Alone → (over : Bool)
-    → NextServer parties (cond over parties.server (server_takes parties.server server_inputs.timeout).after)
+    → NextServer parties (cond over parties.server (server_accepts parties.server server_inputs.timeout).after)
     (called_unless parties (first_skip ((over, Ended) ∷ (false, NoTimer) ∷ [])) (Some (world.to_server server_inputs.timeout))).after
 timer_acts parties alone true = record { alone = alone; peer = refl; server = refl }
 timer_acts parties alone false = record { alone = alone; peer = refl; server = refl }
@@ -84,7 +84,7 @@ by_peer parties after input n = record { alone = n.alone; peer = n.peer; server 
 by_server : (parties after : Parties) (input : EndInput) → NextServer parties (server_moved parties.server input) after → Next (to_server input) parties after
 by_server parties after input n = record { alone = n.alone; peer = n.peer; server = n.server }
 
-pub acts_so : (parties : Parties) (conversations : Conversations) (sent : List Sent) (input : Comes) → parties.mode ≡ mode.Alone → is_input input ≡ true
+pub acts_so : (parties : Parties) (conversations : Conversations) (sent : List Sent) (input : Arrives) → parties.mode ≡ mode.Alone → is_input input ≡ true
     → Next input parties (act parties conversations sent (event_of input)).after
 unfolding act
 acts_so parties conversations sent (to_peer (inputs.Octets octets)) alone fits = rw alone (record { alone = refl; peer = refl; server = refl })
@@ -101,12 +101,12 @@ acts_so parties conversations sent (to_server inputs.Timeout) alone fits =
 acts_so parties conversations sent (to_server other) alone fits = absurd cc
 
 -- the run from a world on whose ends are these
-record Goes (p : EndNow PeerNow) (s : EndNow ServerNow) (list : List Comes) (last : WorldNow) : Type 0 where
+record Proceed (p : EndNow PeerNow) (s : EndNow ServerNow) (list : List Arrives) (last : WorldNow) : Type 0 where
   pub peer : last.parties.peer ≡ (end_after peer_step p (peers_of list)).now
   pub server : last.parties.server ≡ (end_after server_step s (servers_of list)).now
 
-goes : (w : WorldNow) (p : EndNow PeerNow) (s : EndNow ServerNow) (list : List Comes) → w.parties.mode ≡ mode.Alone
-    → w.parties.peer ≡ p.now → w.parties.server ≡ s.now → list_all is_input list ≡ true → Goes p s list (run_after w (map event_of list))
+goes : (w : WorldNow) (p : EndNow PeerNow) (s : EndNow ServerNow) (list : List Arrives) → w.parties.mode ≡ mode.Alone
+    → w.parties.peer ≡ p.now → w.parties.server ≡ s.now → list_all is_input list ≡ true → Proceed p s list (run_after w (map event_of list))
 unfolding run_after world_step end_after peers_of servers_of
 goes w p s [] alone peer server fit = record { peer = peer; server = server }
 goes w p s (to_peer input ∷ rest) alone peer server fit =
@@ -122,12 +122,12 @@ goes w p s (to_server input ∷ rest) alone peer server fit =
     let g = goes (world_step w (event_of (to_server input))).after p (server_step s input).after rest n.alone (n.peer ∙ peer) moved parts.1 in
     record { peer = g.peer; server = g.server }
 
-pub record Begun (setup : Setup) (w : WorldNow) : Type 0 where
+pub record ConversationStart (setup : Setup) (w : WorldNow) : Type 0 where
   pub alone : w.parties.mode ≡ mode.Alone
-  pub peer : w.parties.peer ≡ (peer_begun setup.peer).now
-  pub server : w.parties.server ≡ (server_begun setup.server setup.first_id setup.max_retrans).now
+  pub peer : w.parties.peer ≡ (started_peer setup.peer).now
+  pub server : w.parties.server ≡ (started_server setup.server setup.first_id setup.max_retrans).now
 
-pub begun : (setup : Setup) → setup.mode ≡ mode.Alone → Begun setup (world_start (world_made setup)).after
+pub begun : (setup : Setup) → setup.mode ≡ mode.Alone → ConversationStart setup (world_start (initial_world setup)).after
 unfolding world_start server_starts
 begun setup alone = rw alone (record { alone = refl; peer = refl; server = refl })
 
@@ -135,5 +135,5 @@ pub interleavings_are_runs : InterleavingsAreRuns
 interleavings_are_runs setup list alone fit =
     let b = begun setup alone in
     let g =
-    goes (world_start (world_made setup)).after (peer_begun setup.peer) (server_begun setup.server setup.first_id setup.max_retrans) list b.alone b.peer b.server fit in
+    goes (world_start (initial_world setup)).after (started_peer setup.peer) (started_server setup.server setup.first_id setup.max_retrans) list b.alone b.peer b.server fit in
     record { peer = g.peer; server = g.server }

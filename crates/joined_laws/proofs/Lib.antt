@@ -3,6 +3,6 @@ mod Interleaved
 -- Two ends that run alone agree where the tags of their interleaving are honest.
 mod JoinedAgreement
 -- The book of the world over an interleaving is that of the tags which both ends tell.
-mod ToldBook
+mod BookDetermined
 -- Over an interleaving no end of the world begins a second conversation.
 mod OneConversation

@@ -18,18 +18,18 @@ use Rattle.tag_book.specs.declared.book.End.TheVariants as end
 use Rattle.tag_book.specs.declared.book.Entry.{Entry}
 use Rattle.tag_book.specs.declared.book.TagsVerdict.TheVariants.{Honest}
 use Rattle.eap_world.specs.World.{WorldNow}
-use Rattle.end_pipe.specs.EndRun.{EndNow, end_after, peer_begun, peer_step, server_begun, server_step}
+use Rattle.end_pipe.specs.EndRun.{EndNow, end_after, started_peer, peer_step, started_server, server_step}
 use Rattle.end_pipe.specs.Inputs.{is_of_peer, is_of_server}
 use Rattle.end_pipe.specs.declared.input.EndInput.{EndInput}
 use Rattle.end_pipe.specs.declared.input.EndInput.TheVariants as inputs
 
 -- what comes to one of both ends
-pub data Comes : Type 0 where
-  to_peer : EndInput → Comes
-  to_server : EndInput → Comes
+pub data Arrives : Type 0 where
+  to_peer : EndInput → Arrives
+  to_server : EndInput → Arrives
 
 -- whether it is an input of that end
-abbrev pub is_input : Comes → Bool
+abbrev pub is_input : Arrives → Bool
 is_input (to_peer input) = is_of_peer input
 is_input (to_server input) = is_of_server input
 
@@ -41,62 +41,62 @@ event_at port inputs.Idle = event.Idle
 event_at port inputs.AltAccept = event.AltAccept
 event_at port inputs.AltReject = event.AltReject
 
-abbrev pub event_of : Comes → Event
+abbrev pub event_of : Arrives → Event
 event_of (to_peer input) = event_at port.Peer input
 event_of (to_server input) = event_at port.Server input
 
 -- the inputs of each end, in their order
-abbrev pub peer_first : Comes → List EndInput → List EndInput
+abbrev pub peer_first : Arrives → List EndInput → List EndInput
 peer_first (to_peer input) rest = input ∷ rest
 peer_first (to_server input) rest = rest
 
-abbrev pub server_first : Comes → List EndInput → List EndInput
+abbrev pub server_first : Arrives → List EndInput → List EndInput
 server_first (to_peer input) rest = rest
 server_first (to_server input) rest = input ∷ rest
 
-unfoldable pub peers_of : List Comes → List EndInput
+unfoldable pub peers_of : List Arrives → List EndInput
 peers_of [] = []
 peers_of (first ∷ rest) = peer_first first (peers_of rest)
 
-unfoldable pub servers_of : List Comes → List EndInput
+unfoldable pub servers_of : List Arrives → List EndInput
 servers_of [] = []
 servers_of (first ∷ rest) = server_first first (servers_of rest)
 
 -- each end alone after its inputs
-abbrev pub peer_alone : Setup → List Comes → PeerNow
-peer_alone setup list = (end_after peer_step (peer_begun setup.peer) (peers_of list)).now
+abbrev pub peer_alone : Setup → List Arrives → PeerNow
+peer_alone setup list = (end_after peer_step (started_peer setup.peer) (peers_of list)).now
 
-abbrev pub server_alone : Setup → List Comes → ServerNow
+abbrev pub server_alone : Setup → List Arrives → ServerNow
 server_alone setup list =
-    (end_after server_step (server_begun setup.server setup.first_id setup.max_retrans) (servers_of list)).now
+    (end_after server_step (started_server setup.server setup.first_id setup.max_retrans) (servers_of list)).now
 
 -- the world over the events
-abbrev pub world_of : Setup → List Comes → WorldNow
+abbrev pub world_of : Setup → List Arrives → WorldNow
 world_of setup list = run_of setup (map event_of list)
 
 -- each end of the world has the variables and views that it has alone
-pub record AreEnds (setup : Setup) (list : List Comes) (w : WorldNow) : Type 0 where
+pub record AreEnds (setup : Setup) (list : List Arrives) (w : WorldNow) : Type 0 where
   pub peer : w.parties.peer ≡ peer_alone setup list
   pub server : w.parties.server ≡ server_alone setup list
 
 -- every list of what comes to both ends is an interleaving of their inputs, and each of its prefixes is one
 abbrev pub InterleavingsAreRuns : Type 0
 InterleavingsAreRuns =
-    (setup : Setup) (list : List Comes) → setup.mode ≡ mode.Alone → list_all is_input list ≡ true → AreEnds setup list (world_of setup list)
+    (setup : Setup) (list : List Arrives) → setup.mode ≡ mode.Alone → list_all is_input list ≡ true → AreEnds setup list (world_of setup list)
 
 -- the tags of both ends at their inputs, in the order of the interleaving, each with its input's number and its end
-unfoldable pub told_book : ℕ → EndNow PeerNow → EndNow ServerNow → List Comes → List Entry
-told_book number p s [] = []
-told_book number p s (to_peer input ∷ rest) =
-    let out = peer_step p input in entries_of (number + 1) end.Peer out.told.step.tags ++ told_book (number + 1) out.after s rest
-told_book number p s (to_server input ∷ rest) =
-    let out = server_step s input in entries_of (number + 1) end.Server out.told.step.tags ++ told_book (number + 1) p out.after rest
+unfoldable pub interleaved_book : ℕ → EndNow PeerNow → EndNow ServerNow → List Arrives → List Entry
+interleaved_book number p s [] = []
+interleaved_book number p s (to_peer input ∷ rest) =
+    let out = peer_step p input in entries_of (number + 1) end.Peer out.told.step.tags ++ interleaved_book (number + 1) out.after s rest
+interleaved_book number p s (to_server input ∷ rest) =
+    let out = server_step s input in entries_of (number + 1) end.Server out.told.step.tags ++ interleaved_book (number + 1) p out.after rest
 
 -- these are the book of the world
-abbrev pub BookIsTold : Type 0
-BookIsTold =
-    (setup : Setup) (list : List Comes) → setup.mode ≡ mode.Alone → list_all is_input list ≡ true
-    → (world_of setup list).book ≡ told_book 0 (peer_begun setup.peer) (server_begun setup.server setup.first_id setup.max_retrans) list
+abbrev pub BookIsDetermined : Type 0
+BookIsDetermined =
+    (setup : Setup) (list : List Arrives) → setup.mode ≡ mode.Alone → list_all is_input list ≡ true
+    → (world_of setup list).book ≡ interleaved_book 0 (started_peer setup.peer) (started_server setup.server setup.first_id setup.max_retrans) list
 
 -- both ends are in SUCCESS
 abbrev pub HaveSucceeded : PeerNow → ServerNow → Type 0
@@ -114,6 +114,6 @@ pub record EndsAgree (setup : Setup) (peer : PeerNow) (server : ServerNow) : Typ
 -- if each tag that one of them accepted was made earlier by either of them, two ends that have succeeded agree
 abbrev pub JoinedEndsAgree : Type 0
 JoinedEndsAgree =
-    (setup : Setup) (list : List Comes) → setup.mode ≡ mode.Alone → IsWhole setup → list_all is_input list ≡ true
+    (setup : Setup) (list : List Arrives) → setup.mode ≡ mode.Alone → IsWhole setup → list_all is_input list ≡ true
     → tags_verdict_either (world_of setup list).book ≡ Honest
     → HaveSucceeded (peer_alone setup list) (server_alone setup list) → EndsAgree setup (peer_alone setup list) (server_alone setup list)

@@ -1,6 +1,6 @@
 //! Laws of two ends that run alone. Each is the contract of a function that does nothing.
 
-ghost use Rattle.joined_laws.specs.Joined.{BookIsTold, InterleavingsAreRuns, JoinedEndsAgree};
+ghost use Rattle.joined_laws.specs.Joined.{BookIsDetermined, InterleavingsAreRuns, JoinedEndsAgree};
 
 /// Two ends that run alone, and whose packets somebody carries, are the ends of a world. Take any settings of mode alone,
 /// inputs of each end, and any interleaving of them; make each input an event, octets an injection at that end's port.
@@ -12,8 +12,8 @@ pub fn interleavings_are_runs()
 
 /// The book of that world is given by both ends: the tags that each returns at its inputs, in the order of the
 /// interleaving. So whoever has both ends and knows in which order their inputs came can judge whether tags are honest.
-pub fn book_is_told()
-    ensures { BookIsTold }
+pub fn book_is_determined()
+    ensures { BookIsDetermined }
 {}
 
 /// Two ends that run alone agree as those of a world do: whatever was carried between them, if each tag that one of

@@ -4,4 +4,4 @@
 
 mod laws;
 
-pub use laws::{book_is_told, interleavings_are_runs, joined_ends_agree};
+pub use laws::{book_is_determined, interleavings_are_runs, joined_ends_agree};

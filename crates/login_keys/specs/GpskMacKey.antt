@@ -2,7 +2,7 @@
 use Rattle.std.specs.Prelude.{◌≡◌, ℕ, List}
 use Rattle.octet_lists.specs.declared.suite.Suite.{Suite}
 use Rattle.octet_lists.specs.declared.suite.Suite.TheVariants as suite_of
-use Rattle.hmac_mac.specs.Holds.{IsKeyOf}
+use Rattle.hmac_mac.specs.Represents.{IsKeyOf}
 use Rattle.login_keys.specs.declared.gpsk.mac_key.MacKey.{MacKey}
 use Rattle.login_keys.specs.declared.gpsk.mac_key.MacKey.TheVariants.{Cmac, Hmac}
 

@@ -12,15 +12,15 @@ mod mac_key;
 use crate::gpsk::derivation::{derive, two_octets};
 use cmac_mac::cmac_whole;
 pub use derivation::gkdf;
-use octet_lists::{MAX_NAME, Octets, Suite, array_of};
 use hmac_mac::hmac_whole;
 pub use mac_key::MacKey;
+use octet_lists::{MAX_NAME, Octets, Suite, array_of};
 
 // The most octets of a block's number and inputString, of two nonces and two names.
-const FRONT_ROOM: usize = 2 + 2 * (32 + MAX_NAME);
+const FRONT_SIZE: usize = 2 + 2 * (32 + MAX_NAME);
 
 // The most octets from which MK is made: those, and PL, PSK and CSuite_Sel.
-const TEXT_ROOM: usize = FRONT_ROOM + 2 + 64 + 6;
+const TEXT_SIZE: usize = FRONT_SIZE + 2 + 64 + 6;
 
 /// The keys of an EAP-GPSK login (RFC 5433, section 4). KS is 16 for suite 1 and 32 for suite 2.
 #[derive(Drop)]
@@ -58,14 +58,14 @@ pub fn gpsk_keys(
     ensures sk_size { length result.sk ≡ ks_of suite }
     ensures pk_size { length result.pk ≡ pk_size suite }
 {
-    let mut front: Octets<FRONT_ROOM> = Octets::of(&[0; 2]);
+    let mut front: Octets<FRONT_SIZE> = Octets::of(&[0; 2]);
     front.put(rand_p);
     front.put(id_p);
     front.put(rand_s);
     front.put(id_s);
     let (_, input) = front.as_slice().split_at(2);
     let mk = master_key(suite, psk, input);
-    let mut room = [0; FRONT_ROOM];
+    let mut room = [0; FRONT_SIZE];
     let text = &mut room[..front.len()];
     text.copy_from_slice(front.as_slice());
     let derived = derive(suite, 160, mk.as_slice(), text, &[]);
@@ -80,7 +80,7 @@ fn master_key(suite: Suite, psk: &[u8], input: &[u8]) -> Octets<32>
     ensures key { result ≡ spec.master_key suite psk.now input.now }
     ensures size { length result ≡ ks_of suite }
 {
-    let mut text: Octets<TEXT_ROOM> = Octets::of(&two_octets(1));
+    let mut text: Octets<TEXT_SIZE> = Octets::of(&two_octets(1));
     text.put(&two_octets(psk.len() as u16));
     text.put(psk);
     text.put(&suite.octets());

@@ -50,8 +50,8 @@ picked_here allowed entry rest list suite joined sized names =
     ∙ kept (is_allowed allowed entry Cmac) (is_allowed allowed entry Hmac) Cmac Hmac suite (picked_suite allowed rest) names)
 
 -- an entry that names no allowed suite is passed over
-pub picked_behind : (allowed entry rest list : List ℕ) → list ≡ entry ++ rest → length entry ≡ 6 →
+pub picked_after : (allowed entry rest list : List ℕ) → list ≡ entry ++ rest → length entry ≡ 6 →
     suite_or allowed entry None ≡ None → picked_suite allowed list ≡ picked_suite allowed rest
-picked_behind allowed entry rest list joined sized names =
+picked_after allowed entry rest list joined sized names =
     rw joined (picked_from_entry allowed entry rest sized
     ∙ passed (is_allowed allowed entry Cmac) (is_allowed allowed entry Hmac) Cmac Hmac (picked_suite allowed rest) names)

@@ -22,8 +22,8 @@ first_here p y x xs passes is =
       first = All-nil (λ z. p z ≡ false);
     }
 
-first_behind : (p : ℕ → Bool) (y x : ℕ) (xs : List ℕ) → p y ≡ false → IsFirst p xs x → IsFirst p (y ∷ xs) x
-first_behind p y x xs fails found =
+first_after : (p : ℕ → Bool) (y x : ℕ) (xs : List ℕ) → p y ≡ false → IsFirst p xs x → IsFirst p (y ∷ xs) x
+first_after p y x xs fails found =
     record {
       before = y ∷ found.before;
       after = found.after;
@@ -41,7 +41,7 @@ finds_first p [] x is = absurd (cc)
 finds_first p (y ∷ xs) x is =
     elim (cases_Bool (p y)) [
       | inl passes ↦ first_here p y x xs passes (some_same y x (sym (cond-true (p y) (Some y) (find p xs) passes) ∙ is))
-      | inr fails ↦ first_behind p y x xs fails (finds_first p xs x (sym (cond-false (p y) (Some y) (find p xs) fails) ∙ is))
+      | inr fails ↦ first_after p y x xs fails (finds_first p xs x (sym (cond-false (p y) (Some y) (find p xs) fails) ∙ is))
     ]
 
 -- the first that passes is found

@@ -11,7 +11,7 @@ use Rattle.octet_lists.specs.declared.suite.Suite.{Suite}
 use Rattle.octet_lists.specs.declared.suite.Suite.TheVariants.{Cmac, Hmac}
 use Rattle.login_policy.specs.Policy.{nak_of, picked_suite, is_allowed, suite_or, is_desired, next_kind}
 use Rattle.login_policy.specs.Laws.{IsPassed, IsNext, NextIsFirst, NoneIsNext, NamesNone, IsPicked, NamesOnlyOthers, PickedIsFirst, NoneIsPicked, NakIsAllowed, AllowedIsListed, NakListsSome}
-use Rattle.login_policy.proofs.Entries.{picked_here, picked_behind, picked_from_part}
+use Rattle.login_policy.proofs.Entries.{picked_here, picked_after, picked_from_part}
 use Rattle.login_policy.proofs.Finding.{IsFirst, finds_first, first_is_found, none_passes, none_is_found}
 
 -- whether a Type is desired and not yet proposed
@@ -183,7 +183,7 @@ first_is_picked allowed [] after list suite stands allows first =
 first_is_picked allowed (entry ∷ before) after list suite stands allows first =
     let names : NamesNone allowed entry = All-head (NamesNone allowed) entry before first in
     let behind : List ℕ = concat before ++ (suite_octets suite ++ after) in
-    picked_behind allowed entry behind list (stands ∙ append_assoc entry (concat before) (suite_octets suite ++ after)) names.size (names_nothing allowed entry names)
+    picked_after allowed entry behind list (stands ∙ append_assoc entry (concat before) (suite_octets suite ++ after)) names.size (names_nothing allowed entry names)
     ∙ first_is_picked allowed before after behind suite refl allows (All-tail (NamesNone allowed) entry before first)
 
 pub picked_is_the_first : PickedIsFirst
@@ -221,7 +221,7 @@ others_pick_none allowed [] after list stands part others = rw stands (picked_fr
 others_pick_none allowed (entry ∷ entries) after list stands part others =
     let names : NamesNone allowed entry = All-head (NamesNone allowed) entry entries others in
     let behind : List ℕ = concat entries ++ after in
-    picked_behind allowed entry behind list (stands ∙ append_assoc entry (concat entries) after) names.size (names_nothing allowed entry names)
+    picked_after allowed entry behind list (stands ∙ append_assoc entry (concat entries) after) names.size (names_nothing allowed entry names)
     ∙ others_pick_none allowed entries after behind refl part (All-tail (NamesNone allowed) entry entries others)
 
 pub none_is_picked : NoneIsPicked

@@ -7,8 +7,8 @@ ghost use Rattle.login_policy.specs.Policy.{nak_of};
 ghost use Rattle.login_policy.specs.Expanded.{entry_of, nak_entries, names_new, expanded_kinds};
 
 use crate::policy::nak_list;
-use octet_lists::{EXPANDED, GPSK_KIND, IETF, Kinds, NAK_ENTRY_SIZE, Octets, PSK_KIND, is_among};
 use login_setup::PeerSetup;
+use octet_lists::{EXPANDED, GPSK_KIND, IETF, Kinds, NAK_ENTRY_SIZE, Octets, PSK_KIND, is_among};
 
 /// The list of the peer's Expanded Nak (RFC 3748 section 5.3.2): of each method that it allows, in
 /// their order, an entry of eight octets with Vendor-Id 0 and its Type; the one entry of Type 0 if it

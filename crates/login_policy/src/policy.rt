@@ -4,8 +4,8 @@ ghost use Rattle.std.specs.Prelude.{◌≡◌, ◌&&◌, not, None, option_copie
 ghost use Rattle.octet_lists.specs.Among.{is_among};
 ghost use Rattle.login_policy.specs.Policy.{nak_of, picked_suite, is_allowed, suite_or, is_desired, next_kind};
 
-use octet_lists::{Kinds, SUITE_SIZE, Suite, Suites, is_among};
 use login_setup::PeerSetup;
+use octet_lists::{Kinds, SUITE_SIZE, Suite, Suites, is_among};
 
 /// Whether the peer allows the method of this Type.
 pub fn peer_allows(setup: &PeerSetup, kind: u8) -> bool
@@ -29,7 +29,7 @@ pub fn nak_list(setup: &PeerSetup) -> Kinds
 
 /// The first suite of a CSuite_List (RFC 5433 section 9.2) that is allowed, or None if there is none.
 /// The list has entries of six octets; octets behind its last whole entry are ignored.
-#[tactic(auto, using(crate::proofs::Entries::picked_here, crate::proofs::Entries::picked_behind, crate::proofs::Entries::picked_from_part))]
+#[tactic(auto, using(crate::proofs::Entries::picked_here, crate::proofs::Entries::picked_after, crate::proofs::Entries::picked_from_part))]
 pub fn pick_suite(allowed: &Suites, list: &[u8]) -> Option<Suite>
     ensures { result ≡ picked_suite allowed.now list.now }
 {

@@ -1,6 +1,6 @@
 -- The soundness of settings at worked values.
 use Rattle.std.proofs.Common.{◌≡◌, true, false, [], ◌∷◌, replicate, refl}
-use Rattle.login_setup.specs.Setup.{are_kinds, are_suites, fits_kind}
+use Rattle.login_setup.specs.Setup.{are_kinds, are_suites, is_valid_for}
 
 pub both_kinds : are_kinds (51 ∷ 47 ∷ []) ≡ true
 both_kinds = refl
@@ -26,17 +26,17 @@ suite_twice = refl
 pub suite_three : are_suites (3 ∷ []) ≡ false
 suite_three = refl
 
-pub psk_key : fits_kind 47 (replicate 16 7) ≡ true
+pub psk_key : is_valid_for 47 (replicate 16 7) ≡ true
 psk_key = refl
 
-pub long_psk_key : fits_kind 47 (replicate 17 7) ≡ false
+pub long_psk_key : is_valid_for 47 (replicate 17 7) ≡ false
 long_psk_key = refl
 
-pub short_gpsk_key : fits_kind 51 (replicate 31 7) ≡ false
+pub short_gpsk_key : is_valid_for 51 (replicate 31 7) ≡ false
 short_gpsk_key = refl
 
-pub gpsk_keys : (fits_kind 51 (replicate 32 7) ≡ true) × (fits_kind 51 (replicate 64 7) ≡ true)
+pub gpsk_keys : (is_valid_for 51 (replicate 32 7) ≡ true) × (is_valid_for 51 (replicate 64 7) ≡ true)
 gpsk_keys = (refl, refl)
 
-pub long_gpsk_key : fits_kind 51 (replicate 65 7) ≡ false
+pub long_gpsk_key : is_valid_for 51 (replicate 65 7) ≡ false
 long_gpsk_key = refl

@@ -18,8 +18,8 @@ abbrev pub are_suites : List ℕ → Bool
 are_suites suites = is_filled suites && (list_all (λ suite. (suite == 1) || (suite == 2)) suites && are_distinct suites)
 
 -- whether a key has the octets that the method requires: 16 for EAP-PSK, 32 to 64 for EAP-GPSK
-abbrev pub fits_kind : ℕ → List ℕ → Bool
-fits_kind kind key =
+abbrev pub is_valid_for : ℕ → List ℕ → Bool
+is_valid_for kind key =
     if kind == psk_kind then length key == 16
     else (kind == gpsk_kind) && (nat_le 32 (length key) && nat_le (length key) 64)
 
@@ -43,15 +43,15 @@ key_of setup kind =
 pub record IsSoundPeer (setup : PeerSetup) : Type 0 where
   pub methods : IsTrue (are_kinds setup.methods)
   pub suites : IsTrue (are_suites setup.suites)
-  pub psk47 : IfSome setup.psk47 (λ key. IsTrue (fits_kind psk_kind key))
-  pub psk51 : IfSome setup.psk51 (λ key. IsTrue (fits_kind gpsk_kind key))
+  pub psk47 : IfSome setup.psk47 (λ key. IsTrue (is_valid_for psk_kind key))
+  pub psk51 : IfSome setup.psk51 (λ key. IsTrue (is_valid_for gpsk_kind key))
 
 -- the settings of a server are sound
 pub record IsSoundServer (setup : ServerSetup) : Type 0 where
   pub methods : IsTrue (are_kinds setup.methods)
   pub suites : IsTrue (are_suites setup.suites)
   pub kinds : All (λ user. IsTrue (is_kind user.kind)) setup.users
-  pub keys : All (λ user. IsTrue (fits_kind user.kind user.psk)) setup.users
+  pub keys : All (λ user. IsTrue (is_valid_for user.kind user.psk)) setup.users
 
 -- a peer has a key for each method that it allows
 abbrev pub has_keys : PeerSetup → Bool

@@ -16,7 +16,7 @@ abbrev pub max_users : ℕ
 max_users = 16
 
 -- there is room for the user: fewer than 16 are there, and none has its name and kind
-pub record HasRoom (users : List User) (user : User) : Type 0 where
+pub record HasCapacity (users : List User) (user : User) : Type 0 where
   pub few : length users < max_users
   pub absent : user_of users user.name user.kind ≡ None
 

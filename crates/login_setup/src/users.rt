@@ -1,7 +1,7 @@
 //! The users that a server knows.
 
 ghost use Rattle.std.specs.Prelude.{◌≡◌, ◌↔◌, ◌≤◌, [], ◌∷◌, ◌++◌, length, IsTrue, option_copied};
-ghost use Rattle.login_setup.specs.Users.{user_of, is_named, HasRoom, AreDistinct, max_users};
+ghost use Rattle.login_setup.specs.Users.{user_of, is_named, HasCapacity, AreDistinct, max_users};
 
 use arrayvec::ArrayVec;
 use octet_lists::{Identity, Secret};
@@ -85,9 +85,9 @@ impl Users {
     /// Appends the user and answers true. If 16 users are there, or one of them has the same name
     /// and kind, it answers false and changes nothing.
     pub fn add(&mut self, user: User) -> bool
-        ensures room { IsTrue result ↔ HasRoom self.old user }
-        ensures added { HasRoom self.old user → self.new ≡ self.old ++ user ∷ [] }
-        ensures unchanged { (HasRoom self.old user → ⊥) → self.new ≡ self.old }
+        ensures room { IsTrue result ↔ HasCapacity self.old user }
+        ensures added { HasCapacity self.old user → self.new ≡ self.old ++ user ∷ [] }
+        ensures unchanged { (HasCapacity self.old user → ⊥) → self.new ≡ self.old }
     {
         if self.list.is_full() || self.find(user.name.as_slice(), user.kind).is_some() {
             return false;

@@ -14,7 +14,7 @@ use Rattle.eap_method.specs.declared.values.Credential.{Credential}
 use Rattle.eap_method.specs.GpskTags.{same_suite}
 use Rattle.login_setup.specs.Setup.{accepts_name}
 use Rattle.eap_method.specs.Turns.{id_of, body_of, fault_if}
-use Rattle.eap_method.specs.GpskPeer.{Login, unset, fresh, wait, over, picks, hears_gpsk1, fresh_reads, repeats, is_tagged_by, wait_reads, over_reads, step}
+use Rattle.eap_method.specs.GpskPeer.{Login, unset, fresh, wait, over, picks, receives_gpsk1, fresh_reads, repeats, is_tagged_by, wait_reads, over_reads, step}
 use Rattle.eap_method.specs.GpskPeer as peer
 use Rattle.method_laws.specs.GpskPeerRows.{GpskPeerRow, drops, answers, confirms, repeats_fail, repeats_protected, GpskPeerStepsAreRows}
 use Rattle.method_laws.proofs.Tests.{of_not, equal_octets, equal_suites}
@@ -29,7 +29,7 @@ module _ (cred : Credential) (nonce octets : List ℕ) where
   picks-row id_s rand_s list is_read accepted (Some suite) picked = answers cred nonce id_s rand_s list suite refl is_read accepted picked
 
   gpsk1-row : (id_s rand_s list : List ℕ) → read_of None (body_of octets) ≡ Ok (gpsk1 id_s rand_s list)
-      → GpskPeerRow (fresh cred nonce) octets (hears_gpsk1 cred nonce (id_of octets) id_s rand_s list)
+      → GpskPeerRow (fresh cred nonce) octets (receives_gpsk1 cred nonce (id_of octets) id_s rand_s list)
   gpsk1-row id_s rand_s list is_read =
       cond_both (accepts_name cred.accepts id_s) _ _ (GpskPeerRow (fresh cred nonce) octets)
       (λ accepted. picks-row id_s rand_s list is_read accepted (picked_suite cred.suites list) refl)

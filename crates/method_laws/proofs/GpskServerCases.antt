@@ -15,7 +15,7 @@ use Rattle.gpsk_messages.specs.Reading.{read_of}
 use Rattle.eap_method.specs.declared.values.ServerSide.{ServerSide}
 use Rattle.eap_method.specs.GpskTags.{suite_list}
 use Rattle.eap_method.specs.Turns.{body_of, fault_if}
-use Rattle.eap_method.specs.GpskServer.{Login, View, unset, begun, asked, refusing, barring, checked, refused, over, psk_not_found, authorization_failure, finds, hears_gpsk2, asked_reads, refusing_reads, barring_reads, checked_reads, idle_reads, repeats, is_tagged_by, step}
+use Rattle.eap_method.specs.GpskServer.{Login, View, unset, begun, asked, refusing, barring, checked, refused, over, psk_not_found, authorization_failure, finds, receives_gpsk2, asked_reads, refusing_reads, barring_reads, checked_reads, idle_reads, repeats, is_tagged_by, step}
 use Rattle.eap_method.specs.GpskServer as server
 use Rattle.method_laws.specs.GpskServerRows.{GpskServerRow, drops, refuses, bars, checks, ends_refusing, ends_barring, ends_checked, login_from, GpskServerStepsAreRows}
 use Rattle.method_laws.proofs.Tests.{of_not, equal_octets}
@@ -29,16 +29,16 @@ module _ (users : List User) (next_id : ℕ) (octets : List ℕ) where
         → GpskServerRow users next_id (asked own nonce) octets
         (server.checks (login_from own nonce id_p user rand_p suite) user.barred next_id (gpsk2 id_p id_s rand_p rand_s list suite pd mac))
     unfolding server.answers
-    known-row repeated own_name own_nonce own_list offered user known =
+    known-row repeated own_name setup_with_nonce own_list offered user known =
         let message : Message = gpsk2 id_p id_s rand_p rand_s list suite pd mac in
         let login : Login = login_from own nonce id_p user rand_p suite in
         cond_both (is_tagged_by login message) _ _ (GpskServerRow users next_id (asked own nonce) octets)
         (λ is_tagged. cond_both user.barred _ _ (GpskServerRow users next_id (asked own nonce) octets)
         (λ is_barred.
-        bars own nonce id_p id_s rand_p rand_s list suite pd mac user refl is_read repeated own_name own_nonce own_list offered known is_barred
+        bars own nonce id_p id_s rand_p rand_s list suite pd mac user refl is_read repeated own_name setup_with_nonce own_list offered known is_barred
         is_tagged (equal_octets _ _ is_tagged))
         (λ not_barred.
-        checks own nonce id_p id_s rand_p rand_s list suite pd mac user refl is_read repeated own_name own_nonce own_list offered known not_barred
+        checks own nonce id_p id_s rand_p rand_s list suite pd mac user refl is_read repeated own_name setup_with_nonce own_list offered known not_barred
         is_tagged (equal_octets _ _ is_tagged)))
         (λ _. drops BadTag)
 
@@ -48,21 +48,21 @@ module _ (users : List User) (next_id : ℕ) (octets : List ℕ) where
         → GpskServerRow users next_id (asked own nonce) octets
         (finds own nonce next_id id_p rand_p suite (gpsk2 id_p id_s rand_p rand_s list suite pd mac) found)
     unfolding server.refuses
-    finds-row repeated own_name own_nonce own_list offered None unknown =
-        refuses own nonce id_p id_s rand_p rand_s list suite pd mac refl is_read repeated own_name own_nonce own_list offered unknown
-    finds-row repeated own_name own_nonce own_list offered (Some user) known = known-row repeated own_name own_nonce own_list offered user known
+    finds-row repeated own_name setup_with_nonce own_list offered None unknown =
+        refuses own nonce id_p id_s rand_p rand_s list suite pd mac refl is_read repeated own_name setup_with_nonce own_list offered unknown
+    finds-row repeated own_name setup_with_nonce own_list offered (Some user) known = known-row repeated own_name setup_with_nonce own_list offered user known
 
     gpsk2-row : GpskServerRow users next_id (asked own nonce) octets
-        (hears_gpsk2 users own nonce next_id id_p rand_p suite (gpsk2 id_p id_s rand_p rand_s list suite pd mac)
+        (receives_gpsk2 users own nonce next_id id_p rand_p suite (gpsk2 id_p id_s rand_p rand_s list suite pd mac)
         (fault_if (not (repeats own nonce id_s rand_s list)) FieldMismatch
         (fault_if (not (is_among own.suites (suite_number suite))) SuiteNotOffered None)))
     gpsk2-row =
         let message : Message = gpsk2 id_p id_s rand_p rand_s list suite pd mac in
         cond_both (not (repeats own nonce id_s rand_s list)) _ _
-        (λ fault. GpskServerRow users next_id (asked own nonce) octets (hears_gpsk2 users own nonce next_id id_p rand_p suite message fault))
+        (λ fault. GpskServerRow users next_id (asked own nonce) octets (receives_gpsk2 users own nonce next_id id_p rand_p suite message fault))
         (λ _. drops FieldMismatch)
         (λ not_other. cond_both (not (is_among own.suites (suite_number suite))) _ _
-        (λ fault. GpskServerRow users next_id (asked own nonce) octets (hears_gpsk2 users own nonce next_id id_p rand_p suite message fault))
+        (λ fault. GpskServerRow users next_id (asked own nonce) octets (receives_gpsk2 users own nonce next_id id_p rand_p suite message fault))
         (λ _. drops SuiteNotOffered)
         (λ not_absent.
         let repeated : repeats own nonce id_s rand_s list ≡ true = of_not _ not_other in

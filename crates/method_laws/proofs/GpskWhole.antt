@@ -12,7 +12,7 @@ use Rattle.login_setup.specs.Setup.{accepts_name}
 use Rattle.eap_packet.specs.declared.cause.Cause.TheVariants.{FieldMismatch, SuiteNotOffered, BadTag}
 use Rattle.gpsk_messages.specs.Message.{Message, gpsk2, gpsk3, gpsk4, covered_of, mac_of, spelled, list_of, IsSuiteList, AreFields, HasMac}
 use Rattle.gpsk_messages.specs.Reading.{read_of}
-use Rattle.gpsk_messages.proofs.Grammar.{spellings_are_read}
+use Rattle.gpsk_messages.proofs.Grammar.{encodings_are_read}
 use Rattle.login_keys.specs.Gpsk.{gpsk_tag_of, gpsk_keys_of}
 use Rattle.login_keys.specs.declared.gpsk.GpskKeys.{GpskKeys}
 use Rattle.login_keys.proofs.GpskLaws.{length_gpsk_tag_of}
@@ -21,7 +21,7 @@ use Rattle.eap_method.specs.GpskTags.{gpsk_request, gpsk_response, suite_list, i
 use Rattle.eap_method.specs.Turns.{body_of}
 use Rattle.eap_method.specs.GpskPeer as peer
 use Rattle.eap_method.specs.GpskServer as server
-use Rattle.method_laws.specs.GpskLogin.{Ends, Fit, peer_login, server_login, GpskLoginsGoThrough}
+use Rattle.method_laws.specs.GpskLogin.{Ends, Compatible, peer_login, server_login, GpskLoginsGoThrough}
 use Rattle.method_laws.proofs.Packets.{request_body, request_id, response_body}
 use Rattle.method_laws.proofs.Tests.{equal_octets, bytes_same, no_fault}
 
@@ -31,7 +31,7 @@ use Rattle.method_laws.proofs.Tests.{equal_octets, bytes_same, no_fault}
 reads : (ks : Option ℕ) (message : Message) → AreFields message → HasMac ks message → length (list_of message) ≤ 6 * 20
     → read_of ks (spelled message) ≡ Ok message
 reads ks message fields mac suites =
-    spellings_are_read ks (spelled message) message (record { loosely = record { fields = fields; mac = mac; spelling = refl }; suites = suites })
+    encodings_are_read ks (spelled message) message (record { loosely = record { fields = fields; mac = mac; encoding_of = refl }; suites = suites })
 
 -- ---- the list of suites
 
@@ -102,10 +102,10 @@ gpsk4_tagged suite sk other same = is_tagged_so suite sk other (gpsk4 [] []) ref
 
 -- ---- the turns
 
-module _ (ends : Ends) (fit : Fit ends) where
+module _ (ends : Ends) (fit : Compatible ends) where
   same_keys : peer.keys_of (peer_login ends) ≡ server.keys_of (server_login ends)
   unfolding peer.keys_of server.keys_of
-  same_keys = ap (λ psk. gpsk_keys_of ends.suite psk ends.nonce ends.cred.id_p ends.own_nonce ends.own.id_s) (sym fit.one_key)
+  same_keys = ap (λ psk. gpsk_keys_of ends.suite psk ends.nonce ends.cred.id_p ends.setup_with_nonce ends.own.id_s) (sym fit.one_key)
 
   same_sk : (peer.keys_of (peer_login ends)).sk ≡ (server.keys_of (server_login ends)).sk
   same_sk = ap (λ (keys : GpskKeys). keys.sk) same_keys
@@ -116,7 +116,7 @@ module _ (ends : Ends) (fit : Fit ends) where
   few_octets : length (suite_list ends.own.suites) ≤ 6 * 20
   few_octets = let size = length_suite_list ends.own.suites in let few = fit.few_suites in omega arith
 
-  reads_gpsk1 : read_of None (spelled (server.gpsk1_of ends.own ends.own_nonce)) ≡ Ok (server.gpsk1_of ends.own ends.own_nonce)
+  reads_gpsk1 : read_of None (spelled (server.gpsk1_of ends.own ends.setup_with_nonce)) ≡ Ok (server.gpsk1_of ends.own ends.setup_with_nonce)
   reads_gpsk1 = reads None _ (fit.server_name, fit.server_nonce, lists) tt few_octets
 
   reads_gpsk2 : read_of None (spelled (peer.gpsk2_of (peer_login ends) (suite_list ends.own.suites))) ≡ Ok (peer.gpsk2_of (peer_login ends) (suite_list ends.own.suites))
@@ -128,42 +128,42 @@ module _ (ends : Ends) (fit : Fit ends) where
   reads_gpsk4 : read_of (Some (ks_of ends.suite)) (spelled (peer.gpsk4_of (peer_login ends))) ≡ Ok (peer.gpsk4_of (peer_login ends))
   reads_gpsk4 = reads _ _ (omega arith) (length_gpsk_tag_of _ _ _) (omega arith)
 
-  begins : (id : ℕ) → server.first_step (server.begun ends.own ends.own_nonce) id
-      ≡ record { packet = gpsk_request id (server.gpsk1_of ends.own ends.own_nonce); after = server.asked ends.own ends.own_nonce }
+  begins : (id : ℕ) → server.first_step (server.begun ends.own ends.setup_with_nonce) id
+      ≡ record { packet = gpsk_request id (server.gpsk1_of ends.own ends.setup_with_nonce); after = server.asked ends.own ends.setup_with_nonce }
   unfolding server.first_step server.first
   begins id = refl
 
-  answers : (id : ℕ) → peer.step (peer.fresh ends.cred ends.nonce) (gpsk_request id (server.gpsk1_of ends.own ends.own_nonce))
+  answers : (id : ℕ) → peer.step (peer.fresh ends.cred ends.nonce) (gpsk_request id (server.gpsk1_of ends.own ends.setup_with_nonce))
       ≡ peer.answers (peer_login ends) id (suite_list ends.own.suites)
   unfolding peer.step
   answers id =
-      let message : Message = server.gpsk1_of ends.own ends.own_nonce in
+      let message : Message = server.gpsk1_of ends.own ends.setup_with_nonce in
       ap (λ number. peer.fresh_reads ends.cred ends.nonce number (read_of None (body_of (gpsk_request id message)))) (request_id id gpsk_kind (spelled message))
       ∙ ap (λ octets. peer.fresh_reads ends.cred ends.nonce id (read_of None octets)) (request_body id gpsk_kind (spelled message))
       ∙ ap (λ read. peer.fresh_reads ends.cred ends.nonce id read) reads_gpsk1
       ∙ cond-true (accepts_name ends.cred.accepts ends.own.id_s) _ _ fit.accepted
-      ∙ ap (λ found. peer.picks ends.cred ends.nonce id ends.own.id_s ends.own_nonce (suite_list ends.own.suites) found) fit.picked
+      ∙ ap (λ found. peer.picks ends.cred ends.nonce id ends.own.id_s ends.setup_with_nonce (suite_list ends.own.suites) found) fit.picked
 
-  repeats_gpsk1 : server.repeats ends.own ends.own_nonce ends.own.id_s ends.own_nonce (suite_list ends.own.suites) ≡ true
-  repeats_gpsk1 = and_from _ _ (bytes_same ends.own.id_s) (and_from _ _ (bytes_same ends.own_nonce) (bytes_same (suite_list ends.own.suites)))
+  repeats_gpsk1 : server.repeats ends.own ends.setup_with_nonce ends.own.id_s ends.setup_with_nonce (suite_list ends.own.suites) ≡ true
+  repeats_gpsk1 = and_from _ _ (bytes_same ends.own.id_s) (and_from _ _ (bytes_same ends.setup_with_nonce) (bytes_same (suite_list ends.own.suites)))
 
-  checks : (id next_id : ℕ) → server.step ends.users next_id (server.asked ends.own ends.own_nonce)
+  checks : (id next_id : ℕ) → server.step ends.users next_id (server.asked ends.own ends.setup_with_nonce)
       (gpsk_response id (peer.gpsk2_of (peer_login ends) (suite_list ends.own.suites)))
       ≡ server.answers (server_login ends) false next_id (peer.gpsk2_of (peer_login ends) (suite_list ends.own.suites))
   unfolding server.step
   checks id next_id =
       let message : Message = peer.gpsk2_of (peer_login ends) (suite_list ends.own.suites) in
-      ap (λ octets. server.asked_reads ends.users ends.own ends.own_nonce next_id (read_of None octets)) (response_body id gpsk_kind (spelled message))
-      ∙ ap (λ read. server.asked_reads ends.users ends.own ends.own_nonce next_id read) reads_gpsk2
-      ∙ ap (λ fault. server.hears_gpsk2 ends.users ends.own ends.own_nonce next_id ends.cred.id_p ends.nonce ends.suite message fault)
+      ap (λ octets. server.asked_reads ends.users ends.own ends.setup_with_nonce next_id (read_of None octets)) (response_body id gpsk_kind (spelled message))
+      ∙ ap (λ read. server.asked_reads ends.users ends.own ends.setup_with_nonce next_id read) reads_gpsk2
+      ∙ ap (λ fault. server.receives_gpsk2 ends.users ends.own ends.setup_with_nonce next_id ends.cred.id_p ends.nonce ends.suite message fault)
       (no_fault _ FieldMismatch _ repeats_gpsk1 ∙ no_fault _ SuiteNotOffered None (offers ends.cred.suites ends.own.suites ends.suite fit.picked))
-      ∙ ap (λ found. server.finds ends.own ends.own_nonce next_id ends.cred.id_p ends.nonce ends.suite message found) fit.known
+      ∙ ap (λ found. server.finds ends.own ends.setup_with_nonce next_id ends.cred.id_p ends.nonce ends.suite message found) fit.known
       ∙ cond-true (server.is_tagged_by (server_login ends) message) _ _ (gpsk2_tagged ends.suite _ _ _ _ _ _ _ same_sk)
       ∙ ap (λ barred. server.answers (server_login ends) barred next_id message) fit.not_barred
 
-  repeats_gpsk2 : peer.repeats (peer_login ends) ends.nonce ends.own_nonce ends.own.id_s ends.suite ≡ true
+  repeats_gpsk2 : peer.repeats (peer_login ends) ends.nonce ends.setup_with_nonce ends.own.id_s ends.suite ≡ true
   repeats_gpsk2 =
-      and_from _ _ (bytes_same ends.nonce) (and_from _ _ (bytes_same ends.own_nonce) (and_from _ _ (bytes_same ends.own.id_s) (same_suite_same ends.suite)))
+      and_from _ _ (bytes_same ends.nonce) (and_from _ _ (bytes_same ends.setup_with_nonce) (and_from _ _ (bytes_same ends.own.id_s) (same_suite_same ends.suite)))
 
   confirms : (id : ℕ) → peer.step (peer.wait (peer_login ends)) (gpsk_request id (server.gpsk3_of (server_login ends)))
       ≡ peer.confirms (peer_login ends) id (server.gpsk3_of (server_login ends)) None

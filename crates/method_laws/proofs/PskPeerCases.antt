@@ -11,14 +11,14 @@ use Rattle.eap_method.specs.declared.values.Credential.{Credential}
 use Rattle.login_setup.specs.Setup.{accepts_name}
 use Rattle.eap_method.specs.PskTags.{header_of, is_sealed, result_of, is_extended, done_success}
 use Rattle.eap_method.specs.Turns.{id_of, body_of}
-use Rattle.eap_method.specs.PskPeer.{Login, unset, fresh, wait, over, keys_of, mac_s_of, psk3_records, psk3_fault, hears_psk1, fresh_reads, are_right, wait_reads, over_reads, step}
+use Rattle.eap_method.specs.PskPeer.{Login, unset, fresh, wait, over, keys_of, mac_s_of, psk3_records, psk3_fault, receives_psk1, fresh_reads, are_right, wait_reads, over_reads, step}
 use Rattle.eap_method.specs.PskPeer as peer
 use Rattle.method_laws.specs.PskPeerRows.{PskPeerRow, drops, answers, confirms_success, confirms_failure, opened_by, PskPeerStepsAreRows}
 use Rattle.method_laws.proofs.Tests.{of_not, equal_octets, equal_tags, failure_left}
 
 module _ (cred : Credential) (nonce octets : List ℕ) where
   psk1-row : (rand_s id_s : List ℕ) → read_of (body_of octets) ≡ Ok (psk1 rand_s id_s)
-      → PskPeerRow (fresh cred nonce) octets (hears_psk1 cred nonce (id_of octets) rand_s id_s)
+      → PskPeerRow (fresh cred nonce) octets (receives_psk1 cred nonce (id_of octets) rand_s id_s)
   unfolding peer.answers
   psk1-row rand_s id_s is_read =
       cond_both (accepts_name cred.accepts id_s) _ _ (PskPeerRow (fresh cred nonce) octets)

@@ -29,10 +29,10 @@ module _ (users : List User) (next_id : ℕ) (octets : List ℕ) where
         → (found : Option User) → user_of users id_p psk_kind ≡ found
         → PskServerRow users next_id (asked own nonce) octets (finds own nonce next_id rand_p mac id_p found)
     unfolding server.answers
-    finds-row rand_s rand_p mac id_p is_read own_nonce None unknown = refuses own nonce rand_s rand_p mac id_p refl is_read own_nonce unknown
-    finds-row rand_s rand_p mac id_p is_read own_nonce (Some user) known =
+    finds-row rand_s rand_p mac id_p is_read setup_with_nonce None unknown = refuses own nonce rand_s rand_p mac id_p refl is_read setup_with_nonce unknown
+    finds-row rand_s rand_p mac id_p is_read setup_with_nonce (Some user) known =
         cond_both (bytes_eq (mac_p_of (login_from own nonce id_p user rand_p)) mac) _ _ (PskServerRow users next_id (asked own nonce) octets)
-        (λ has_mac. answers own nonce rand_s rand_p mac id_p user refl is_read own_nonce known (equal_octets _ _ has_mac))
+        (λ has_mac. answers own nonce rand_s rand_p mac id_p user refl is_read setup_with_nonce known (equal_octets _ _ has_mac))
         (λ _. drops BadTag)
 
     asked-row : (read : Result Message Cause) → read_of (body_of octets) ≡ read
@@ -54,12 +54,12 @@ module _ (users : List User) (next_id : ℕ) (octets : List ℕ) where
           → is_extended (opened_by login sealed) ≡ false
           → (good : Bool) → both_succeed login (result_of (opened_by login sealed)) ≡ good
           → PskServerRow users next_id (checked login) octets (done (over login good) good (tek_record login.psk 1 (header_of octets) sealed tag ∷ []))
-      flagged-row own_nonce is_second has_seal has_result is_plain true both =
+      flagged-row setup_with_nonce is_second has_seal has_result is_plain true both =
           let sides = and_parts (login.r == done_success) (result_of (opened_by login sealed) == done_success) both in
-          ends_success login rand_s nonce tag sealed refl is_read own_nonce is_second has_seal (equal_tags _ _ _ _ _ has_seal) is_plain both
+          ends_success login rand_s nonce tag sealed refl is_read setup_with_nonce is_second has_seal (equal_tags _ _ _ _ _ has_seal) is_plain both
           (eqb-true _ _ sides.0) (eqb-true _ _ sides.1)
-      flagged-row own_nonce is_second has_seal has_result is_plain false not_both =
-          ends_failure login rand_s nonce tag sealed refl is_read own_nonce is_second has_seal (equal_tags _ _ _ _ _ has_seal) is_plain has_result not_both
+      flagged-row setup_with_nonce is_second has_seal has_result is_plain false not_both =
+          ends_failure login rand_s nonce tag sealed refl is_read setup_with_nonce is_second has_seal (equal_tags _ _ _ _ _ has_seal) is_plain has_result not_both
           (λ own_success. failure_left _ has_result is_plain (other_failed _ _ not_both own_success))
 
       psk4-row : PskServerRow users next_id (checked login) octets

@@ -18,7 +18,7 @@ use Rattle.eap_method.specs.PskTags.{psk_request, psk_response, mac_p_octets, ma
 use Rattle.eap_method.specs.Turns.{body_of, requested, done}
 use Rattle.eap_method.specs.PskPeer as peer
 use Rattle.eap_method.specs.PskServer as server
-use Rattle.method_laws.specs.PskLogin.{Ends, Fit, peer_login, server_login, psk1_of, psk2_records, PskLoginsGoThrough}
+use Rattle.method_laws.specs.PskLogin.{Ends, Compatible, peer_login, server_login, psk1_of, psk2_records, PskLoginsGoThrough}
 use Rattle.method_laws.proofs.Packets.{request_body, request_id, response_body}
 use Rattle.method_laws.proofs.PskChannel.{length_sealed_tag, sealed_accepted, sealed_opened, psk3_header_is, psk4_header_is}
 use Rattle.method_laws.proofs.Tests.{bytes_same, no_fault}
@@ -67,7 +67,7 @@ psk4_opened login id r = sealed_opened _ _ _ _
 
 -- ---- the turns
 
-module _ (ends : Ends) (fit : Fit ends) where
+module _ (ends : Ends) (fit : Compatible ends) where
   same_keys : peer.keys_of (peer_login ends) ≡ server.keys_of (server_login ends)
   unfolding peer.keys_of server.keys_of
   same_keys = ap (λ psk. psk_keys_of (psk_long_of psk).kdk (rand_of ends.nonce)) (sym fit.one_key)
@@ -78,7 +78,7 @@ module _ (ends : Ends) (fit : Fit ends) where
   same_mac_p : server.mac_p_of (server_login ends) ≡ peer.mac_p_of (peer_login ends)
   unfolding server.mac_p_of peer.mac_p_of server.mac_p_covers peer.mac_p_covers server.ak_of peer.ak_of
   same_mac_p =
-      ap (λ psk. aes_cmac (psk_long_of psk).ak (mac_p_octets ends.cred.id_p ends.own.id_s (rand_of ends.own_nonce) (rand_of ends.nonce))) fit.one_key
+      ap (λ psk. aes_cmac (psk_long_of psk).ak (mac_p_octets ends.cred.id_p ends.own.id_s (rand_of ends.setup_with_nonce) (rand_of ends.nonce))) fit.one_key
 
   same_mac_s : peer.mac_s_of (peer_login ends) ≡ server.mac_s_of (server_login ends)
   unfolding server.mac_s_of peer.mac_s_of server.mac_s_covers peer.mac_s_covers server.ak_of peer.ak_of
@@ -87,8 +87,8 @@ module _ (ends : Ends) (fit : Fit ends) where
   peer_rand : length (rand_of ends.nonce) ≡ 16
   peer_rand = length-rand ends.nonce fit.peer_nonce
 
-  server_rand : length (rand_of ends.own_nonce) ≡ 16
-  server_rand = length-rand ends.own_nonce fit.server_nonce
+  server_rand : length (rand_of ends.setup_with_nonce) ≡ 16
+  server_rand = length-rand ends.setup_with_nonce fit.server_nonce
 
   r_is_success : (server_login ends).r ≡ done_success
   r_is_success = ap (λ barred. server.r_for barred) fit.not_barred
@@ -108,17 +108,17 @@ module _ (ends : Ends) (fit : Fit ends) where
   psk3_headers : (id : ℕ) → header_of (psk_request id (server.psk3_of (server_login ends) id)) ≡ server.psk3_header (server_login ends) id
   unfolding server.psk3_header
   psk3_headers id =
-      psk3_header_is id (rand_of ends.own_nonce) _ _ _ server_rand (length_mac_s (server_login ends)) (length_psk3_tag (server_login ends) id)
-      ∙ sym (psk3_header_is id (rand_of ends.own_nonce) (server.mac_s_of (server_login ends)) blank_tag 0 server_rand (length_mac_s (server_login ends)) refl)
+      psk3_header_is id (rand_of ends.setup_with_nonce) _ _ _ server_rand (length_mac_s (server_login ends)) (length_psk3_tag (server_login ends) id)
+      ∙ sym (psk3_header_is id (rand_of ends.setup_with_nonce) (server.mac_s_of (server_login ends)) blank_tag 0 server_rand (length_mac_s (server_login ends)) refl)
 
   psk4_headers : (id r : ℕ) → header_of (psk_response id (peer.psk4_of (peer_login ends) id r)) ≡ peer.psk4_header (peer_login ends) id
   unfolding peer.psk4_header
   psk4_headers id r =
-      psk4_header_is id (rand_of ends.own_nonce) _ _ server_rand (length_psk4_tag (peer_login ends) id r)
-      ∙ sym (psk4_header_is id (rand_of ends.own_nonce) blank_tag 0 server_rand refl)
+      psk4_header_is id (rand_of ends.setup_with_nonce) _ _ server_rand (length_psk4_tag (peer_login ends) id r)
+      ∙ sym (psk4_header_is id (rand_of ends.setup_with_nonce) blank_tag 0 server_rand refl)
 
-  begins : (id : ℕ) → server.first_step (server.begun ends.own ends.own_nonce) id
-      ≡ record { packet = psk_request id (psk1_of ends); after = server.asked ends.own ends.own_nonce }
+  begins : (id : ℕ) → server.first_step (server.begun ends.own ends.setup_with_nonce) id
+      ≡ record { packet = psk_request id (psk1_of ends); after = server.asked ends.own ends.setup_with_nonce }
   unfolding server.first_step server.first
   begins id = refl
 
@@ -131,15 +131,15 @@ module _ (ends : Ends) (fit : Fit ends) where
       ∙ ap (λ read. peer.fresh_reads ends.cred ends.nonce id read) reads_psk1
       ∙ cond-true (accepts_name ends.cred.accepts ends.own.id_s) _ _ fit.accepted
 
-  checks : (id next_id : ℕ) → server.step ends.users next_id (server.asked ends.own ends.own_nonce) (psk_response id (peer.psk2_of (peer_login ends)))
+  checks : (id next_id : ℕ) → server.step ends.users next_id (server.asked ends.own ends.setup_with_nonce) (psk_response id (peer.psk2_of (peer_login ends)))
       ≡ server.answers (server_login ends) next_id (peer.mac_p_of (peer_login ends))
   unfolding server.step
   checks id next_id =
       let message : Message = peer.psk2_of (peer_login ends) in
-      ap (λ octets. server.asked_reads ends.users ends.own ends.own_nonce next_id (read_of octets)) (response_body id psk_kind (spelled message))
-      ∙ ap (λ read. server.asked_reads ends.users ends.own ends.own_nonce next_id read) reads_psk2
-      ∙ cond-true (bytes_eq (rand_of ends.own_nonce) (rand_of ends.own_nonce)) _ _ (bytes_same (rand_of ends.own_nonce))
-      ∙ ap (λ found. server.finds ends.own ends.own_nonce next_id (rand_of ends.nonce) (peer.mac_p_of (peer_login ends)) ends.cred.id_p found) fit.known
+      ap (λ octets. server.asked_reads ends.users ends.own ends.setup_with_nonce next_id (read_of octets)) (response_body id psk_kind (spelled message))
+      ∙ ap (λ read. server.asked_reads ends.users ends.own ends.setup_with_nonce next_id read) reads_psk2
+      ∙ cond-true (bytes_eq (rand_of ends.setup_with_nonce) (rand_of ends.setup_with_nonce)) _ _ (bytes_same (rand_of ends.setup_with_nonce))
+      ∙ ap (λ found. server.finds ends.own ends.setup_with_nonce next_id (rand_of ends.nonce) (peer.mac_p_of (peer_login ends)) ends.cred.id_p found) fit.known
       ∙ cond-true (bytes_eq (server.mac_p_of (server_login ends)) (peer.mac_p_of (peer_login ends))) _ _ (bytes_equal _ _ same_mac_p)
 
   -- the one record of PSK-2's tag
@@ -187,7 +187,7 @@ module _ (ends : Ends) (fit : Fit ends) where
       ∙ ap (λ octets. peer.wait_reads login id (header_of packet) (read_of octets)) (request_body id psk_kind (spelled message))
       ∙ ap (λ read. peer.wait_reads login id (header_of packet) read) (reads_psk3 id)
       ∙ ap (λ fault. peer.confirms login id (result_of (hidden_octet (peer.keys_of login).tek 0 octet)) (peer.psk3_records login (header_of packet) mac tag octet) fault)
-      (no_fault (bytes_eq (rand_of ends.own_nonce) (rand_of ends.own_nonce)) FieldMismatch _ (bytes_same (rand_of ends.own_nonce))
+      (no_fault (bytes_eq (rand_of ends.setup_with_nonce) (rand_of ends.setup_with_nonce)) FieldMismatch _ (bytes_same (rand_of ends.setup_with_nonce))
       ∙ no_fault (peer.are_right login (header_of packet) mac tag octet) BadTag _ (psk3_right id)
       ∙ ap (λ seen. result_fault seen) (psk3_seen id))
       ∙ ap (λ seen. peer.confirms login id (result_of seen) (peer.psk3_records login (header_of packet) mac tag octet) None) (psk3_seen id)
@@ -230,7 +230,7 @@ module _ (ends : Ends) (fit : Fit ends) where
       ap (λ octets. server.checked_reads login (header_of packet) (read_of octets)) (response_body id psk_kind (spelled message))
       ∙ ap (λ read. server.checked_reads login (header_of packet) read) (reads_psk4 id done_success)
       ∙ ap (λ fault. server.ends login (result_of (hidden_octet (server.keys_of login).tek 1 octet)) (tek_record ends.user.psk 1 (header_of packet) octet tag ∷ []) fault)
-      (no_fault (bytes_eq (rand_of ends.own_nonce) (rand_of ends.own_nonce)) FieldMismatch _ (bytes_same (rand_of ends.own_nonce))
+      (no_fault (bytes_eq (rand_of ends.setup_with_nonce) (rand_of ends.setup_with_nonce)) FieldMismatch _ (bytes_same (rand_of ends.setup_with_nonce))
       ∙ no_fault (is_sealed (server.keys_of login).tek 1 (header_of packet) octet tag) BadTag _ (psk4_right id done_success)
       ∙ ap (λ seen. result_fault seen) (psk4_seen id done_success))
       ∙ ap (λ seen. server.ends login (result_of seen) (tek_record ends.user.psk 1 (header_of packet) octet tag ∷ []) None) (psk4_seen id done_success)

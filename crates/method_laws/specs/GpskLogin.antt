@@ -24,13 +24,13 @@ pub record Ends : Type 0 where
   pub cred : Credential
   pub nonce : List ℕ
   pub own : ServerSide
-  pub own_nonce : List ℕ
+  pub setup_with_nonce : List ℕ
   pub users : List User
   pub user : User
   pub suite : Suite
 
 -- the ends fit: they share a key, and each accepts the other
-pub record Fit (ends : Ends) : Type 0 where
+pub record Compatible (ends : Ends) : Type 0 where
   pub accepted : accepts_name ends.cred.accepts ends.own.id_s ≡ true
   pub picked : picked_suite ends.cred.suites (suite_list ends.own.suites) ≡ Some ends.suite
   pub known : user_of ends.users ends.cred.id_p gpsk_kind ≡ Some ends.user
@@ -39,25 +39,25 @@ pub record Fit (ends : Ends) : Type 0 where
   pub peer_name : length ends.cred.id_p ≤ max_name
   pub server_name : length ends.own.id_s ≤ max_name
   pub peer_nonce : length ends.nonce ≡ 32
-  pub server_nonce : length ends.own_nonce ≡ 32
+  pub server_nonce : length ends.setup_with_nonce ≡ 32
   pub some_suites : 0 < length ends.own.suites
   pub few_suites : length ends.own.suites ≤ 20
 
 -- the login as each end keeps it
 abbrev pub peer_login : Ends → peer.Login
-peer_login ends = peer_rows.login_from ends.cred ends.nonce ends.own.id_s ends.own_nonce ends.suite
+peer_login ends = peer_rows.login_from ends.cred ends.nonce ends.own.id_s ends.setup_with_nonce ends.suite
 
 abbrev pub server_login : Ends → server.Login
-server_login ends = server_rows.login_from ends.own ends.own_nonce ends.cred.id_p ends.user ends.nonce ends.suite
+server_login ends = server_rows.login_from ends.own ends.setup_with_nonce ends.cred.id_p ends.user ends.nonce ends.suite
 
 -- each turn accepts what the other end has sent, and both ends end in success with the same keys
-pub record GoesThrough (ends : Ends) (id next_id last_id : ℕ) : Type 0 where
-  pub begins : server.first_step (server.begun ends.own ends.own_nonce) id
-      ≡ record { packet = gpsk_request id (server.gpsk1_of ends.own ends.own_nonce); after = server.asked ends.own ends.own_nonce }
-  pub answers : peer.step (peer.fresh ends.cred ends.nonce) (gpsk_request id (server.gpsk1_of ends.own ends.own_nonce))
+pub record IsSuccessful (ends : Ends) (id next_id last_id : ℕ) : Type 0 where
+  pub begins : server.first_step (server.begun ends.own ends.setup_with_nonce) id
+      ≡ record { packet = gpsk_request id (server.gpsk1_of ends.own ends.setup_with_nonce); after = server.asked ends.own ends.setup_with_nonce }
+  pub answers : peer.step (peer.fresh ends.cred ends.nonce) (gpsk_request id (server.gpsk1_of ends.own ends.setup_with_nonce))
       ≡ replied (peer.wait (peer_login ends)) (gpsk_response id (peer.gpsk2_of (peer_login ends) (suite_list ends.own.suites))) Cont Fail []
       (sk_record ends.cred.psk (peer.gpsk2_of (peer_login ends) (suite_list ends.own.suites)) ∷ [])
-  pub checks : server.step ends.users next_id (server.asked ends.own ends.own_nonce)
+  pub checks : server.step ends.users next_id (server.asked ends.own ends.setup_with_nonce)
       (gpsk_response id (peer.gpsk2_of (peer_login ends) (suite_list ends.own.suites)))
       ≡ requested (server.checked (server_login ends)) (gpsk_request next_id (server.gpsk3_of (server_login ends)))
       (sk_record ends.user.psk (peer.gpsk2_of (peer_login ends) (suite_list ends.own.suites)) ∷ [])
@@ -72,4 +72,4 @@ pub record GoesThrough (ends : Ends) (id next_id last_id : ℕ) : Type 0 where
 
 -- a login between ends that fit goes through
 abbrev pub GpskLoginsGoThrough : Type 0
-GpskLoginsGoThrough = (ends : Ends) (id next_id last_id : ℕ) → Fit ends → GoesThrough ends id next_id last_id
+GpskLoginsGoThrough = (ends : Ends) (id next_id last_id : ℕ) → Compatible ends → IsSuccessful ends id next_id last_id

@@ -38,7 +38,7 @@ pub data GpskPeerRow (view : View) (octets : List ℕ) : PeerOutcome View → Ty
       (in_view : view ≡ wait login)
       (is_read : read_of (Some (ks_of login.suite)) (body_of octets) ≡ Ok (gpsk3 rand_p rand_s id_s suite pd mac))
       (repeated : repeats login rand_p rand_s id_s suite ≡ true)
-      (own_nonce : rand_p ≡ login.nonce)
+      (setup_with_nonce : rand_p ≡ login.nonce)
       (their_nonce : rand_s ≡ login.rand_s)
       (their_name : id_s ≡ login.id_s)
       (one_suite : suite ≡ login.suite)

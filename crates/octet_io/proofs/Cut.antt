@@ -4,7 +4,7 @@ use Rattle.std.proofs.lemmas.Bool.{leb-true, leb-false, le-leb, lt-leb, and_part
 use Rattle.std.specs.List.{onto_first}
 use Rattle.octet_io.specs.Lines.{Lines, lines_from, without_cr}
 use Rattle.octet_io.specs.Lines.Lines.{too_long, too_much, line}
-use Rattle.octet_io.specs.Cutting.{pieces, last_of, whole_lines, last_line, pieces_fit, is_within, FirstPast, is_past_line, LinesAreThePieces, LinesEndAtALimit, SomeOctetIsPast}
+use Rattle.octet_io.specs.Cutting.{pieces, last_of, whole_lines, last_line, pieces_bounded, is_within, FirstPast, is_past_line, LinesAreThePieces, LinesEndAtALimit, SomeOctetIsPast}
 
 -- there is always a piece
 abbrev Filled : List (List ℕ) → Type 0
@@ -57,14 +57,14 @@ pieces-more : (begun : List ℕ) (x : ℕ) → pieces begun ≡ begun ∷ [] →
 pieces-more begun x one e = pieces-append begun (x ∷ []) ∙ rw (one, e) refl
 
 -- a line of which more comes has room
-fits-first : (p : List ℕ) (ps : List (List ℕ)) → pieces_fit (p ∷ ps) ≡ true → length p ≤ 4096
-fits-first p ps fit = leb-true (length p) 4096 (and_parts (leb (length p) 4096) (pieces_fit ps) fit).0
+fits-first : (p : List ℕ) (ps : List (List ℕ)) → pieces_bounded (p ∷ ps) ≡ true → length p ≤ 4096
+fits-first p ps fit = leb-true (length p) 4096 (and_parts (leb (length p) 4096) (pieces_bounded ps) fit).0
 
-room-onto : (begun : List ℕ) (x : ℕ) (ps : List (List ℕ)) → pieces_fit (joined (begun ∷ []) (onto_first x ps)) ≡ true → length begun < 4096
+room-onto : (begun : List ℕ) (x : ℕ) (ps : List (List ℕ)) → pieces_bounded (joined (begun ∷ []) (onto_first x ps)) ≡ true → length begun < 4096
 room-onto begun x [] fit = omega (arith, fits-first (begun ++ x ∷ []) [] fit, length-append begun (x ∷ []))
 room-onto begun x (q ∷ qs) fit = omega (arith, fits-first (begun ++ x ∷ q) qs fit, length-append begun (x ∷ q))
 
-room : (begun front : List ℕ) (x : ℕ) → pieces begun ≡ begun ∷ [] → eqb x 10 ≡ false → pieces_fit (pieces (begun ++ x ∷ front)) ≡ true → length begun < 4096
+room : (begun front : List ℕ) (x : ℕ) → pieces begun ≡ begun ∷ [] → eqb x 10 ≡ false → pieces_bounded (pieces (begun ++ x ∷ front)) ≡ true → length begun < 4096
 room begun front x one e fit =
     let is : pieces (begun ++ x ∷ front) ≡ joined (begun ∷ []) (onto_first x (pieces front)) = pieces-append begun (x ∷ front) ∙ rw (one, e) refl in
     room-onto begun x (pieces front) (rw is at fit)
@@ -90,7 +90,7 @@ last_of_cons p [] some = absurd some
 last_of_cons p (q ∷ qs) some = refl
 
 -- octets within the limits are lines, and the last piece is begun where they end
-run : (taken : ℕ) (begun front rest : List ℕ) → pieces begun ≡ begun ∷ [] → taken + length front ≤ 16777216 → pieces_fit (pieces (begun ++ front)) ≡ true → lines_from taken begun (front ++ rest) ≡ whole_lines (pieces (begun ++ front)) (lines_from (taken + length front) (last_of (pieces (begun ++ front))) rest)
+run : (taken : ℕ) (begun front rest : List ℕ) → pieces begun ≡ begun ∷ [] → taken + length front ≤ 16777216 → pieces_bounded (pieces (begun ++ front)) ≡ true → lines_from taken begun (front ++ rest) ≡ whole_lines (pieces (begun ++ front)) (lines_from (taken + length front) (last_of (pieces (begun ++ front))) rest)
 run taken begun [] rest one few fit =
     let here : taken + 0 ≡ taken = omega arith in
     rw (append-nil begun, one, here) refl
@@ -100,7 +100,7 @@ run taken begun (x ∷ front) rest one few fit =
       | inl e ↦
           let is = pieces-lf begun front x one e in
           let some = pieces-filled front in
-          let on = run (taken + 1) [] front rest refl (omega arith) ((and_parts (leb (length begun) 4096) (pieces_fit (pieces front)) (rw is at fit)).1) in
+          let on = run (taken + 1) [] front rest refl (omega arith) ((and_parts (leb (length begun) 4096) (pieces_bounded (pieces front)) (rw is at fit)).1) in
           from_lf taken begun (front ++ rest) x e (omega arith) ∙ ap (line (without_cr begun)) on
           ∙ rw (is, there, last_of_cons begun (pieces front) some) (whole_lines_cons begun (pieces front) _ some)
       | inr e ↦
@@ -112,17 +112,17 @@ run taken begun (x ∷ front) rest one few fit =
 -- the same from the begin of the input
 record Within (octets : List ℕ) : Type 0 where
   pub few : length octets ≤ 16777216
-  pub fit : pieces_fit (pieces octets) ≡ true
+  pub fit : pieces_bounded (pieces octets) ≡ true
 
 within-from : (octets : List ℕ) → is_within octets ≡ true → Within octets
 unfolding is_within
 within-from octets e =
-    let parts = and_parts (leb (length octets) 16777216) (pieces_fit (pieces octets)) e in
+    let parts = and_parts (leb (length octets) 16777216) (pieces_bounded (pieces octets)) e in
     record { few = leb-true (length octets) 16777216 (parts.0); fit = parts.1 }
 
-within-is : (octets : List ℕ) → length octets ≤ 16777216 → pieces_fit (pieces octets) ≡ true → is_within octets ≡ true
+within-is : (octets : List ℕ) → length octets ≤ 16777216 → pieces_bounded (pieces octets) ≡ true → is_within octets ≡ true
 unfolding is_within
-within-is octets few fit = and_from (leb (length octets) 16777216) (pieces_fit (pieces octets)) (le-leb (length octets) 16777216 few) fit
+within-is octets few fit = and_from (leb (length octets) 16777216) (pieces_bounded (pieces octets)) (le-leb (length octets) 16777216 few) fit
 
 run-all : (front rest : List ℕ) → Within front → lines_from 0 [] (front ++ rest) ≡ whole_lines (pieces front) (lines_from (length front) (last_of (pieces front)) rest)
 run-all front rest w =
@@ -140,10 +140,10 @@ lines_are_the_pieces octets e =
     ap (lines_from 0 []) (sym (append-nil octets)) ∙ all ∙ ap (whole_lines (pieces octets)) (from_end (length octets) (last_of (pieces octets)))
 
 -- one more octet keeps within the limit of a line, but where it is past it
-more-fits : (x : ℕ) (ps : List (List ℕ)) → Filled ps → pieces_fit ps ≡ true → (not (eqb x 10) && leb 4096 (length (last_of ps))) ≡ false → pieces_fit (joined ps (pieces (x ∷ []))) ≡ true
+more-fits : (x : ℕ) (ps : List (List ℕ)) → Filled ps → pieces_bounded ps ≡ true → (not (eqb x 10) && leb 4096 (length (last_of ps))) ≡ false → pieces_bounded (joined ps (pieces (x ∷ []))) ≡ true
 more-fits x [] some fit in_line = absurd some
 more-fits x (p ∷ q ∷ ps) some fit in_line =
-    let parts = and_parts (leb (length p) 4096) (pieces_fit (q ∷ ps)) fit in
+    let parts = and_parts (leb (length p) 4096) (pieces_bounded (q ∷ ps)) fit in
     and_from (leb (length p) 4096) _ (parts.0) (more-fits x (q ∷ ps) tt (parts.1) in_line)
 more-fits x (p ∷ []) some fit in_line =
     elim (cases_Bool (eqb x 10)) [

@@ -16,9 +16,9 @@ pub lines_from_nil : (taken : ℕ) → lines_from taken [] [] ≡ ended
 unfolding lines_from
 lines_from_nil taken = refl
 
-pub lines_from_begun : (taken b : ℕ) (begun : List ℕ) → lines_from taken (b ∷ begun) [] ≡ line (b ∷ begun) ended
+pub lines_from_start : (taken b : ℕ) (begun : List ℕ) → lines_from taken (b ∷ begun) [] ≡ line (b ∷ begun) ended
 unfolding lines_from
-lines_from_begun taken b begun = refl
+lines_from_start taken b begun = refl
 
 -- an octet beside LF passes the limit of a line
 pub lines_from_long : (taken : ℕ) (begun : List ℕ) (x : ℕ) (rest : List ℕ) → x ≢ 10 → 4096 ≤ length begun → lines_from taken begun (x ∷ rest) ≡ too_long
@@ -144,8 +144,8 @@ without_cr_cut octets test is holds =
     let split : octets ≡ front ++ 13 ∷ [] = (ends_is Decides-eqb octets (13 ∷ []) test is).0 holds in
     ap without_cr split ∙ without_cr_push front
 
-pub without_cr_kept : (octets : List ℕ) (test : Bool) → test ≡ pointwise eqb (13 ∷ []) (drop (length octets - 1) octets) → test ≡ false → without_cr octets ≡ octets
-without_cr_kept octets test is fails =
+pub without_cr_same : (octets : List ℕ) (test : Bool) → test ≡ pointwise eqb (13 ∷ []) (drop (length octets - 1) octets) → test ≡ false → without_cr octets ≡ octets
+without_cr_same octets test is fails =
     without_cr_other octets (λ front same. let holds : test ≡ true = (ends_is Decides-eqb octets (13 ∷ []) test is).1 front same in cc)
 
 -- the same where the source may not tell what it has left
@@ -181,7 +181,7 @@ ends_input now (Some octets) held_is line_is nothing =
 
 pub lines_from_last : (taken : ℕ) (begun : List ℕ) → begun ≢ [] → lines_from taken begun [] ≡ line begun (lines_from taken [] [])
 lines_from_last taken [] some = absurd (some refl)
-lines_from_last taken (b ∷ begun) some = lines_from_begun taken b begun ∙ ap (line (b ∷ begun)) (sym (lines_from_nil taken))
+lines_from_last taken (b ∷ begun) some = lines_from_start taken b begun ∙ ap (line (b ∷ begun)) (sym (lines_from_nil taken))
 
 pub ends_last_line : (now : LineReading) (left : Option (List ℕ)) → now.held ≡ [] → now.line ≢ [] → left ≡ nothing_known left → Divides Line now.line (lines_within now left) (lines_left now left)
 ends_last_line now None held_is some nothing = refl

@@ -16,9 +16,9 @@ unfolding lines_from
 two_lines = refl
 
 -- one CR is dropped, and only directly before an LF
-pub returns_kept : lines (13 ∷ 97 ∷ 13 ∷ 13 ∷ 10 ∷ []) ≡ line (13 ∷ 97 ∷ 13 ∷ []) ended
+pub returns_preserved : lines (13 ∷ 97 ∷ 13 ∷ 13 ∷ 10 ∷ []) ≡ line (13 ∷ 97 ∷ 13 ∷ []) ended
 unfolding lines_from
-returns_kept = refl
+returns_preserved = refl
 
 -- the last line may lack its LF, and then keeps its CR
 pub last_line : lines (97 ∷ 10 ∷ 98 ∷ 13 ∷ []) ≡ line (97 ∷ []) (line (98 ∷ 13 ∷ []) ended)

@@ -9,8 +9,8 @@ take_front n list buf now fits is =
     rw front (sym (take-append-drop n list))
 
 -- the same in terms of all octets and the place up to which they were read
-pub take_front_at : (n place : ℕ) (octets before buf now : List ℕ) → drop place octets ≡ before → n ≤ length (take (length octets - place) (drop place octets)) → now ≡ take n (take (length octets - place) (drop place octets)) ++ buf → before ≡ take n now ++ drop (place + n) octets
-take_front_at n place octets before buf now is fits put =
+pub prefix_at : (n place : ℕ) (octets before buf now : List ℕ) → drop place octets ≡ before → n ≤ length (take (length octets - place) (drop place octets)) → now ≡ take n (take (length octets - place) (drop place octets)) ++ buf → before ≡ take n now ++ drop (place + n) octets
+prefix_at n place octets before buf now is fits put =
     let whole : take (length octets - place) (drop place octets) ≡ drop place octets = take_rest octets place in
     let fits_whole : n ≤ length (drop place octets) = rw whole at fits in
     let put_whole : now ≡ take n (drop place octets) ++ buf = rw whole at put in

@@ -24,11 +24,11 @@ last_line [] = ended
 last_line (octet ∷ rest) = line (octet ∷ rest) ended
 
 -- at most 4,096 octets in each piece, and 16,777,216 in all
-abbrev pub pieces_fit : List (List ℕ) → Bool
-pieces_fit list = list_all (λ piece. nat_le (length piece) max_line) list
+abbrev pub pieces_bounded : List (List ℕ) → Bool
+pieces_bounded list = list_all (λ piece. nat_le (length piece) max_line) list
 
 unfoldable pub is_within : List ℕ → Bool
-is_within octets = nat_le (length octets) max_input && pieces_fit (pieces octets)
+is_within octets = nat_le (length octets) max_input && pieces_bounded (pieces octets)
 
 -- the first octet past a limit
 pub record FirstPast (octets : List ℕ) : Type 0 where

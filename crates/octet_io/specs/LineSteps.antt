@@ -4,7 +4,7 @@ use Rattle.octet_io.specs.Lines.{Lines, LineReading, lines_from, lines_left, max
 use Rattle.octet_io.specs.declared.lines.NextLine.TheVariants.{Line, End, TooLong, TooMuch, Read}
 use Rattle.octet_io.specs.declared.lines.NextLine.{NextLine}
 use Rattle.octet_io.specs.declared.lines.Step.{Step}
-use Rattle.octet_io.specs.declared.lines.Step.TheVariants.{GoesOn, EndsLine, PassesLine, PassesInput}
+use Rattle.octet_io.specs.declared.lines.Step.TheVariants.{HasContinued, EndsLine, PassesLine, PassesInput}
 
 -- the lines that are still to come in mid-line, if the source shows what it has left
 abbrev pub lines_within : LineReading → Option (List ℕ) → Option Lines
@@ -12,17 +12,17 @@ lines_within reader left = option_map (λ octets. lines_from reader.taken reader
 
 -- what the lines that were to come are after a step, if the source has these octets left
 abbrev pub Advances : Step → LineReading → Option Lines → Option (List ℕ) → Type 0
-Advances GoesOn now before left = (now.held ≡ []) × (before ≡ lines_within now left)
+Advances HasContinued now before left = (now.held ≡ []) × (before ≡ lines_within now left)
 Advances EndsLine now before left = Divides Line now.line before (lines_left now left)
 Advances PassesLine now before left = Divides TooLong now.line before (lines_left now left)
 Advances PassesInput now before left = Divides TooMuch now.line before (lines_left now left)
 
 -- how many octets a step takes: those that join the line, and its LF
-abbrev pub TakesOctets : Step → LineReading → LineReading → Type 0
-TakesOctets GoesOn before after = (before.taken < after.taken) × (after.taken + length before.line ≡ before.taken + length after.line)
-TakesOctets EndsLine before after = before.taken < after.taken
-TakesOctets PassesLine before after = before.taken ≤ after.taken
-TakesOctets PassesInput before after = before.taken ≤ after.taken
+abbrev pub ConsumesOctets : Step → LineReading → LineReading → Type 0
+ConsumesOctets HasContinued before after = (before.taken < after.taken) × (after.taken + length before.line ≡ before.taken + length after.line)
+ConsumesOctets EndsLine before after = before.taken < after.taken
+ConsumesOctets PassesLine before after = before.taken ≤ after.taken
+ConsumesOctets PassesInput before after = before.taken ≤ after.taken
 
 -- the next octet that is buffered, if there is one, ends the line or passes a limit
 abbrev pub StopsAt : List ℕ → List ℕ → ℕ → Type 0
@@ -33,12 +33,12 @@ abbrev pub Stops : LineReading → Type 0
 Stops reader = StopsAt reader.held reader.line reader.taken
 
 -- how many lines were begun for an answer, with so much of the line
-abbrev pub begun_by : NextLine → List ℕ → ℕ
-begun_by Line line = 1
-begun_by End line = 0
-begun_by TooLong line = 1
-begun_by TooMuch line = 1
-begun_by Read line = min 1 (length line)
+abbrev pub initiated_by : NextLine → List ℕ → ℕ
+initiated_by Line line = 1
+initiated_by End line = 0
+initiated_by TooLong line = 1
+initiated_by TooMuch line = 1
+initiated_by Read line = min 1 (length line)
 
 -- at the end of the source a line that is begun is the answer, or else there is none
 abbrev pub end_answer : List ℕ → NextLine

@@ -74,20 +74,20 @@ Numbers TooMuch before after = after ≡ before + 1
 Numbers Read before after = Unit {0}
 
 -- if a read fails, the line last begun is that of the octets taken in the call, if there are some
-abbrev pub Begins : NextLine → LineReading → LineReading → Type 0
-Begins Read before after = after.number ≡ before.number + min 1 (after.taken - before.taken)
-Begins Line before after = Unit {0}
-Begins End before after = Unit {0}
-Begins TooLong before after = Unit {0}
-Begins TooMuch before after = Unit {0}
+abbrev pub StartsAt : NextLine → LineReading → LineReading → Type 0
+StartsAt Read before after = after.number ≡ before.number + min 1 (after.taken - before.taken)
+StartsAt Line before after = Unit {0}
+StartsAt End before after = Unit {0}
+StartsAt TooLong before after = Unit {0}
+StartsAt TooMuch before after = Unit {0}
 
 -- each line takes at least one octet
-abbrev pub Takes : NextLine → ℕ → ℕ → Type 0
-Takes Line before after = before < after
-Takes End before after = Unit {0}
-Takes TooLong before after = Unit {0}
-Takes TooMuch before after = Unit {0}
-Takes Read before after = Unit {0}
+abbrev pub ConsumesSome : NextLine → ℕ → ℕ → Type 0
+ConsumesSome Line before after = before < after
+ConsumesSome End before after = Unit {0}
+ConsumesSome TooLong before after = Unit {0}
+ConsumesSome TooMuch before after = Unit {0}
+ConsumesSome Read before after = Unit {0}
 
 -- at the end nothing is left
 abbrev pub Exhausts : NextLine → Option (List ℕ) → Type 0

@@ -7,17 +7,17 @@ ghost use Rattle.octet_io.specs.Shown.{HasRisen};
 use crate::source::{Failed, Source};
 use std::marker::Model;
 
-const ROOM: usize = 4096;
+const BUFFER_SIZE: usize = 4096;
 
 /// At most 4,096 octets of a source that were read and not used yet. Contracts see their list.
 #[derive(Drop)]
-pub struct Ahead {
-    octets: [u8; ROOM],
+pub struct ReadBuffer {
+    octets: [u8; BUFFER_SIZE],
     place: usize,
     filled: usize,
 }
 
-impl Model for Ahead {
+impl Model for ReadBuffer {
     ghost use Rattle.std.specs.Prelude.{List, ℕ, ◌≡◌, ◌≤◌, ◌-◌, take, drop, length};
 
     ghost Value = { List ℕ };
@@ -27,13 +27,13 @@ impl Model for Ahead {
     ghost invariant = { λ a. (a.place ≤ a.filled) × (a.filled ≤ 4096) × (length a.octets ≡ 4096) };
 }
 
-impl Ahead {
+impl ReadBuffer {
     /// No octets.
-    pub fn new() -> Ahead
+    pub fn new() -> ReadBuffer
         ensures { result ≡ [] }
     {
-        Ahead {
-            octets: [0; ROOM],
+        ReadBuffer {
+            octets: [0; BUFFER_SIZE],
             place: 0,
             filled: 0,
         }

@@ -12,7 +12,7 @@ mod standard;
 mod sure;
 mod unread;
 
-pub use ahead::Ahead;
+pub use ahead::ReadBuffer;
 pub use laws::{lines_are_the_pieces, lines_end_at_a_limit, some_octet_is_past};
 pub use lines::{LF, LineReader, MAX_INPUT, NextLine};
 pub use memory::{MemSink, MemSource};

@@ -5,7 +5,7 @@ ghost use Rattle.std.specs.List.{position, position_or_len};
 ghost use Rattle.octet_io.specs.Known.{nothing_known};
 ghost use Rattle.octet_io.specs.Lines.{without_cr};
 
-use crate::ahead::Ahead;
+use crate::ahead::ReadBuffer;
 use crate::source::Source;
 use octet_lists::Octets;
 use std::marker::Model;
@@ -35,12 +35,12 @@ pub struct LineReader {
     line: Octets<MAX_LINE>,
     number: u32,
     over: bool,
-    ahead: Ahead,
+    ahead: ReadBuffer,
 }
 
 /// What the buffered octets do to the line that is begun.
 enum Step {
-    GoesOn,
+    HasContinued,
     EndsLine,
     PassesLine,
     PassesInput,
@@ -69,8 +69,8 @@ impl Model for LineReader {
 impl LineReader {
     ghost use Rattle.std.specs.Prelude.{[], Some};
     ghost use Rattle.octet_io.specs.declared.lines.NextLine.TheVariants.{Line};
-    ghost use Rattle.octet_io.specs.Lines.{lines_left, Divides, Numbers, Begins, Takes, Exhausts, Faults, is_last, max_line, max_input};
-    ghost use Rattle.octet_io.specs.LineSteps.{Advances, TakesOctets, Stops, lines_within, begun_by, end_answer};
+    ghost use Rattle.octet_io.specs.Lines.{lines_left, Divides, Numbers, StartsAt, ConsumesSome, Exhausts, Faults, is_last, max_line, max_input};
+    ghost use Rattle.octet_io.specs.LineSteps.{Advances, ConsumesOctets, Stops, lines_within, initiated_by, end_answer};
 
     /// A reader that has read nothing.
     pub fn new() -> LineReader
@@ -81,7 +81,7 @@ impl LineReader {
             line: Octets::new(),
             number: 0,
             over: false,
-            ahead: Ahead::new(),
+            ahead: ReadBuffer::new(),
         }
     }
 
@@ -94,23 +94,23 @@ impl LineReader {
         // however they are cut into reads.
         ensures lines { Divides result self.new.line (lines_left self.old (S.shown.octets source.old)) (lines_left self.new (S.shown.octets source.new)) }
         ensures number { Numbers result self.old.number self.new.number }
-        ensures begun { Begins result self.old self.new }
+        ensures begun { StartsAt result self.old self.new }
         ensures over { self.new.over ≡ is_last result }
-        ensures takes { Takes result self.old.taken self.new.taken }
+        ensures takes { ConsumesSome result self.old.taken self.new.taken }
         ensures bounded { self.new.taken ≤ max_input }
         ensures exhausted { Exhausts result (S.shown.octets source.new) }
 
         ensures read { Faults S.shown result source.old source.new }
         ensures never_falls { S.shown.faults source.old ≤ S.shown.faults source.new }
     {
-        self.begin_line();
+        self.start_line();
         let answer = self.read_line(source);
         self.end_line(answer);
         answer
     }
 
     /// Leaves the line that was read last.
-    fn begin_line(&mut self)
+    fn start_line(&mut self)
         requires { self.old.over ≡ false }
         ensures same { self.new ≡ record self.old { line = [] } }
         ensures bounded { self.new.taken ≤ max_input }
@@ -126,7 +126,7 @@ impl LineReader {
         ensures lines { Divides result self.new.line (lines_within self.old (S.shown.octets source.old)) (lines_left self.new (S.shown.octets source.new)) }
         ensures number { self.new.number ≡ self.old.number }
         ensures over { self.new.over ≡ self.old.over }
-        ensures takes { Takes result self.old.taken self.new.taken }
+        ensures takes { ConsumesSome result self.old.taken self.new.taken }
         ensures bounded { self.new.taken ≤ max_input }
         ensures grows { self.old.taken ≤ self.new.taken }
         ensures begins { result ≡ NextLine.Read → self.new.taken ≡ self.old.taken + length self.new.line }
@@ -144,7 +144,7 @@ impl LineReader {
                 }
             }
             match self.take() {
-                Step::GoesOn => {}
+                Step::HasContinued => {}
                 Step::EndsLine => return NextLine::Line,
                 Step::PassesLine => return NextLine::TooLong,
                 Step::PassesInput => return NextLine::TooMuch,
@@ -156,14 +156,14 @@ impl LineReader {
     fn take(&mut self) -> Step
         requires some { 0 < length self.old.held }
         ensures lines { (left : Option (List ℕ)) → Advances result self.new (lines_within self.old left) left }
-        ensures takes { TakesOctets result self.old self.new }
+        ensures takes { ConsumesOctets result self.old self.new }
         ensures number { self.new.number ≡ self.old.number }
         ensures over { self.new.over ≡ self.old.over }
         ensures bounded { self.new.taken ≤ max_input }
     {
-        self.take_stretch();
+        self.next_stretch();
         match self.ahead.as_slice().first() {
-            None => Step::GoesOn,
+            None => Step::HasContinued,
             Some(octet) => {
                 let octet = *octet;
                 self.meet(octet)
@@ -172,7 +172,7 @@ impl LineReader {
     }
 
     /// Consumes the octets that it has buffered before the first LF, as many as pass no limit.
-    fn take_stretch(&mut self)
+    fn next_stretch(&mut self)
         ensures lines { (left : Option (List ℕ)) → lines_within self.old left ≡ lines_within self.new left }
         ensures taken { self.new.taken + length self.old.line ≡ self.old.taken + length self.new.line }
         ensures some { self.new.taken + length self.new.held ≡ self.old.taken + length self.old.held }
@@ -196,7 +196,7 @@ impl LineReader {
         requires next { self.old.held ≡ octet ∷ drop 1 self.old.held }
         requires stops { Stops self.old }
         ensures lines { (left : Option (List ℕ)) → Advances result self.new (lines_within self.old left) left }
-        ensures takes { TakesOctets result self.old self.new }
+        ensures takes { ConsumesOctets result self.old self.new }
         ensures number { self.new.number ≡ self.old.number }
         ensures over { self.new.over ≡ self.old.over }
         ensures bounded { self.new.taken ≤ max_input }
@@ -232,15 +232,15 @@ impl LineReader {
         requires alive { self.old.over ≡ false }
         requires counted { self.old.number ≤ self.old.taken }
         requires room { answer ≡ Line → self.old.number < self.old.taken }
-        ensures { self.new ≡ record self.old { number = self.old.number + begun_by answer self.old.line; over = is_last answer } }
+        ensures { self.new ≡ record self.old { number = self.old.number + initiated_by answer self.old.line; over = is_last answer } }
     {
-        let has_begun = match answer {
+        let has_initiated = match answer {
             NextLine::End => false,
             NextLine::Read => !self.line.is_empty(),
             NextLine::Line | NextLine::TooLong | NextLine::TooMuch => true,
         };
         self.over = answer != NextLine::Line;
-        self.number += u32::from(has_begun);
+        self.number += u32::from(has_initiated);
     }
 
     /// The octets of the line that was read last, at most 4,096.

@@ -7,7 +7,7 @@ use Rattle.request_text.specs.Packets.{packet_line}
 use Rattle.text_tables.specs.declared.fault.LineFault.{LineFault}
 use Rattle.answer_text.specs.Packets.{packet_text, packets_text}
 use Rattle.command_driver.specs.Answers.{Answer}
-use Rattle.command_driver.specs.Commands.{Took, Closing, goes, refuses, ends, answer}
+use Rattle.command_driver.specs.Commands.{LineResult, Closing, goes, refuses, ends, answer}
 use Rattle.packet_commands.specs.declared.decode.Decode.{Decode}
 use Rattle.command_driver.specs.declared.status.Status.TheVariants as status
 
@@ -19,14 +19,14 @@ is_malformed octets = is_err (packet_of octets)
 abbrev pub with_packet : Decode → List ℕ → Decode
 with_packet c octets = record { packets = c.packets + 1; malformed = c.malformed + (if is_malformed octets then 1 else 0) }
 
-abbrev pub took_packet : Decode → Result (Option (List ℕ)) LineFault → Took Decode
-took_packet c (Err fault) = record { text = []; ruling = refuses (fault_word fault) status.Refused; after = c }
-took_packet c (Ok None) = record { text = []; ruling = goes; after = c }
-took_packet c (Ok (Some octets)) = record { text = packet_text (c.packets + 1) octets; ruling = goes; after = with_packet c octets }
+abbrev pub packet_result : Decode → Result (Option (List ℕ)) LineFault → LineResult Decode
+packet_result c (Err fault) = record { text = []; ruling = refuses (fault_word fault) status.Refused; after = c }
+packet_result c (Ok None) = record { text = []; ruling = goes; after = c }
+packet_result c (Ok (Some octets)) = record { text = packet_text (c.packets + 1) octets; ruling = goes; after = with_packet c octets }
 
 -- the result of a line
-unfoldable pub decode_took : Decode → List ℕ → Took Decode
-decode_took c line = took_packet c (packet_line line)
+unfoldable pub decode_step : Decode → List ℕ → LineResult Decode
+decode_step c line = packet_result c (packet_line line)
 
 -- the end of the input
 unfoldable pub decode_closing : Decode → Closing
@@ -46,4 +46,4 @@ nothing_decoded = record { packets = 0; malformed = 0 }
 
 -- what decoding an input answers
 abbrev pub decode_answer : List ℕ → Answer
-decode_answer octets = answer decode_took decode_closing 0 nothing_decoded (lines octets)
+decode_answer octets = answer decode_step decode_closing 0 nothing_decoded (lines octets)

@@ -19,7 +19,7 @@ pub struct Decode {
 
 /// True if the octets begin with no packet.
 #[tactic(auto, unfolding(crate::specs::Decode::is_malformed))]
-fn begins_with_none(octets: &[u8]) -> bool
+fn starts_with_none(octets: &[u8]) -> bool
     ensures { result ≡ is_malformed octets.now }
 {
     match decode(octets) {
@@ -29,7 +29,7 @@ fn begins_with_none(octets: &[u8]) -> bool
 }
 
 impl Decode {
-    ghost use Rattle.packet_commands.specs.Decode.{took_packet, with_packet, nothing_decoded};
+    ghost use Rattle.packet_commands.specs.Decode.{packet_result, with_packet, nothing_decoded};
     ghost use Rattle.command_driver.specs.Commands.{AnswersLine};
     ghost use Rattle.std.specs.Prelude.{Some, Ok};
 
@@ -49,13 +49,13 @@ impl Decode {
         requires packets { self.old.packets < 2 ^ 31 }
         requires malformed { self.old.malformed < 2 ^ 31 }
         ensures answers { AnswersLine W.shown result sink.old sink.new
-            (took_packet self.old (Ok (Some octets.now))) false self.new }
+            (packet_result self.old (Ok (Some octets.now))) false self.new }
         ensures after { self.new ≡ with_packet self.old octets.now }
     {
         self.packets += 1;
-        self.malformed += u32::from(begins_with_none(octets));
+        self.malformed += u32::from(starts_with_none(octets));
         match write_packet(sink, self.packets, octets) {
-            Ok(()) => Ok(Next::Goes),
+            Ok(()) => Ok(Next::Proceed),
             Err(_) => Err(Trouble::Write),
         }
     }
@@ -63,13 +63,13 @@ impl Decode {
 
 impl Command for Decode {
     ghost use Rattle.packet_commands.specs.declared.decode.Decode.{Decode};
-    ghost use Rattle.packet_commands.specs.Decode.{decode_took, decode_closing, decode_lacks, HasCounted};
+    ghost use Rattle.packet_commands.specs.Decode.{decode_step, decode_closing, decode_lacks, HasCounted};
 
     ghost Seen = { Decode };
 
     ghost seen = { λ c. c };
 
-    ghost took = { decode_took };
+    ghost took = { decode_step };
 
     ghost closing = { decode_closing };
 
@@ -77,10 +77,10 @@ impl Command for Decode {
 
     ghost holds = { HasCounted };
 
-    #[tactic(auto, unfolding(crate::specs::Decode::decode_took))]
+    #[tactic(auto, unfolding(crate::specs::Decode::decode_step))]
     fn take<W: Sink>(&mut self, sink: &mut W, line: &[u8]) -> Result<Next, Trouble> {
         match read_packet_line(line) {
-            Ok(None) => Ok(Next::Goes),
+            Ok(None) => Ok(Next::Proceed),
             Ok(Some(octets)) => self.packet(sink, octets.as_slice()),
             Err(fault) => Ok(Next::Refuses(fault.word(), Status::Refused)),
         }

@@ -24,13 +24,13 @@ impl Keys {
 }
 
 impl Command for Keys {
-    ghost use Rattle.packet_commands.specs.Keys.{Asking, all_asked, keys_took, keys_closing, keys_lacks};
+    ghost use Rattle.packet_commands.specs.Keys.{Asking, all_asked, keys_step, keys_closing, keys_lacks};
 
     ghost Seen = { Asking };
 
     ghost seen = { λ _. all_asked };
 
-    ghost took = { keys_took };
+    ghost took = { keys_step };
 
     ghost closing = { keys_closing };
 
@@ -38,12 +38,12 @@ impl Command for Keys {
 
     ghost holds = { λ _ _. Unit {0} };
 
-    #[tactic(auto, unfolding(crate::specs::Keys::keys_took, answer_text::specs::Writes::Appends))]
+    #[tactic(auto, unfolding(crate::specs::Keys::keys_step, answer_text::specs::Writes::Appends))]
     fn take<W: Sink>(&mut self, sink: &mut W, line: &[u8]) -> Result<Next, Trouble> {
         match read_key_line_into(line, &mut self.asked) {
-            Ok(false) => Ok(Next::Goes),
+            Ok(false) => Ok(Next::Proceed),
             Ok(true) => match write_key_line(sink, &self.asked) {
-                Ok(()) => Ok(Next::Goes),
+                Ok(()) => Ok(Next::Proceed),
                 Err(_) => Err(Trouble::Write),
             },
             Err(fault) => Ok(Next::Refuses(fault.word(), Status::Refused)),

@@ -1,9 +1,9 @@
 //! Captured frames in files.
 
 use crate::row::Row;
-use octet_lists::Octets;
 use eapol_capture::{NextRecord, PcapReader};
 use octet_io::{MemSource, Source};
+use octet_lists::Octets;
 use std::alloc::{AllocError, Global};
 use std::test::Fail;
 

@@ -1,8 +1,8 @@
 //! Lines of sources.
 
 use crate::row::Row;
-use octet_lists::Octets;
 use octet_io::{Failed, LF, LineReader, MemSource, NextLine, Source};
+use octet_lists::Octets;
 use std::alloc::{AllocError, Global};
 use std::test::Fail;
 

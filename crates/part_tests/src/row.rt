@@ -1,7 +1,7 @@
 //! Rows of a text: words by spaces, octets in hex.
 
-use octet_lists::{MAX_PACKET, Octets, Packet};
 use hex::decode_to_slice;
+use octet_lists::{MAX_PACKET, Octets, Packet};
 use std::str::SplitWhitespace;
 
 /// A row whose words are read one after the other.

@@ -9,7 +9,7 @@ use Rattle.eap_packet.specs.declared.cause.Cause.{Cause}
 use Rattle.eap_packet.specs.declared.state.State.{State}
 use Rattle.eap_packet.specs.declared.state.State.TheVariants as state
 use Rattle.pass_through.specs.Inputs.{start, timeout, aaa_timeout, aaa_noreq, from_peer, from_backend, restart}
-use Rattle.pass_through.specs.Rows.{second_start, no_timer, unasked_timeout, unasked_noreq, in_idle, in_idle2, in_aaa_idle, ended, awaits_no_peer, awaits_no_server, no_packet, no_response, other_id, no_identity, a_response, TimerRuns, of_idle, of_idle2, PassRow, stays, drops_of_peer, drops_of_server, starts, begins, resends, times_out, loses_server, asks_nothing, hands_identity, hands_response, hands_request, hands_success, hands_failure, PassAnswersAreRows}
+use Rattle.pass_through.specs.Rows.{second_start, no_timer, unasked_timeout, unasked_noreq, in_idle, in_idle2, in_aaa_idle, ended, awaits_no_peer, awaits_no_server, no_packet, no_response, other_id, no_identity, a_response, TimerRuns, of_idle, of_idle2, PassRow, stays, drops_of_peer, drops_of_server, starts, begins, resends, times_out, loses_server, asks_nothing, passes_identity, passes_response, passes_request, passes_success, passes_failure, PassAnswersAreRows}
 use Rattle.pass_through.specs.PassTable as table
 use Rattle.pass_through.specs.PassTable.{PassAnswer, is_awaited, is_over, is_idle, is_idle2, is_aaa_idle, is_started, has_timer, idle_row, idle2_row, aaa_row, pass_start, pass_timeout, pass_aaa_timeout, pass_aaa_noreq, pass_from_peer, pass_from_backend}
 use Rattle.pass_through.specs.declared.variables.PassVariables.{PassVariables}
@@ -45,7 +45,7 @@ module _ (vars : PassVariables) where
     idle-row stands (Ok (response id kind body)) is =
         cond_both (is_awaited vars.current_id id) _ _ OfPeer
         (λ current. cond_both (kind == identity_kind) _ _ OfPeer
-        (λ same. hands_identity octets id body stands (rw (← eqb-true kind identity_kind same) is) (awaited vars.current_id id current))
+        (λ same. passes_identity octets id body stands (rw (← eqb-true kind identity_kind same) is) (awaited vars.current_id id current))
         (λ other. drops_of_peer octets _ _ (no_identity stands id kind body is (awaited vars.current_id id current) other)))
         (λ other. drops_of_peer octets _ _ (other_id _ (in_idle stands) id kind body is other))
     idle-row stands (Ok (success id)) is = drops_of_peer octets _ _ (no_response _ (in_idle stands) _ is (λ id kind body e. cc e))
@@ -56,17 +56,17 @@ module _ (vars : PassVariables) where
     idle2-row stands (Ok (request id kind body)) is = drops_of_peer octets _ _ (no_response _ (in_idle2 stands) _ is (λ id kind body e. cc e))
     idle2-row stands (Ok (response id kind body)) is =
         cond_both (is_awaited vars.current_id id) _ _ OfPeer
-        (λ current. hands_response octets id kind body stands is (awaited vars.current_id id current))
+        (λ current. passes_response octets id kind body stands is (awaited vars.current_id id current))
         (λ other. drops_of_peer octets _ _ (other_id _ (in_idle2 stands) id kind body is other))
     idle2-row stands (Ok (success id)) is = drops_of_peer octets _ _ (no_response _ (in_idle2 stands) _ is (λ id kind body e. cc e))
     idle2-row stands (Ok (failure id)) is = drops_of_peer octets _ _ (no_response _ (in_idle2 stands) _ is (λ id kind body e. cc e))
 
     aaa-row : vars.state ≡ state.AaaIdle → (packet : Result PacketValue Cause) → packet_of octets ≡ packet → OfServer (aaa_row vars octets packet)
     aaa-row stands (Err c) is = drops_of_server octets _ c (no_packet _ _ (in_aaa_idle stands) c is)
-    aaa-row stands (Ok (request id kind body)) is = hands_request octets id kind body stands is
+    aaa-row stands (Ok (request id kind body)) is = passes_request octets id kind body stands is
     aaa-row stands (Ok (response id kind body)) is = drops_of_server octets _ _ (a_response stands id kind body is)
-    aaa-row stands (Ok (success id)) is = hands_success octets id stands is
-    aaa-row stands (Ok (failure id)) is = hands_failure octets id stands is
+    aaa-row stands (Ok (success id)) is = passes_success octets id stands is
+    aaa-row stands (Ok (failure id)) is = passes_failure octets id stands is
 
     peer-row : OfPeer (pass_from_peer vars octets)
     unfolding pass_from_peer
@@ -97,7 +97,7 @@ module _ (vars : PassVariables) where
 pub pass_answers_are_rows : PassAnswersAreRows
 unfolding pass_start pass_aaa_timeout pass_aaa_noreq
 pass_answers_are_rows vars start =
-    cond_both (is_started vars.state) _ _ (PassRow vars start) (λ is_begun. stays start (second_start is_begun)) (λ unstarted. starts unstarted)
+    cond_both (is_started vars.state) _ _ (PassRow vars start) (λ is_initiated. stays start (second_start is_initiated)) (λ unstarted. starts unstarted)
 pass_answers_are_rows vars timeout =
     cond_both (has_timer vars.state) _ _ (PassRow vars timeout) (λ runs. timeout-row vars runs) (λ stopped. stays timeout (no_timer stopped))
 pass_answers_are_rows vars aaa_timeout =

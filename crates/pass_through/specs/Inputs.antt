@@ -19,11 +19,11 @@ abbrev pub pass_rests : PassVariables → PassAnswer
 pass_rests vars = answer (rests []) vars
 
 -- out of place, all but octets does nothing
-abbrev pub pass_takes : PassVariables → PassInput → PassAnswer
-pass_takes vars start = if is_started vars.state then pass_rests vars else pass_start vars
-pass_takes vars timeout = if has_timer vars.state then pass_timeout vars else pass_rests vars
-pass_takes vars aaa_timeout = if is_aaa_idle vars.state then pass_aaa_timeout vars else pass_rests vars
-pass_takes vars aaa_noreq = if is_aaa_idle vars.state then pass_aaa_noreq vars else pass_rests vars
-pass_takes vars (from_peer octets) = pass_from_peer vars octets
-pass_takes vars (from_backend octets) = pass_from_backend vars octets
-pass_takes vars restart = pass_restart vars
+abbrev pub pass_accepts : PassVariables → PassInput → PassAnswer
+pass_accepts vars start = if is_started vars.state then pass_rests vars else pass_start vars
+pass_accepts vars timeout = if has_timer vars.state then pass_timeout vars else pass_rests vars
+pass_accepts vars aaa_timeout = if is_aaa_idle vars.state then pass_aaa_timeout vars else pass_rests vars
+pass_accepts vars aaa_noreq = if is_aaa_idle vars.state then pass_aaa_noreq vars else pass_rests vars
+pass_accepts vars (from_peer octets) = pass_from_peer vars octets
+pass_accepts vars (from_backend octets) = pass_from_backend vars octets
+pass_accepts vars restart = pass_restart vars

@@ -49,8 +49,8 @@ abbrev pub discards : Side → List State → Cause → PassStep
 discards to path c = record { path = path; cause = Some c; to = to; sent = None }
 
 -- before the start
-abbrev pub pass_made : ℕ → ℕ → PassVariables
-pass_made first_id max_retrans = record {
+abbrev pub initial_pass : ℕ → ℕ → PassVariables
+initial_pass first_id max_retrans = record {
   first_id = first_id;
   max_retrans = max_retrans;
   state = state.Initialize;
@@ -77,7 +77,7 @@ pass_start vars =
 
 -- a restart: a new one, which starts
 unfoldable pub pass_restart : PassVariables → PassAnswer
-pass_restart vars = pass_start (pass_made vars.first_id vars.max_retrans)
+pass_restart vars = pass_start (initial_pass vars.first_id vars.max_retrans)
 
 -- whether a number is the one that is awaited
 abbrev pub is_awaited : Option ℕ → ℕ → Bool

@@ -7,13 +7,13 @@ use Rattle.eap_packet.specs.declared.cause.Cause.{Cause}
 use Rattle.eap_packet.specs.declared.cause.Cause.TheVariants as cause
 use Rattle.eap_packet.specs.declared.state.State.{State}
 use Rattle.eap_packet.specs.declared.state.State.TheVariants as state
-use Rattle.pass_through.specs.Inputs.{PassInput, start, timeout, aaa_timeout, aaa_noreq, from_peer, from_backend, restart, pass_rests, pass_takes}
+use Rattle.pass_through.specs.Inputs.{PassInput, start, timeout, aaa_timeout, aaa_noreq, from_peer, from_backend, restart, pass_rests, pass_accepts}
 use Rattle.pass_through.specs.PassTable.{Side, Peer, Server, PassAnswer, answer, asks, passes_on, rests, discards, identity_request, without_padding, is_awaited, is_over, is_idle, is_idle2, is_aaa_idle, is_started, has_timer, pass_restart}
 use Rattle.pass_through.specs.declared.variables.PassVariables.{PassVariables}
 
 -- why an input that has no place in this state does nothing
 pub data IsOutOfPlace (s : State) : PassInput → Type 0 where
-  second_start : (is_begun : is_started s ≡ true) → IsOutOfPlace s start
+  second_start : (is_initiated : is_started s ≡ true) → IsOutOfPlace s start
   no_timer : (stopped : has_timer s ≡ false) → IsOutOfPlace s timeout
   unasked_timeout : (unasked : is_aaa_idle s ≡ false) → IsOutOfPlace s aaa_timeout
   unasked_noreq : (unasked : is_aaa_idle s ≡ false) → IsOutOfPlace s aaa_noreq
@@ -78,28 +78,28 @@ pub data PassRow (vars : PassVariables) : PassInput → PassAnswer → Type 0 wh
   asks_nothing : (stands : vars.state ≡ state.AaaIdle)
       → PassRow vars aaa_noreq (answer (rests (state.Discard2 ∷ state.Idle2 ∷ [])) (record vars { state = state.Idle2 }))
   -- the Identity Response goes to the server, and so does each Response to the last Request
-  hands_identity : (octets : List ℕ) (id : ℕ) (body : List ℕ) (stands : vars.state ≡ state.Idle)
+  passes_identity : (octets : List ℕ) (id : ℕ) (body : List ℕ) (stands : vars.state ≡ state.Idle)
       (is_packet : packet_of octets ≡ Ok (response id identity_kind body)) (is_id : vars.current_id ≡ Some id)
       → PassRow vars (from_peer octets)
       (answer
       (passes_on (state.Received ∷ state.IntegrityCheck ∷ state.MethodResponse ∷ state.SelectAction
       ∷ state.InitializePassthrough ∷ state.AaaRequest ∷ state.AaaIdle ∷ []) (without_padding octets))
       (record vars { state = state.AaaIdle }))
-  hands_response : (octets : List ℕ) (id kind : ℕ) (body : List ℕ) (stands : vars.state ≡ state.Idle2)
+  passes_response : (octets : List ℕ) (id kind : ℕ) (body : List ℕ) (stands : vars.state ≡ state.Idle2)
       (is_packet : packet_of octets ≡ Ok (response id kind body)) (is_id : vars.current_id ≡ Some id)
       → PassRow vars (from_peer octets)
       (answer (passes_on (state.Received2 ∷ state.AaaRequest ∷ state.AaaIdle ∷ []) (without_padding octets)) (record vars { state = state.AaaIdle }))
   -- a Request goes to the peer, and is kept for the timer; a Success or a Failure goes too, and ends the conversation
-  hands_request : (octets : List ℕ) (id kind : ℕ) (body : List ℕ) (stands : vars.state ≡ state.AaaIdle)
+  passes_request : (octets : List ℕ) (id kind : ℕ) (body : List ℕ) (stands : vars.state ≡ state.AaaIdle)
       (is_packet : packet_of octets ≡ Ok (request id kind body))
       → PassRow vars (from_backend octets)
       (answer (asks (state.AaaResponse ∷ state.SendRequest2 ∷ state.Idle2 ∷ []) (without_padding octets))
       (record vars { state = state.Idle2; current_id = Some id; retrans_count = 0; last_request = without_padding octets }))
-  hands_success : (octets : List ℕ) (id : ℕ) (stands : vars.state ≡ state.AaaIdle) (is_packet : packet_of octets ≡ Ok (success id))
+  passes_success : (octets : List ℕ) (id : ℕ) (stands : vars.state ≡ state.AaaIdle) (is_packet : packet_of octets ≡ Ok (success id))
       → PassRow vars (from_backend octets) (answer (asks (state.Success2 ∷ []) (without_padding octets)) (record vars { state = state.Success2 }))
-  hands_failure : (octets : List ℕ) (id : ℕ) (stands : vars.state ≡ state.AaaIdle) (is_packet : packet_of octets ≡ Ok (failure id))
+  passes_failure : (octets : List ℕ) (id : ℕ) (stands : vars.state ≡ state.AaaIdle) (is_packet : packet_of octets ≡ Ok (failure id))
       → PassRow vars (from_backend octets) (answer (asks (state.Failure2 ∷ []) (without_padding octets)) (record vars { state = state.Failure2 }))
 
 -- what comes of every input is one of these transitions
 abbrev pub PassAnswersAreRows : Type 0
-PassAnswersAreRows = (vars : PassVariables) (input : PassInput) → PassRow vars input (pass_takes vars input)
+PassAnswersAreRows = (vars : PassVariables) (input : PassInput) → PassRow vars input (pass_accepts vars input)

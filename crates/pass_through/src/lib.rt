@@ -9,7 +9,7 @@ mod states;
 mod step;
 mod variables;
 
-pub use laws::{answers_are_rows, discards_keep, sends_what_came};
+pub use laws::{answers_are_rows, discards_change_nothing, sends_only_received};
 pub use machine::PassThrough;
 pub use step::PassStep;
 pub use variables::PassVariables;

@@ -20,7 +20,9 @@
 ghost use Rattle.std.specs.Prelude.{◌≡◌, ◌≤◌, true, false};
 ghost use Rattle.pass_through.specs.PassTable.{Peer, Server, answer, step_to, without_padding, identity_request};
 
-use crate::rows::{resend, take_aaa_idle, take_idle, take_idle2, write_identity_request};
+use crate::rows::{
+    receive_in_aaa_idle, receive_in_idle, receive_in_idle2, resend, write_identity_request,
+};
 use crate::states::{is_aaa_idle, is_idle, is_idle2, is_over};
 use crate::step::PassStep;
 use crate::variables::PassVariables;
@@ -48,14 +50,14 @@ impl Model for PassThrough {
 
 impl PassThrough {
     ghost use Rattle.std.specs.Prelude.{[]};
-    ghost use Rattle.pass_through.specs.PassTable.{pass_made, pass_start, pass_restart, pass_from_peer, pass_from_backend, pass_timeout, pass_aaa_timeout, pass_aaa_noreq};
+    ghost use Rattle.pass_through.specs.PassTable.{initial_pass, pass_start, pass_restart, pass_from_peer, pass_from_backend, pass_timeout, pass_aaa_timeout, pass_aaa_noreq};
     ghost use Rattle.pass_through.specs.PassTable.{is_started, has_timer, is_aaa_idle, is_over};
     ghost use Rattle.pass_through.specs.Plain.{plain_step};
 
     /// A pass-through that has not started. `max_retrans` is at most 10.
     pub fn new(first_id: u8, max_retrans: u8) -> PassThrough
         requires { max_retrans ≤ 10 }
-        ensures { result ≡ pass_made first_id max_retrans }
+        ensures { result ≡ initial_pass first_id max_retrans }
     {
         PassThrough {
             vars: PassVariables {
@@ -123,9 +125,9 @@ impl PassThrough {
         if is_over(state) {
             Step::discarding(&[], Cause::Ended)
         } else if is_idle(state) {
-            take_idle(&mut self.vars, octets, packet)
+            receive_in_idle(&mut self.vars, octets, packet)
         } else if is_idle2(state) {
-            take_idle2(&mut self.vars, octets, packet)
+            receive_in_idle2(&mut self.vars, octets, packet)
         } else {
             Step::discarding(&[], Cause::NotWaiting)
         }
@@ -143,7 +145,7 @@ impl PassThrough {
         if is_over(state) {
             Step::discarding(&[], Cause::Ended)
         } else if is_aaa_idle(state) {
-            take_aaa_idle(&mut self.vars, octets, packet)
+            receive_in_aaa_idle(&mut self.vars, octets, packet)
         } else {
             Step::discarding(&[], Cause::NotWaiting)
         }

@@ -18,7 +18,7 @@ pub fn write_identity_request(packet: &mut Packet, id: u8)
 }
 
 /// IDLE: the Identity Response goes to the server as it came.
-pub fn take_idle(vars: &mut PassVariables, octets: &[u8], packet: &mut Packet) -> Step
+pub fn receive_in_idle(vars: &mut PassVariables, octets: &[u8], packet: &mut Packet) -> Step
     ensures step { idle_row vars.old octets.now (packet_of octets.now) ≡ answer (step_to Server result packet.new) vars.new }
     ensures order { vars.old.retrans_count ≤ vars.old.max_retrans → vars.new.retrans_count ≤ vars.new.max_retrans }
     ensures most { vars.new.max_retrans ≡ vars.old.max_retrans }
@@ -59,7 +59,7 @@ fn discard(cause: Cause) -> Step
 }
 
 /// IDLE2: a Response with currentId goes to the server as it came.
-pub fn take_idle2(vars: &mut PassVariables, octets: &[u8], packet: &mut Packet) -> Step
+pub fn receive_in_idle2(vars: &mut PassVariables, octets: &[u8], packet: &mut Packet) -> Step
     ensures step { idle2_row vars.old octets.now (packet_of octets.now) ≡ answer (step_to Server result packet.new) vars.new }
     ensures order { vars.old.retrans_count ≤ vars.old.max_retrans → vars.new.retrans_count ≤ vars.new.max_retrans }
     ensures most { vars.new.max_retrans ≡ vars.old.max_retrans }
@@ -90,7 +90,7 @@ fn discard2(cause: Cause) -> Step
 
 /// AAA_IDLE: a Request goes to the peer as it came, to be answered; a Success or a Failure too, and ends
 /// the conversation.
-pub fn take_aaa_idle(vars: &mut PassVariables, octets: &[u8], packet: &mut Packet) -> Step
+pub fn receive_in_aaa_idle(vars: &mut PassVariables, octets: &[u8], packet: &mut Packet) -> Step
     ensures step { aaa_row vars.old octets.now (packet_of octets.now) ≡ answer (step_to Peer result packet.new) vars.new }
     ensures order { vars.old.retrans_count ≤ vars.old.max_retrans → vars.new.retrans_count ≤ vars.new.max_retrans }
     ensures most { vars.new.max_retrans ≡ vars.old.max_retrans }

@@ -9,7 +9,7 @@ pub mod Selected
 -- What the peer makes of an input is one of the rows of its table.
 pub mod PeerRows
 -- What a delivery comes to: the row of its table, a refusal, or the row of the plain form, expressed.
-pub mod Hearing
+pub mod Receiving
 -- A discard changes nothing.
 pub mod Discards
 -- The settings with another nonce are sound.

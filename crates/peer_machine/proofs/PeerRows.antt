@@ -14,7 +14,7 @@ use Rattle.eap_method.specs.Peer.{PeerViews, peer_turn}
 use Rattle.eap_method.specs.Steps.{is_end}
 use Rattle.peer_machine.specs.Inputs.{PeerInput, octets, idle, alt_accept, alt_reject, restart, unless_ended}
 use Rattle.peer_machine.specs.PeerTable.{PeerNow, PeerAnswer, is_cont, is_done, is_fail, is_last_id, is_uncond, method_answers, peer_method, new_request, peer_success, peer_failure, peer_row, peer_deliver, peer_idle, peer_alt_accept, peer_alt_reject, peer_ends}
-use Rattle.peer_machine.specs.Rows.{no_packet, no_request, other_success, other_failure, early_success, late_failure, early_failure, late_notification, other_method, done_method, by_method, Hears, Calls, first, again, by_success, by_idle, by_accept, late_success, by_failure, by_idle_unsure, late_accept, by_reject, PeerRow, begins, ended, rests, drops, waits, identifies, notifies, naks, resends, ends_well, ends_badly, method_replies, method_fails, PeerAnswersAreRows}
+use Rattle.peer_machine.specs.Rows.{no_packet, no_request, other_success, other_failure, early_success, late_failure, early_failure, late_notification, other_method, done_method, by_method, Receives, Calls, first, again, by_success, by_idle, by_accept, late_success, by_failure, by_idle_unsure, late_accept, by_reject, PeerRow, begins, ended, rests, drops, waits, identifies, notifies, naks, resends, ends_well, ends_badly, method_replies, method_fails, PeerAnswersAreRows}
 
 uncond_is_sure : (d : Decision) → is_uncond d ≡ true → is_fail d ≡ false
 uncond_is_sure decision.Fail sure = cc
@@ -27,7 +27,7 @@ module _ (now : PeerNow) where
     abbrev IsRow : PeerAnswer → Type 0
     IsRow out = PeerRow now (octets bytes) out
 
-    module _ (id kind : ℕ) (body : List ℕ) (heard : Hears now bytes id (request id kind body) false) where
+    module _ (id kind : ℕ) (body : List ℕ) (heard : Receives now bytes id (request id kind body) false) where
       answers-row : (selects : Bool) → Calls now kind selects → (turn : PeerTurn) (views : PeerViews)
           → peer_turn kind now.views (spelled (request id kind body)) ≡ record { turn = turn; after = views }
           → IsRow (method_answers selects now kind id views turn)
@@ -56,14 +56,14 @@ module _ (now : PeerNow) where
           (λ undone. method-row false (again same undone)))
           (λ other. drops bytes _ _ going (other_method id kind selected body heard is other no_notification)))
 
-    success-row : (id : ℕ) → Hears now bytes id (success id) true → IsRow (peer_success now)
+    success-row : (id : ℕ) → Receives now bytes id (success id) true → IsRow (peer_success now)
     success-row id heard =
         cond_both (is_fail now.vars.decision) _ _ IsRow
         (λ fails. cond_both (is_cont now.vars.method_state) _ _ IsRow (λ goes_on. drops bytes _ _ going (early_success id heard fails goes_on))
         (λ over. ends_badly _ _ going (late_success bytes id heard fails over)))
         (λ sure. ends_well _ _ going sure (by_success bytes id heard))
 
-    failure-row : (id : ℕ) → Hears now bytes id (failure id) true → IsRow (peer_failure now)
+    failure-row : (id : ℕ) → Receives now bytes id (failure id) true → IsRow (peer_failure now)
     failure-row id heard =
         cond_both (is_uncond now.vars.decision) _ _ IsRow (λ sure. drops bytes _ _ going (late_failure id heard sure))
         (λ unsure. cond_both (is_cont now.vars.method_state) _ _ IsRow (λ goes_on. drops bytes _ _ going (early_failure id heard unsure goes_on))

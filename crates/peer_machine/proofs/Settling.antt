@@ -7,13 +7,13 @@ use Rattle.eap_method.specs.Steps.{step_with}
 use Rattle.eap_method.specs.PeerTurn.{PeerTurn}
 use Rattle.eap_method.specs.PeerTurn.{Discard, Reply, peer_turn_with, peer_tags}
 use Rattle.eap_method.specs.Peer.{PeerShown, PeerViews, peer_views, peer_turn}
-use Rattle.eap_method.proofs.PeerObjects.{peer_turn_keeps}
+use Rattle.eap_method.proofs.PeerObjects.{peer_turn_preserves}
 use Rattle.peer_machine.specs.PeerTable.{PeerNow, answer, method_answers, views_after, peer_method}
 use Rattle.peer_machine.specs.declared.variables.PeerVariables.{PeerVariables}
 
 settled_after : (kind : ℕ) (views after : PeerViews) (octets : List ℕ) (turn : PeerTurn) → peer_turn kind views octets ≡ record { turn = turn; after = after }
     → views_after views after turn ≡ after
-settled_after kind views after octets (Discard c) turned = sym (peer_turn_keeps kind views after octets c turned)
+settled_after kind views after octets (Discard c) turned = sym (peer_turn_preserves kind views after octets c turned)
 settled_after kind views after octets (Reply packet m d tags) turned = refl
 
 pub method_settles : (selects : Bool) (now : PeerNow) (vars : PeerVariables) (kind id : ℕ) (octets : List ℕ)

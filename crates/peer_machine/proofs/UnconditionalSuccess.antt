@@ -8,8 +8,8 @@ use Rattle.peer_machine.specs.Laws.{HasUnconditionalSuccess, UnconditionalSucces
 use Rattle.peer_machine.specs.PeerTable.{PeerNow, PeerAnswer, is_fail, is_uncond}
 use Rattle.peer_machine.specs.Rows.{Calls, first, again, EndsBadly, late_success, by_failure, by_idle_unsure, late_accept, by_reject}
 use Rattle.peer_machine.specs.Rows.{PeerRow, begins, ended, rests, drops, waits, identifies, notifies, naks, resends, ends_well, ends_badly, method_replies, method_fails}
-use Rattle.peer_machine.proofs.Hearing.{PeerHearing, as_it_is, bad, expresses, peer_hears_so}
-use Rattle.peer_machine.proofs.Hearing as hearing
+use Rattle.peer_machine.proofs.Receiving.{PeerReceiving, as_it_is, bad, expresses, peer_receives_so}
+use Rattle.peer_machine.proofs.Receiving as receiving
 use Rattle.peer_machine.proofs.PeerRows.{peer_answers_are_rows}
 
 not_both : (d : Decision) → is_fail d ≡ true → is_uncond d ≡ true → ⊥
@@ -58,14 +58,14 @@ module _ (now : PeerNow) (won : HasUnconditionalSuccess now) where
   expanded_stays out wins None = wins
   expanded_stays out wins (Some packet) = record { kind = wins.kind; selected = wins.selected; over = wins.over; sure = wins.sure; stands = wins.stands }
 
-  hearing_wins : (bytes : List ℕ) (out : PeerAnswer) → PeerHearing now bytes out → HasUnconditionalSuccess out.after
+  hearing_wins : (bytes : List ℕ) (out : PeerAnswer) → PeerReceiving now bytes out → HasUnconditionalSuccess out.after
   hearing_wins bytes _ as_it_is = of_octets bytes
   hearing_wins bytes _ (bad id kind body asks is_bad) = won
-  hearing_wins bytes _ (hearing.again id kind body asks last) = of_octets _
+  hearing_wins bytes _ (receiving.again id kind body asks last) = of_octets _
   hearing_wins bytes _ (expresses id kind body asks new) = expanded_stays _ (of_octets _) _
 
 pub unconditional_success_stays : UnconditionalSuccessStays
-unconditional_success_stays now (octets bytes) won no_reject no_restart = hearing_wins now won bytes _ (peer_hears_so now bytes)
+unconditional_success_stays now (octets bytes) won no_reject no_restart = hearing_wins now won bytes _ (peer_receives_so now bytes)
 unconditional_success_stays now idle won no_reject no_restart = answer_stays now won idle no_reject no_restart
 unconditional_success_stays now alt_accept won no_reject no_restart = answer_stays now won alt_accept no_reject no_restart
 unconditional_success_stays now alt_reject won no_reject no_restart = answer_stays now won alt_reject no_reject no_restart

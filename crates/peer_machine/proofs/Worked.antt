@@ -7,12 +7,12 @@ use Rattle.eap_packet.specs.declared.cause.Cause.TheVariants.{BadExpanded}
 use Rattle.eap_packet.specs.declared.state.State.TheVariants.{GetMethod, Identity}
 use Rattle.login_policy.specs.Policy.{nak_of}
 use Rattle.login_policy.specs.Expanded.{nak_entries}
-use Rattle.peer_machine.specs.Expanded.{peer_hears}
-use Rattle.peer_machine.specs.PeerTable.{PeerNow, PeerAnswer, peer_made, peer_deliver, peer_discard, peer_respond, peer_retransmit}
+use Rattle.peer_machine.specs.Expanded.{peer_receives}
+use Rattle.peer_machine.specs.PeerTable.{PeerNow, PeerAnswer, initial_peer, peer_deliver, peer_discard, peer_respond, peer_retransmit}
 
 -- a peer that allows EAP-GPSK and EAP-PSK and is named "a"
 abbrev peer : PeerSetup → PeerNow
-peer setup = peer_made (record setup { name = 97 ∷ []; methods = 51 ∷ 47 ∷ [] })
+peer setup = initial_peer (record setup { name = 97 ∷ []; methods = 51 ∷ 47 ∷ [] })
 
 abbrev reading : PeerSetup → PeerNow
 reading setup = peer (record setup { expanded = true })
@@ -33,24 +33,24 @@ expanded_nak =
 abbrev plain_nak : List ℕ
 plain_nak = 2 ∷ 9 ∷ 0 ∷ 7 ∷ 3 ∷ 51 ∷ 47 ∷ []
 
-vendor_is_refused : (setup : PeerSetup) → peer_hears (reading setup) vendor_request ≡ peer_respond (reading setup) GetMethod 9 expanded_nak
-unfolding peer_hears peer_deliver packet_of fault spelled nak_of nak_entries
+vendor_is_refused : (setup : PeerSetup) → peer_receives (reading setup) vendor_request ≡ peer_respond (reading setup) GetMethod 9 expanded_nak
+unfolding peer_receives peer_deliver packet_of fault spelled nak_of nak_entries
 vendor_is_refused setup = refl
 
-vendor_is_any_type : (setup : PeerSetup) → peer_hears (other setup) vendor_request ≡ peer_respond (other setup) GetMethod 9 plain_nak
-unfolding peer_hears peer_deliver packet_of fault spelled nak_of
+vendor_is_any_type : (setup : PeerSetup) → peer_receives (other setup) vendor_request ≡ peer_respond (other setup) GetMethod 9 plain_nak
+unfolding peer_receives peer_deliver packet_of fault spelled nak_of
 vendor_is_any_type setup = refl
 
 -- one octet of Type-Data
 abbrev short_request : List ℕ
 short_request = 1 ∷ 9 ∷ 0 ∷ 6 ∷ 254 ∷ 0 ∷ []
 
-short_is_bad : (setup : PeerSetup) → peer_hears (reading setup) short_request ≡ peer_discard (reading setup) BadExpanded
-unfolding peer_hears packet_of fault
+short_is_bad : (setup : PeerSetup) → peer_receives (reading setup) short_request ≡ peer_discard (reading setup) BadExpanded
+unfolding peer_receives packet_of fault
 short_is_bad setup = refl
 
-short_is_any_type : (setup : PeerSetup) → peer_hears (other setup) short_request ≡ peer_respond (other setup) GetMethod 9 plain_nak
-unfolding peer_hears peer_deliver packet_of fault spelled nak_of
+short_is_any_type : (setup : PeerSetup) → peer_receives (other setup) short_request ≡ peer_respond (other setup) GetMethod 9 plain_nak
+unfolding peer_receives peer_deliver packet_of fault spelled nak_of
 short_is_any_type setup = refl
 
 -- an Identity Request, wrapped and plain, and the Identity Response wrapped
@@ -66,23 +66,23 @@ wrapped_name = 2 ∷ 1 ∷ 0 ∷ 13 ∷ 254 ∷ 0 ∷ 0 ∷ 0 ∷ 0 ∷ 0 ∷ 0 
 abbrev after_identity : PeerSetup → PeerAnswer
 after_identity setup = peer_respond (reading setup) Identity 1 wrapped_name
 
-identity_is_wrapped : (setup : PeerSetup) → peer_hears (reading setup) wrapped_identity ≡ after_identity setup
-unfolding peer_hears peer_deliver packet_of fault spelled
+identity_is_wrapped : (setup : PeerSetup) → peer_receives (reading setup) wrapped_identity ≡ after_identity setup
+unfolding peer_receives peer_deliver packet_of fault spelled
 identity_is_wrapped setup = refl
 
 -- repeated in either form it is answered by the same octets
-again_wrapped : (setup : PeerSetup) → (let now = (after_identity setup).after in peer_hears now wrapped_identity ≡ peer_retransmit now)
-unfolding peer_hears peer_deliver packet_of fault spelled
+again_wrapped : (setup : PeerSetup) → (let now = (after_identity setup).after in peer_receives now wrapped_identity ≡ peer_retransmit now)
+unfolding peer_receives peer_deliver packet_of fault spelled
 again_wrapped setup = refl
 
-again_plain : (setup : PeerSetup) → (let now = (after_identity setup).after in peer_hears now plain_identity ≡ peer_retransmit now)
-unfolding peer_hears peer_deliver packet_of fault
+again_plain : (setup : PeerSetup) → (let now = (after_identity setup).after in peer_receives now plain_identity ≡ peer_retransmit now)
+unfolding peer_receives peer_deliver packet_of fault
 again_plain setup = refl
 
 sends_it_again : (setup : PeerSetup) → (peer_retransmit (after_identity setup).after).step.sent ≡ Some wrapped_name
 sends_it_again setup = refl
 
 -- without Expanded Types the wrapped one is a Type that isn't allowed
-identity_is_any_type : (setup : PeerSetup) → (peer_hears (other setup) wrapped_identity).step.sent ≡ Some (2 ∷ 1 ∷ 0 ∷ 7 ∷ 3 ∷ 51 ∷ 47 ∷ [])
-unfolding peer_hears peer_deliver packet_of fault spelled nak_of
+identity_is_any_type : (setup : PeerSetup) → (peer_receives (other setup) wrapped_identity).step.sent ≡ Some (2 ∷ 1 ∷ 0 ∷ 7 ∷ 3 ∷ 51 ∷ 47 ∷ [])
+unfolding peer_receives peer_deliver packet_of fault spelled nak_of
 identity_is_any_type setup = refl

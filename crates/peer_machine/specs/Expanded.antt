@@ -23,13 +23,13 @@ express methods octets =
     if type_of octets == nak_kind then expanded_nak_response (slice_index octets 1) methods else expanded_form octets
 
 -- a Response is sent, and stored for RETRANSMIT, as it is expressed
-abbrev pub keeps_sent : PeerAnswer → List ℕ → PeerAnswer
-keeps_sent out octets =
+abbrev pub stores_sent : PeerAnswer → List ℕ → PeerAnswer
+stores_sent out octets =
     answer (record out.step { sent = Some octets }) (with_vars out.after (record out.after.vars { last_response = octets }))
 
 abbrev pub expanded_answer : PeerAnswer → Option (List ℕ) → PeerAnswer
 expanded_answer out None = out
-expanded_answer out (Some octets) = keeps_sent out (express out.after.vars.setup.methods octets)
+expanded_answer out (Some octets) = stores_sent out (express out.after.vars.setup.methods octets)
 
 -- RETRANSMIT sends lastRespData unchanged
 abbrev pub expressed_unless : Bool → PeerAnswer → PeerAnswer
@@ -50,7 +50,7 @@ peer_reads now octets (Ok (request id kind body)) = reads_request now octets id 
 peer_reads now octets packet = peer_deliver now octets
 
 -- a delivery, read so if the settings say so
-unfoldable pub peer_hears : PeerNow → List ℕ → PeerAnswer
-peer_hears now octets =
+unfoldable pub peer_receives : PeerNow → List ℕ → PeerAnswer
+peer_receives now octets =
     if now.vars.setup.expanded && not (is_end now.vars.state) then peer_reads now octets (packet_of octets)
     else peer_deliver now octets

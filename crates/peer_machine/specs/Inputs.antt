@@ -2,7 +2,7 @@
 use Rattle.std.specs.Prelude.{ℕ, List, [], if◌then◌else◌}
 use Rattle.eap_method.specs.Steps.{enters, is_end}
 use Rattle.eap_method.specs.Tags.{no_tags}
-use Rattle.peer_machine.specs.Expanded.{peer_hears}
+use Rattle.peer_machine.specs.Expanded.{peer_receives}
 use Rattle.peer_machine.specs.PeerTable.{PeerNow, PeerAnswer, answer, peer_restart, peer_deliver, peer_idle, peer_alt_accept, peer_alt_reject}
 
 -- octets from the server, or a report of the lower layer (section 4.1.1)
@@ -27,6 +27,6 @@ peer_answers now alt_reject = unless_ended now (peer_alt_reject now)
 peer_answers now (restart nonce) = peer_restart now nonce
 
 -- by the table, with Expanded Types if the settings say so
-abbrev pub peer_takes : PeerNow → PeerInput → PeerAnswer
-peer_takes now (octets bytes) = peer_hears now bytes
-peer_takes now input = peer_answers now input
+abbrev pub peer_accepts : PeerNow → PeerInput → PeerAnswer
+peer_accepts now (octets bytes) = peer_receives now bytes
+peer_accepts now input = peer_answers now input

@@ -3,19 +3,19 @@ use Rattle.std.specs.Prelude.{◌≡◌, ℕ, List, Bool, true, false, Some, Non
 use Rattle.eap_packet.specs.declared.state.State.{State}
 use Rattle.eap_packet.specs.declared.state.State.TheVariants as state
 use Rattle.eap_method.specs.Tags.{no_tags}
-use Rattle.peer_machine.specs.Inputs.{PeerInput, alt_reject, restart, peer_takes}
+use Rattle.peer_machine.specs.Inputs.{PeerInput, alt_reject, restart, peer_accepts}
 use Rattle.peer_machine.specs.PeerTable.{PeerNow, PeerAnswer, is_done, is_uncond}
 
 -- no variable and no view of a method changed, nothing was sent, and no tag was accepted or made
-pub record KeepsThePeer (before : PeerNow) (out : PeerAnswer) : Type 0 where
+pub record PreservesThePeer (before : PeerNow) (out : PeerAnswer) : Type 0 where
   pub all : out.after ≡ before
   pub sent : out.step.sent ≡ None
   pub tags : out.step.tags ≡ no_tags
 
 -- a discard changes nothing
-abbrev pub DiscardsKeep : Type 0
-DiscardsKeep =
-    (now : PeerNow) (input : PeerInput) → IsSome (peer_takes now input).step.cause → KeepsThePeer now (peer_takes now input)
+abbrev pub DiscardsChangeNothing : Type 0
+DiscardsChangeNothing =
+    (now : PeerNow) (input : PeerInput) → IsSome (peer_accepts now input).step.cause → PreservesThePeer now (peer_accepts now input)
 
 abbrev pub is_failed : State → Bool
 is_failed s = elim s [ state.Failure ↦ true | state.TimeoutFailure ↦ true | _ ↦ false ]
@@ -32,4 +32,4 @@ pub record HasUnconditionalSuccess (now : PeerNow) : Type 0 where
 abbrev pub UnconditionalSuccessStays : Type 0
 UnconditionalSuccessStays =
     (now : PeerNow) (input : PeerInput) → HasUnconditionalSuccess now → (input ≡ alt_reject → ⊥) → ((nonce : List ℕ) → input ≡ restart nonce → ⊥)
-    → HasUnconditionalSuccess (peer_takes now input).after
+    → HasUnconditionalSuccess (peer_accepts now input).after

@@ -18,7 +18,7 @@ use Rattle.eap_method.specs.declared.values.MethodState.TheVariants as method
 use Rattle.eap_method.specs.declared.values.Decision.{Decision}
 use Rattle.eap_method.specs.declared.values.Decision.TheVariants as decision
 use Rattle.eap_method.specs.declared.values.Report.{Report}
-use Rattle.eap_method.specs.Peer.{PeerShown, peer_kind, PeerViews, peer_views, view_of, views_begun, peer_turn, peer_report_of}
+use Rattle.eap_method.specs.Peer.{PeerShown, peer_kind, PeerViews, peer_views, view_of, views_started, peer_turn, peer_report_of}
 use Rattle.eap_method.specs.Steps.{sends, enters, discards, is_end}
 use Rattle.eap_method.specs.Tags.{no_tags}
 use Rattle.peer_machine.specs.declared.variables.PeerVariables.{PeerVariables}
@@ -50,8 +50,8 @@ abbrev pub with_vars : PeerNow → PeerVariables → PeerNow
 with_vars now vars = record now { vars = vars }
 
 -- INITIALIZE (section 4.5): no method is selected, and the methods that are allowed have begun
-abbrev pub vars_begun : PeerSetup → PeerVariables
-vars_begun setup = record {
+abbrev pub initial_vars : PeerSetup → PeerVariables
+initial_vars setup = record {
   setup = setup;
   state = state.Idle;
   selected = None;
@@ -61,16 +61,16 @@ vars_begun setup = record {
   last_response = [];
 }
 
-abbrev pub peer_made : PeerSetup → PeerNow
-peer_made setup = record { vars = vars_begun setup; views = views_begun setup }
+abbrev pub initial_peer : PeerSetup → PeerNow
+initial_peer setup = record { vars = initial_vars setup; views = views_started setup }
 
 -- the settings with this nonce
-abbrev pub own_nonce : PeerSetup → List ℕ → PeerSetup
-own_nonce setup nonce = record setup { nonce = nonce }
+abbrev pub setup_with_nonce : PeerSetup → List ℕ → PeerSetup
+setup_with_nonce setup nonce = record setup { nonce = nonce }
 
 -- a new conversation with it: every variable and the view of each allowed method as INITIALIZE sets it
 unfoldable pub peer_restart : PeerNow → List ℕ → PeerAnswer
-peer_restart now nonce = answer (enters (state.Initialize ∷ state.Idle ∷ []) no_tags) (peer_made (own_nonce now.vars.setup nonce))
+peer_restart now nonce = answer (enters (state.Initialize ∷ state.Idle ∷ []) no_tags) (initial_peer (setup_with_nonce now.vars.setup nonce))
 
 -- whether the Identifier is lastId
 abbrev pub is_last_id : Option ℕ → ℕ → Bool

@@ -17,7 +17,7 @@ use Rattle.peer_machine.specs.Inputs.{PeerInput, octets, idle, alt_accept, alt_r
 use Rattle.peer_machine.specs.PeerTable.{PeerNow, PeerAnswer, answer, is_last_id, is_done, is_cont, is_fail, is_uncond, before_method, peer_respond, peer_restart, peer_retransmit, peer_ends, identity_response, notification_response, nak_response}
 
 -- this packet has come to a peer that has not ended; its Identifier is lastId, or isn't
-pub record Hears (now : PeerNow) (bytes : List ℕ) (id : ℕ) (packet : PacketValue) (is_last : Bool) : Type 0 where
+pub record Receives (now : PeerNow) (bytes : List ℕ) (id : ℕ) (packet : PacketValue) (is_last : Bool) : Type 0 where
   pub going : is_end now.vars.state ≡ false
   pub is_packet : packet_of bytes ≡ Ok packet
   pub last : is_last_id now.vars.last_id id ≡ is_last
@@ -39,35 +39,35 @@ discard_path selects = before_method selects ++ state.Method ∷ state.Discard �
 pub data Drops (now : PeerNow) (bytes : List ℕ) : Cause → List State → Type 0 where
   no_packet : (c : Cause) (is_fault : packet_of bytes ≡ Err c) → Drops now bytes c unheard
   no_request : (id kind : ℕ) (body : List ℕ) (is_packet : packet_of bytes ≡ Ok (response id kind body)) → Drops now bytes cause.WrongRole unheard
-  other_success : (id : ℕ) (heard : Hears now bytes id (success id) false) → Drops now bytes cause.IdMismatch unheard
-  other_failure : (id : ℕ) (heard : Hears now bytes id (failure id) false) → Drops now bytes cause.IdMismatch unheard
-  early_success : (id : ℕ) (heard : Hears now bytes id (success id) true) (fails : is_fail now.vars.decision ≡ true)
+  other_success : (id : ℕ) (heard : Receives now bytes id (success id) false) → Drops now bytes cause.IdMismatch unheard
+  other_failure : (id : ℕ) (heard : Receives now bytes id (failure id) false) → Drops now bytes cause.IdMismatch unheard
+  early_success : (id : ℕ) (heard : Receives now bytes id (success id) true) (fails : is_fail now.vars.decision ≡ true)
       (goes_on : is_cont now.vars.method_state ≡ true) → Drops now bytes cause.EarlySuccess unheard
-  late_failure : (id : ℕ) (heard : Hears now bytes id (failure id) true) (sure : is_uncond now.vars.decision ≡ true) → Drops now bytes cause.LateFailure unheard
-  early_failure : (id : ℕ) (heard : Hears now bytes id (failure id) true) (unsure : is_uncond now.vars.decision ≡ false)
+  late_failure : (id : ℕ) (heard : Receives now bytes id (failure id) true) (sure : is_uncond now.vars.decision ≡ true) → Drops now bytes cause.LateFailure unheard
+  early_failure : (id : ℕ) (heard : Receives now bytes id (failure id) true) (unsure : is_uncond now.vars.decision ≡ false)
       (goes_on : is_cont now.vars.method_state ≡ true) → Drops now bytes cause.EarlyFailure unheard
-  late_notification : (id kind selected : ℕ) (body : List ℕ) (heard : Hears now bytes id (request id kind body) false)
+  late_notification : (id kind selected : ℕ) (body : List ℕ) (heard : Receives now bytes id (request id kind body) false)
       (is_selected : now.vars.selected ≡ Some selected) (is_notification : kind ≡ notification_kind) → Drops now bytes cause.NotAllowed unheard
-  other_method : (id kind selected : ℕ) (body : List ℕ) (heard : Hears now bytes id (request id kind body) false)
+  other_method : (id kind selected : ℕ) (body : List ℕ) (heard : Receives now bytes id (request id kind body) false)
       (is_selected : now.vars.selected ≡ Some selected) (other : (kind == selected) ≡ false) (no_notification : (kind == notification_kind) ≡ false)
       → Drops now bytes cause.OtherMethod unheard
-  done_method : (id kind : ℕ) (body : List ℕ) (heard : Hears now bytes id (request id kind body) false)
+  done_method : (id kind : ℕ) (body : List ℕ) (heard : Receives now bytes id (request id kind body) false)
       (is_selected : now.vars.selected ≡ Some kind) (is_over : is_done now.vars.method_state ≡ true) → Drops now bytes cause.MethodDone unheard
-  by_method : (selects : Bool) (id kind : ℕ) (body : List ℕ) (c : Cause) (views : PeerViews) (heard : Hears now bytes id (request id kind body) false)
+  by_method : (selects : Bool) (id kind : ℕ) (body : List ℕ) (c : Cause) (views : PeerViews) (heard : Receives now bytes id (request id kind body) false)
       (calls : Calls now kind selects) (turn : peer_turn kind now.views (spelled (request id kind body)) ≡ record { turn = Discard c; after = views })
       → Drops now bytes c (discard_path selects)
 
 -- the peer may end in SUCCESS
 pub data EndsWell (now : PeerNow) : PeerInput → List State → Type 0 where
-  by_success : (bytes : List ℕ) (id : ℕ) (heard : Hears now bytes id (success id) true) → EndsWell now (octets bytes) (state.Received ∷ [])
+  by_success : (bytes : List ℕ) (id : ℕ) (heard : Receives now bytes id (success id) true) → EndsWell now (octets bytes) (state.Received ∷ [])
   by_idle : (sure : is_uncond now.vars.decision ≡ true) → EndsWell now idle []
   by_accept : EndsWell now alt_accept []
 
 -- the peer ends in FAILURE without a method's turn
 pub data EndsBadly (now : PeerNow) : PeerInput → List State → Type 0 where
-  late_success : (bytes : List ℕ) (id : ℕ) (heard : Hears now bytes id (success id) true) (fails : is_fail now.vars.decision ≡ true)
+  late_success : (bytes : List ℕ) (id : ℕ) (heard : Receives now bytes id (success id) true) (fails : is_fail now.vars.decision ≡ true)
       (over : is_cont now.vars.method_state ≡ false) → EndsBadly now (octets bytes) (state.Received ∷ [])
-  by_failure : (bytes : List ℕ) (id : ℕ) (heard : Hears now bytes id (failure id) true) (unsure : is_uncond now.vars.decision ≡ false)
+  by_failure : (bytes : List ℕ) (id : ℕ) (heard : Receives now bytes id (failure id) true) (unsure : is_uncond now.vars.decision ≡ false)
       (over : is_cont now.vars.method_state ≡ false) → EndsBadly now (octets bytes) (state.Received ∷ [])
   by_idle_unsure : (unsure : is_uncond now.vars.decision ≡ false) → EndsBadly now idle []
   late_accept : (fails : is_fail now.vars.decision ≡ true) (over : is_cont now.vars.method_state ≡ false) → EndsBadly now alt_accept []
@@ -88,18 +88,18 @@ pub data PeerRow (now : PeerNow) : PeerInput → PeerAnswer → Type 0 where
   waits : (going : is_end now.vars.state ≡ false) (fails : is_fail now.vars.decision ≡ true) (goes_on : is_cont now.vars.method_state ≡ true)
       → PeerRow now alt_accept (answer (enters [] no_tags) now)
   -- IDENTITY, NOTIFICATION, and GET_METHOD with a Nak, while no method is selected
-  identifies : (bytes : List ℕ) (id kind : ℕ) (body : List ℕ) (heard : Hears now bytes id (request id kind body) false)
+  identifies : (bytes : List ℕ) (id kind : ℕ) (body : List ℕ) (heard : Receives now bytes id (request id kind body) false)
       (unselected : now.vars.selected ≡ None) (is_identity : kind ≡ identity_kind)
       → PeerRow now (octets bytes) (peer_respond now state.Identity id (identity_response id now.vars.setup.name))
-  notifies : (bytes : List ℕ) (id kind : ℕ) (body : List ℕ) (heard : Hears now bytes id (request id kind body) false)
+  notifies : (bytes : List ℕ) (id kind : ℕ) (body : List ℕ) (heard : Receives now bytes id (request id kind body) false)
       (unselected : now.vars.selected ≡ None) (is_notification : kind ≡ notification_kind)
       → PeerRow now (octets bytes) (peer_respond now state.Notification id (notification_response id))
-  naks : (bytes : List ℕ) (id kind : ℕ) (body : List ℕ) (heard : Hears now bytes id (request id kind body) false)
+  naks : (bytes : List ℕ) (id kind : ℕ) (body : List ℕ) (heard : Receives now bytes id (request id kind body) false)
       (unselected : now.vars.selected ≡ None) (no_identity : (kind == identity_kind) ≡ false) (no_notification : (kind == notification_kind) ≡ false)
       (barred : is_among now.vars.setup.methods kind ≡ false)
       → PeerRow now (octets bytes) (peer_respond now state.GetMethod id (nak_response id now.vars.setup.methods))
   -- RETRANSMIT
-  resends : (bytes : List ℕ) (id kind : ℕ) (body : List ℕ) (heard : Hears now bytes id (request id kind body) true)
+  resends : (bytes : List ℕ) (id kind : ℕ) (body : List ℕ) (heard : Receives now bytes id (request id kind body) true)
       → PeerRow now (octets bytes) (peer_retransmit now)
   -- SUCCESS and FAILURE
   ends_well : (input : PeerInput) (entered : List State) (going : is_end now.vars.state ≡ false) (sure : is_fail now.vars.decision ≡ false)
@@ -108,14 +108,14 @@ pub data PeerRow (now : PeerNow) : PeerInput → PeerAnswer → Type 0 where
       → PeerRow now input (peer_ends now entered state.Failure)
   -- METHOD: a Response, or FAILURE of a method that is over and has failed
   method_replies : (bytes : List ℕ) (selects : Bool) (id kind : ℕ) (body packet : List ℕ) (m : MethodState) (d : Decision) (tags : Tags) (views : PeerViews)
-      (heard : Hears now bytes id (request id kind body) false) (calls : Calls now kind selects)
+      (heard : Receives now bytes id (request id kind body) false) (calls : Calls now kind selects)
       (turn : peer_turn kind now.views (spelled (request id kind body)) ≡ record { turn = Reply packet m d tags; after = views })
       (goes_on : (is_done m && is_fail d) ≡ false)
       → PeerRow now (octets bytes)
       (answer (sends (before_method selects ++ state.Method ∷ state.SendResponse ∷ state.Idle ∷ []) packet tags)
       (record { vars = record now.vars { selected = Some kind; method_state = m; decision = d; last_id = Some id; last_response = packet }; views = views }))
   method_fails : (bytes : List ℕ) (selects : Bool) (id kind : ℕ) (body packet : List ℕ) (m : MethodState) (d : Decision) (tags : Tags) (views : PeerViews)
-      (heard : Hears now bytes id (request id kind body) false) (calls : Calls now kind selects)
+      (heard : Receives now bytes id (request id kind body) false) (calls : Calls now kind selects)
       (turn : peer_turn kind now.views (spelled (request id kind body)) ≡ record { turn = Reply packet m d tags; after = views })
       (has_failed : (is_done m && is_fail d) ≡ true)
       → PeerRow now (octets bytes)

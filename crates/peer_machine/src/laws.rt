@@ -1,13 +1,13 @@
 //! Laws of the peer (RFC 4137 section 4). Each is the contract of a function that does nothing.
 
-ghost use Rattle.peer_machine.specs.Laws.{DiscardsKeep, UnconditionalSuccessStays};
+ghost use Rattle.peer_machine.specs.Laws.{DiscardsChangeNothing, UnconditionalSuccessStays};
 ghost use Rattle.peer_machine.specs.Rows.{PeerAnswersAreRows};
 
 /// An input that is discarded changes no variable and no method's view, sends nothing and makes no
 /// record.
-#[tactic(auto, using(crate::proofs::Discards::discards_keep))]
-pub fn discards_keep()
-    ensures { DiscardsKeep }
+#[tactic(auto, using(crate::proofs::Discards::discards_change_nothing))]
+pub fn discards_change_nothing()
+    ensures { DiscardsChangeNothing }
 {}
 
 /// What the peer does at every input is one transition of its table, with all that is then known.

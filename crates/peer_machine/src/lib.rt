@@ -5,7 +5,7 @@ mod laws;
 mod machine;
 mod variables;
 
-pub use laws::{answers_are_rows, discards_keep, unconditional_success_stays};
+pub use laws::{answers_are_rows, discards_change_nothing, unconditional_success_stays};
 pub use machine::PeerMachine;
 pub use variables::PeerVariables;
 

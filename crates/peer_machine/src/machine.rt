@@ -30,11 +30,11 @@ ghost use Rattle.eap_packet.specs.Packet as packets;
 ghost use Rattle.eap_packet.specs.declared.state.State.TheVariants.{Received, Method, Discard, Idle, Failure, Retransmit, SendResponse};
 ghost use Rattle.eap_method.specs.PeerTurn.{peer_turn_with, peer_tags};
 ghost use Rattle.eap_method.specs.Plain.{plain_octets};
-ghost use Rattle.eap_method.specs.Room.{HasRoom, replies};
+ghost use Rattle.eap_method.specs.Capacity.{HasCapacity, replies};
 ghost use Rattle.eap_method.specs.Steps.{step_with};
 ghost use Rattle.eap_method.specs.Tags.{no_tags};
 ghost use Rattle.eap_method.specs.Tags as records;
-ghost use Rattle.eap_method.specs.Unnamed.{KeepsPeers};
+ghost use Rattle.eap_method.specs.Unnamed.{PreservesPeers};
 ghost use Rattle.peer_machine.specs.Expanded.{express};
 ghost use Rattle.peer_machine.specs.PeerTable.{before_method, method_answers, views_after, answer, is_allowed, first_of, selected_shown, selected_view};
 ghost use Rattle.eap_method.specs.Peer.{IsRequest, PeerShown, PeerViews, have_each, peer_views, peer_turn, peer_kinds};
@@ -42,12 +42,12 @@ ghost use Rattle.eap_method.specs.Peer.{IsRequest, PeerShown, PeerViews, have_ea
 use crate::PeerStep;
 use crate::variables::PeerVariables;
 use eap_method::{
-    Decision, MethodState, PeerAnswer, PeerMethod, Records, Report, Step, Tags, begin_peers,
-    hand_to_peer, has_ended, peer_report,
+    Decision, MethodState, PeerAnswer, PeerMethod, Records, Report, Step, Tags, call_peer_method,
+    has_ended, peer_report, start_peers,
 };
 use eap_packet::{
-    Cause, Code, PacketView, State, begin_into, decode, encode_into, is_bad_expanded,
-    wrap_in_place, write_plain,
+    Cause, Code, PacketView, State, decode, encode_into, init_into, is_bad_expanded, wrap_in_place,
+    write_plain,
 };
 use login_policy::{expanded_nak, nak_list, peer_allows};
 use login_setup::PeerSetup;
@@ -77,8 +77,8 @@ impl<M> Model for PeerMachine<M> {
 
 impl<M: PeerMethod> PeerMachine<M> {
     ghost use Rattle.eap_method.specs.Steps.{is_end};
-    ghost use Rattle.peer_machine.specs.PeerTable.{now_of, own_nonce, peer_made, peer_restart, peer_deliver, peer_idle, peer_alt_accept, peer_alt_reject, peer_reports, peer_row, peer_success, peer_failure, new_request, peer_method, is_last_id};
-    ghost use Rattle.peer_machine.specs.Expanded.{peer_hears, reads_request, expressed_unless};
+    ghost use Rattle.peer_machine.specs.PeerTable.{now_of, setup_with_nonce, initial_peer, peer_restart, peer_deliver, peer_idle, peer_alt_accept, peer_alt_reject, peer_reports, peer_row, peer_success, peer_failure, new_request, peer_method, is_last_id};
+    ghost use Rattle.peer_machine.specs.Expanded.{peer_receives, reads_request, expressed_unless};
 
     /// INITIALIZE (RFC 4137 section 4.5): begins the objects of the methods that the setup allows; the peer is then in
     /// IDLE. Each of these methods has an object.
@@ -86,11 +86,11 @@ impl<M: PeerMethod> PeerMachine<M> {
         requires sound { IsSoundPeer setup }
         requires keys { HasKeys setup }
         requires objects { have_each (peer_kinds (map M.peer_shown methods.items)) setup.methods ≡ true }
-        ensures made { now_of M.peer_shown result ≡ peer_made setup }
-        ensures kept { KeepsPeers setup.methods (map M.peer_shown methods.items) (map M.peer_shown result.methods) }
+        ensures made { now_of M.peer_shown result ≡ initial_peer setup }
+        ensures kept { PreservesPeers setup.methods (map M.peer_shown methods.items) (map M.peer_shown result.methods) }
     {
         let mut methods = methods;
-        begin_peers(methods.as_mut_slice(), &setup);
+        start_peers(methods.as_mut_slice(), &setup);
         PeerMachine {
             vars: PeerVariables {
                 setup,
@@ -112,11 +112,11 @@ impl<M: PeerMethod> PeerMachine<M> {
     pub fn restart_step(&mut self, nonce: &Nonce) -> Step
         requires objects { have_each (peer_kinds (map M.peer_shown self.old.methods)) self.old.vars.setup.methods ≡ true }
         ensures step { peer_restart (now_of M.peer_shown self.old) nonce.now ≡ answer (step_with result [] no_tags) (now_of M.peer_shown self.new) }
-        ensures kept { KeepsPeers self.old.vars.setup.methods (map M.peer_shown self.old.methods) (map M.peer_shown self.new.methods) }
-        ensures setup { self.new.vars.setup ≡ own_nonce self.old.vars.setup nonce.now }
+        ensures kept { PreservesPeers self.old.vars.setup.methods (map M.peer_shown self.old.methods) (map M.peer_shown self.new.methods) }
+        ensures setup { self.new.vars.setup ≡ setup_with_nonce self.old.vars.setup nonce.now }
     {
         self.vars.setup.nonce = *nonce;
-        begin_peers(self.methods.as_mut_slice(), &self.vars.setup);
+        start_peers(self.methods.as_mut_slice(), &self.vars.setup);
         self.vars.state = State::Idle;
         self.vars.selected = None;
         self.vars.method_state = MethodState::NotSet;
@@ -139,22 +139,22 @@ impl<M: PeerMethod> PeerMachine<M> {
     /// answered in either form by what was sent last, unchanged. A Request of Type 254 that no party accepts is
     /// silently discarded for BadExpanded, unless the peer has ended: one with under 7 octets of
     /// Type-Data, or an Expanded Nak. What isn't a Request of Type 254 is handled as without `expanded`.
-    #[tactic(auto, unfolding(crate::specs::Expanded::peer_hears))]
+    #[tactic(auto, unfolding(crate::specs::Expanded::peer_receives))]
     pub fn deliver_step<R: Records>(
         &mut self,
         octets: &[u8],
         packet: &mut Packet,
         tags: &mut Tags<R>,
     ) -> Step
-        ensures step { peer_hears (now_of M.peer_shown self.old) octets.now ≡ answer (step_with result packet.new tags.new) (now_of M.peer_shown self.new) }
-        ensures kept { KeepsPeers self.old.vars.setup.methods (map M.peer_shown self.old.methods) (map M.peer_shown self.new.methods) }
+        ensures step { peer_receives (now_of M.peer_shown self.old) octets.now ≡ answer (step_with result packet.new tags.new) (now_of M.peer_shown self.new) }
+        ensures kept { PreservesPeers self.old.vars.setup.methods (map M.peer_shown self.old.methods) (map M.peer_shown self.new.methods) }
         ensures setup { self.new.vars.setup ≡ self.old.vars.setup }
     {
         tags.clear();
         if self.vars.setup.expanded {
             self.read(octets, packet, tags)
         } else {
-            self.take_octets(octets, packet, tags)
+            self.receive_octets(octets, packet, tags)
         }
     }
 
@@ -164,7 +164,7 @@ impl<M: PeerMethod> PeerMachine<M> {
     pub fn idle_step(&mut self) -> Step
         requires { is_end self.old.vars.state ≡ false }
         ensures step { peer_idle (now_of M.peer_shown self.old) ≡ answer (step_with result [] no_tags) (now_of M.peer_shown self.new) }
-        ensures kept { KeepsPeers self.old.vars.setup.methods (map M.peer_shown self.old.methods) (map M.peer_shown self.new.methods) }
+        ensures kept { PreservesPeers self.old.vars.setup.methods (map M.peer_shown self.old.methods) (map M.peer_shown self.new.methods) }
         ensures setup { self.new.vars.setup ≡ self.old.vars.setup }
     {
         if self.vars.decision == Decision::UncondSucc {
@@ -180,7 +180,7 @@ impl<M: PeerMethod> PeerMachine<M> {
     pub fn alt_accept_step(&mut self) -> Step
         requires { is_end self.old.vars.state ≡ false }
         ensures step { peer_alt_accept (now_of M.peer_shown self.old) ≡ answer (step_with result [] no_tags) (now_of M.peer_shown self.new) }
-        ensures kept { KeepsPeers self.old.vars.setup.methods (map M.peer_shown self.old.methods) (map M.peer_shown self.new.methods) }
+        ensures kept { PreservesPeers self.old.vars.setup.methods (map M.peer_shown self.old.methods) (map M.peer_shown self.new.methods) }
         ensures setup { self.new.vars.setup ≡ self.old.vars.setup }
     {
         if self.vars.decision != Decision::Fail {
@@ -197,7 +197,7 @@ impl<M: PeerMethod> PeerMachine<M> {
     pub fn alt_reject_step(&mut self) -> Step
         requires { is_end self.old.vars.state ≡ false }
         ensures step { peer_alt_reject (now_of M.peer_shown self.old) ≡ answer (step_with result [] no_tags) (now_of M.peer_shown self.new) }
-        ensures kept { KeepsPeers self.old.vars.setup.methods (map M.peer_shown self.old.methods) (map M.peer_shown self.new.methods) }
+        ensures kept { PreservesPeers self.old.vars.setup.methods (map M.peer_shown self.old.methods) (map M.peer_shown self.new.methods) }
         ensures setup { self.new.vars.setup ≡ self.old.vars.setup }
     {
         end(&mut self.vars, State::Failure)
@@ -207,16 +207,16 @@ impl<M: PeerMethod> PeerMachine<M> {
     pub fn restart(&mut self, nonce: &Nonce) -> PeerStep
         requires objects { have_each (peer_kinds (map M.peer_shown self.old.methods)) self.old.vars.setup.methods ≡ true }
         ensures step { peer_restart (now_of M.peer_shown self.old) nonce.now ≡ answer result (now_of M.peer_shown self.new) }
-        ensures kept { KeepsPeers self.old.vars.setup.methods (map M.peer_shown self.old.methods) (map M.peer_shown self.new.methods) }
-        ensures setup { self.new.vars.setup ≡ own_nonce self.old.vars.setup nonce.now }
+        ensures kept { PreservesPeers self.old.vars.setup.methods (map M.peer_shown self.old.methods) (map M.peer_shown self.new.methods) }
+        ensures setup { self.new.vars.setup ≡ setup_with_nonce self.old.vars.setup nonce.now }
     {
         self.restart_step(nonce).alone()
     }
 
     /// [`deliver_step`](PeerMachine::deliver_step), with the packet and the records in its answer.
     pub fn deliver(&mut self, octets: &[u8]) -> PeerStep
-        ensures step { peer_hears (now_of M.peer_shown self.old) octets.now ≡ answer result (now_of M.peer_shown self.new) }
-        ensures kept { KeepsPeers self.old.vars.setup.methods (map M.peer_shown self.old.methods) (map M.peer_shown self.new.methods) }
+        ensures step { peer_receives (now_of M.peer_shown self.old) octets.now ≡ answer result (now_of M.peer_shown self.new) }
+        ensures kept { PreservesPeers self.old.vars.setup.methods (map M.peer_shown self.old.methods) (map M.peer_shown self.new.methods) }
         ensures setup { self.new.vars.setup ≡ self.old.vars.setup }
     {
         let mut packet = Packet::new();
@@ -229,7 +229,7 @@ impl<M: PeerMethod> PeerMachine<M> {
     pub fn idle(&mut self) -> PeerStep
         requires { is_end self.old.vars.state ≡ false }
         ensures step { peer_idle (now_of M.peer_shown self.old) ≡ answer result (now_of M.peer_shown self.new) }
-        ensures kept { KeepsPeers self.old.vars.setup.methods (map M.peer_shown self.old.methods) (map M.peer_shown self.new.methods) }
+        ensures kept { PreservesPeers self.old.vars.setup.methods (map M.peer_shown self.old.methods) (map M.peer_shown self.new.methods) }
         ensures setup { self.new.vars.setup ≡ self.old.vars.setup }
     {
         self.idle_step().alone()
@@ -239,7 +239,7 @@ impl<M: PeerMethod> PeerMachine<M> {
     pub fn alt_accept(&mut self) -> PeerStep
         requires { is_end self.old.vars.state ≡ false }
         ensures step { peer_alt_accept (now_of M.peer_shown self.old) ≡ answer result (now_of M.peer_shown self.new) }
-        ensures kept { KeepsPeers self.old.vars.setup.methods (map M.peer_shown self.old.methods) (map M.peer_shown self.new.methods) }
+        ensures kept { PreservesPeers self.old.vars.setup.methods (map M.peer_shown self.old.methods) (map M.peer_shown self.new.methods) }
         ensures setup { self.new.vars.setup ≡ self.old.vars.setup }
     {
         self.alt_accept_step().alone()
@@ -249,7 +249,7 @@ impl<M: PeerMethod> PeerMachine<M> {
     pub fn alt_reject(&mut self) -> PeerStep
         requires { is_end self.old.vars.state ≡ false }
         ensures step { peer_alt_reject (now_of M.peer_shown self.old) ≡ answer result (now_of M.peer_shown self.new) }
-        ensures kept { KeepsPeers self.old.vars.setup.methods (map M.peer_shown self.old.methods) (map M.peer_shown self.new.methods) }
+        ensures kept { PreservesPeers self.old.vars.setup.methods (map M.peer_shown self.old.methods) (map M.peer_shown self.new.methods) }
         ensures setup { self.new.vars.setup ≡ self.old.vars.setup }
     {
         self.alt_reject_step().alone()
@@ -316,19 +316,19 @@ impl<M: PeerMethod> PeerMachine<M> {
     /// A delivery to a peer that reads Expanded Types; `tags` has no record yet. It is never inlined, so
     /// that the packets of the functions below widen no frame of a peer that doesn't.
     #[inline(never)]
-    #[tactic(auto, unfolding(crate::specs::Expanded::peer_hears))]
+    #[tactic(auto, unfolding(crate::specs::Expanded::peer_receives))]
     fn read<R: Records>(&mut self, octets: &[u8], packet: &mut Packet, tags: &mut Tags<R>) -> Step
         requires expanded { self.old.vars.setup.expanded ≡ true }
         requires tags { tags.old ≡ no_tags }
-        ensures step { peer_hears (now_of M.peer_shown self.old) octets.now ≡ answer (step_with result packet.new tags.new) (now_of M.peer_shown self.new) }
-        ensures kept { KeepsPeers self.old.vars.setup.methods (map M.peer_shown self.old.methods) (map M.peer_shown self.new.methods) }
+        ensures step { peer_receives (now_of M.peer_shown self.old) octets.now ≡ answer (step_with result packet.new tags.new) (now_of M.peer_shown self.new) }
+        ensures kept { PreservesPeers self.old.vars.setup.methods (map M.peer_shown self.old.methods) (map M.peer_shown self.new.methods) }
         ensures setup { self.new.vars.setup ≡ self.old.vars.setup }
     {
         match decode(octets) {
             Ok(view) if view.code == Code::Request && !self.ended() => {
                 self.read_request(&view, octets, packet, tags)
             }
-            _ => self.take_octets(octets, packet, tags),
+            _ => self.receive_octets(octets, packet, tags),
         }
     }
 
@@ -347,21 +347,21 @@ impl<M: PeerMethod> PeerMachine<M> {
         requires tags { tags.old ≡ no_tags }
         ensures step { reads_request (now_of M.peer_shown self.old) octets.now view.now.id view.now.kind view.now.body.now
             ≡ answer (step_with result packet.new tags.new) (now_of M.peer_shown self.new) }
-        ensures kept { KeepsPeers self.old.vars.setup.methods (map M.peer_shown self.old.methods) (map M.peer_shown self.new.methods) }
+        ensures kept { PreservesPeers self.old.vars.setup.methods (map M.peer_shown self.old.methods) (map M.peer_shown self.new.methods) }
         ensures setup { self.new.vars.setup ≡ self.old.vars.setup }
     {
         if is_bad_expanded(view) {
             discard(Cause::BadExpanded)
         } else if view.kind == EXPANDED {
-            self.take_expanded(view, octets, packet, tags)
+            self.receive_expanded(view, octets, packet, tags)
         } else {
-            self.take_octets(octets, packet, tags)
+            self.receive_octets(octets, packet, tags)
         }
     }
 
     /// A Request of Type 254 is handled in its plain form, and what is sent of that is expressed in Type 254,
     /// but for what RETRANSMIT sends. `tags` has no record yet.
-    fn take_expanded<R: Records>(
+    fn receive_expanded<R: Records>(
         &mut self,
         view: &PacketView,
         octets: &[u8],
@@ -375,11 +375,11 @@ impl<M: PeerMethod> PeerMachine<M> {
         ensures step { expressed_unless (is_last_id self.old.vars.last_id view.now.id)
             (peer_deliver (now_of M.peer_shown self.old) (plain_octets octets.now (value_of view.now)))
             ≡ answer (step_with result packet.new tags.new) (now_of M.peer_shown self.new) }
-        ensures kept { KeepsPeers self.old.vars.setup.methods (map M.peer_shown self.old.methods) (map M.peer_shown self.new.methods) }
+        ensures kept { PreservesPeers self.old.vars.setup.methods (map M.peer_shown self.old.methods) (map M.peer_shown self.new.methods) }
         ensures setup { self.new.vars.setup ≡ self.old.vars.setup }
     {
         let is_last = self.vars.last_id == Some(view.id);
-        let step = self.take_plain(view, octets, packet, tags);
+        let step = self.receive_plain(view, octets, packet, tags);
         if step.sends && !is_last {
             express(&mut self.vars, packet);
         }
@@ -389,7 +389,7 @@ impl<M: PeerMethod> PeerMachine<M> {
     /// The packet that the octets begin with is handled in its plain form, by the table; `tags` has no
     /// record yet.
     #[tactic(auto, using(crate::proofs::Identifiers::second_is_id, crate::proofs::Identifiers::plain_second_is_id))]
-    fn take_plain<R: Records>(
+    fn receive_plain<R: Records>(
         &mut self,
         view: &PacketView,
         octets: &[u8],
@@ -401,22 +401,22 @@ impl<M: PeerMethod> PeerMachine<M> {
         requires tags { tags.old ≡ no_tags }
         ensures step { peer_deliver (now_of M.peer_shown self.old) (plain_octets octets.now (value_of view.now))
             ≡ answer (step_with result packet.new tags.new) (now_of M.peer_shown self.new) }
-        ensures kept { KeepsPeers self.old.vars.setup.methods (map M.peer_shown self.old.methods) (map M.peer_shown self.new.methods) }
+        ensures kept { PreservesPeers self.old.vars.setup.methods (map M.peer_shown self.old.methods) (map M.peer_shown self.new.methods) }
         ensures setup { self.new.vars.setup ≡ self.old.vars.setup }
-        ensures room { is_last_id self.old.vars.last_id view.now.id ≡ false → result.sends ≡ true → HasRoom packet.new }
+        ensures room { is_last_id self.old.vars.last_id view.now.id ≡ false → result.sends ≡ true → HasCapacity packet.new }
     {
         let mut plain = Packet::new();
         if write_plain(view, &mut plain) {
-            self.take_octets(plain.as_slice(), packet, tags)
+            self.receive_octets(plain.as_slice(), packet, tags)
         } else {
-            self.take_octets(octets, packet, tags)
+            self.receive_octets(octets, packet, tags)
         }
     }
 
     /// A delivery, by the table alone, which handles Type 254 like any other Type. What it sends has room
     /// for an Expanded Type, but for what RETRANSMIT sends. `tags` has no record yet.
     #[tactic(auto, unfolding(crate::specs::PeerTable::peer_deliver), using(crate::proofs::Identifiers::second_is_id))]
-    fn take_octets<R: Records>(
+    fn receive_octets<R: Records>(
         &mut self,
         octets: &[u8],
         packet: &mut Packet,
@@ -424,9 +424,9 @@ impl<M: PeerMethod> PeerMachine<M> {
     ) -> Step
         requires tags { tags.old ≡ no_tags }
         ensures step { peer_deliver (now_of M.peer_shown self.old) octets.now ≡ answer (step_with result packet.new tags.new) (now_of M.peer_shown self.new) }
-        ensures kept { KeepsPeers self.old.vars.setup.methods (map M.peer_shown self.old.methods) (map M.peer_shown self.new.methods) }
+        ensures kept { PreservesPeers self.old.vars.setup.methods (map M.peer_shown self.old.methods) (map M.peer_shown self.new.methods) }
         ensures setup { self.new.vars.setup ≡ self.old.vars.setup }
-        ensures room { is_last_id self.old.vars.last_id (slice_index octets.now 1) ≡ false → result.sends ≡ true → HasRoom packet.new }
+        ensures room { is_last_id self.old.vars.last_id (slice_index octets.now 1) ≡ false → result.sends ≡ true → HasCapacity packet.new }
     {
         if self.ended() {
             return Step::discarding(&[], Cause::Ended);
@@ -450,9 +450,9 @@ impl<M: PeerMethod> PeerMachine<M> {
         requires tags { tags.old ≡ no_tags }
         ensures step { peer_row (now_of M.peer_shown self.old) (Ok (value_of view.now))
             ≡ answer (step_with result packet.new tags.new) (now_of M.peer_shown self.new) }
-        ensures kept { KeepsPeers self.old.vars.setup.methods (map M.peer_shown self.old.methods) (map M.peer_shown self.new.methods) }
+        ensures kept { PreservesPeers self.old.vars.setup.methods (map M.peer_shown self.old.methods) (map M.peer_shown self.new.methods) }
         ensures setup { self.new.vars.setup ≡ self.old.vars.setup }
-        ensures room { is_last_id self.old.vars.last_id view.now.id ≡ false → result.sends ≡ true → HasRoom packet.new }
+        ensures room { is_last_id self.old.vars.last_id view.now.id ≡ false → result.sends ≡ true → HasCapacity packet.new }
     {
         let is_last = self.vars.last_id == Some(view.id);
         match view.code {
@@ -485,7 +485,7 @@ impl<M: PeerMethod> PeerMachine<M> {
     fn success(&mut self) -> Step
         ensures step { (packet : List ℕ) → peer_success (now_of M.peer_shown self.old)
             ≡ answer (step_with result packet no_tags) (now_of M.peer_shown self.new) }
-        ensures kept { KeepsPeers self.old.vars.setup.methods (map M.peer_shown self.old.methods) (map M.peer_shown self.new.methods) }
+        ensures kept { PreservesPeers self.old.vars.setup.methods (map M.peer_shown self.old.methods) (map M.peer_shown self.new.methods) }
         ensures setup { self.new.vars.setup ≡ self.old.vars.setup }
     {
         if self.vars.decision != Decision::Fail {
@@ -501,7 +501,7 @@ impl<M: PeerMethod> PeerMachine<M> {
     fn failure(&mut self) -> Step
         ensures step { (packet : List ℕ) → peer_failure (now_of M.peer_shown self.old)
             ≡ answer (step_with result packet no_tags) (now_of M.peer_shown self.new) }
-        ensures kept { KeepsPeers self.old.vars.setup.methods (map M.peer_shown self.old.methods) (map M.peer_shown self.new.methods) }
+        ensures kept { PreservesPeers self.old.vars.setup.methods (map M.peer_shown self.old.methods) (map M.peer_shown self.new.methods) }
         ensures setup { self.new.vars.setup ≡ self.old.vars.setup }
     {
         if self.vars.decision == Decision::UncondSucc {
@@ -526,9 +526,9 @@ impl<M: PeerMethod> PeerMachine<M> {
         requires tags { tags.old ≡ no_tags }
         ensures step { new_request (now_of M.peer_shown self.old) id kind request.now self.old.vars.selected
             ≡ answer (step_with result packet.new tags.new) (now_of M.peer_shown self.new) }
-        ensures kept { KeepsPeers self.old.vars.setup.methods (map M.peer_shown self.old.methods) (map M.peer_shown self.new.methods) }
+        ensures kept { PreservesPeers self.old.vars.setup.methods (map M.peer_shown self.old.methods) (map M.peer_shown self.new.methods) }
         ensures setup { self.new.vars.setup ≡ self.old.vars.setup }
-        ensures room { result.sends ≡ true → HasRoom packet.new }
+        ensures room { result.sends ≡ true → HasCapacity packet.new }
     {
         match self.vars.selected {
             None => self.first_request(id, kind, request, packet, tags),
@@ -562,9 +562,9 @@ impl<M: PeerMethod> PeerMachine<M> {
         requires tags { tags.old ≡ no_tags }
         ensures step { new_request (now_of M.peer_shown self.old) id kind request.now None
             ≡ answer (step_with result packet.new tags.new) (now_of M.peer_shown self.new) }
-        ensures kept { KeepsPeers self.old.vars.setup.methods (map M.peer_shown self.old.methods) (map M.peer_shown self.new.methods) }
+        ensures kept { PreservesPeers self.old.vars.setup.methods (map M.peer_shown self.old.methods) (map M.peer_shown self.new.methods) }
         ensures setup { self.new.vars.setup ≡ self.old.vars.setup }
-        ensures room { result.sends ≡ true → HasRoom packet.new }
+        ensures room { result.sends ≡ true → HasCapacity packet.new }
     {
         if kind == IDENTITY {
             write_response(packet, id, IDENTITY, self.vars.setup.name.as_slice());
@@ -596,9 +596,9 @@ impl<M: PeerMethod> PeerMachine<M> {
         requires allowed { is_among self.old.vars.setup.methods kind ≡ true }
         ensures step { peer_method selects (now_of M.peer_shown self.old) kind id request.now
             ≡ answer (step_with result packet.new tags.new) (now_of M.peer_shown self.new) }
-        ensures kept { KeepsPeers self.old.vars.setup.methods (map M.peer_shown self.old.methods) (map M.peer_shown self.new.methods) }
+        ensures kept { PreservesPeers self.old.vars.setup.methods (map M.peer_shown self.old.methods) (map M.peer_shown self.new.methods) }
         ensures setup { self.new.vars.setup ≡ self.old.vars.setup }
-        ensures room { result.sends ≡ true → HasRoom packet.new }
+        ensures room { result.sends ≡ true → HasCapacity packet.new }
     {
         let turn = hand(&mut self.methods, kind, request, packet, tags);
         settle(&mut self.vars, selects, kind, id, turn, packet)
@@ -613,12 +613,12 @@ fn discard(cause: Cause) -> Step
 }
 
 /// Writes a Response of this Type and Type-Data in place of what was there.
-#[tactic(auto, using(eap_method::proofs::Rooms::response_has_room))]
+#[tactic(auto, using(eap_method::proofs::Capacities::response_has_capacity))]
 fn write_response(packet: &mut Packet, id: u8, kind: u8, body: &[u8])
     requires fits { length body.now ≤ 1488 }
     requires nak_desires { kind ≡ nak_kind → body.now ≢ [] }
     ensures response { packet.new ≡ spelled (packets.response id kind body.now) }
-    ensures room { HasRoom packet.new }
+    ensures room { HasCapacity packet.new }
 {
     encode_into(packet, Code::Response, id, kind, body);
 }
@@ -626,7 +626,7 @@ fn write_response(packet: &mut Packet, id: u8, kind: u8, body: &[u8])
 /// A Response to a Request of Type 254, written in place of the plain one that is sent: the Expanded
 /// Nak for a Nak (RFC 3748 section 5.3.2), any other wrapped (section 5.7). lastRespData is set to it.
 fn express(vars: &mut PeerVariables, packet: &mut Packet)
-    requires { HasRoom packet.old }
+    requires { HasCapacity packet.old }
     ensures packet { packet.new ≡ express vars.old.setup.methods packet.old }
     ensures vars { vars.new ≡ record vars.old { last_response = packet.new } }
 {
@@ -645,7 +645,7 @@ fn write_expanded_nak(packet: &mut Packet, id: u8, entries: &[u8])
     requires { length entries.now ≤ 16 }
     ensures { packet.new ≡ spelled (packets.response id expanded_kind (ietf ++ nak_kind ∷ entries.now)) }
 {
-    begin_into(
+    init_into(
         packet,
         Code::Response,
         id,
@@ -714,10 +714,10 @@ fn hand<M: PeerMethod, R: Records>(
         ≡ record { turn = peer_turn_with result packet.new tags.new; after = peer_views allowed (map M.peer_shown methods.new.items) } }
     ensures tags { tags.new ≡ peer_tags (peer_turn_with result packet.new tags.new) }
     ensures kept { (allowed : List ℕ) → is_among allowed kind ≡ true
-        → KeepsPeers allowed (map M.peer_shown methods.old.items) (map M.peer_shown methods.new.items) }
-    ensures room { replies result ≡ true → HasRoom packet.new }
+        → PreservesPeers allowed (map M.peer_shown methods.old.items) (map M.peer_shown methods.new.items) }
+    ensures room { replies result ≡ true → HasCapacity packet.new }
 {
-    hand_to_peer(methods.as_mut_slice(), kind, request, packet, tags)
+    call_peer_method(methods.as_mut_slice(), kind, request, packet, tags)
 }
 
 /// METHOD, of the turn of the method's object, whose Response is `packet`: a discard writes nothing.

@@ -5,11 +5,11 @@ use Rattle.eap_method.specs.Peer.{IsRequest}
 use Rattle.eap_method.specs.Server.{IsResponse}
 
 -- a Request has a Code, an Identifier, a Length and a Type
-pub holds_a_type : (kind : ℕ) (octets : List ℕ) → IsRequest kind octets → 5 ≤ length octets
+pub has_a_type : (kind : ℕ) (octets : List ℕ) → IsRequest kind octets → 5 ≤ length octets
 unfolding spelled
-holds_a_type kind octets h = omega (arith, ap length h.spelling)
+has_a_type kind octets h = omega (arith, ap length h.encoding_of)
 
 -- and so has a Response
-pub response_holds_a_type : (kind : ℕ) (octets : List ℕ) → IsResponse kind octets → 5 ≤ length octets
+pub response_has_a_type : (kind : ℕ) (octets : List ℕ) → IsResponse kind octets → 5 ≤ length octets
 unfolding spelled
-response_holds_a_type kind octets h = omega (arith, ap length h.spelling)
+response_has_a_type kind octets h = omega (arith, ap length h.encoding_of)

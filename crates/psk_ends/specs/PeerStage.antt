@@ -7,7 +7,7 @@ use Rattle.eap_method.specs.declared.turn.PeerAnswer as brief
 use Rattle.eap_method.specs.PeerTurn.{peer_turn_with}
 use Rattle.eap_method.specs.PskPeer.{View, Login, unset, fresh, wait, over, answers}
 use Rattle.eap_method.specs.Turns.{PeerOutcome, discarded}
-use Rattle.psk_ends.specs.declared.peer.login.Begun.{Begun}
+use Rattle.psk_ends.specs.declared.peer.login.Initial.{Initial}
 use Rattle.psk_ends.specs.declared.peer.stage.Phase.{Phase}
 use Rattle.psk_ends.specs.declared.peer.stage.Phase.TheVariants as phase
 use Rattle.psk_ends.specs.declared.peer.stage.Stage.{Stage}
@@ -29,10 +29,10 @@ abbrev pub outcome_with : brief.PeerAnswer → List ℕ → Tags → View → Pe
 outcome_with turn packet tags after = record { turn = peer_turn_with turn packet tags; after = after }
 
 -- the login that begins with PSK-1
-abbrev pub login_with : Begun → Psk1 → Login
+abbrev pub login_with : Initial → Psk1 → Login
 login_with own psk1 = record { cred = own.cred; nonce = own.nonce; id_s = psk1.id_s.now; rand_s = psk1.rand_s }
 
 -- what a peer that has begun makes of the PSK-1 that it accepts, or of the cause why it accepts none
-abbrev pub fresh_with : Begun → ℕ → Result Psk1 Cause → PeerOutcome View
+abbrev pub fresh_with : Initial → ℕ → Result Psk1 Cause → PeerOutcome View
 fresh_with own id (Err cause) = discarded (fresh own.cred own.nonce) cause
 fresh_with own id (Ok psk1) = answers (login_with own psk1) id

@@ -6,7 +6,7 @@ use Rattle.eap_method.specs.declared.turn.ServerAnswer as brief
 use Rattle.eap_method.specs.ServerTurn.{server_turn_with}
 use Rattle.eap_method.specs.PskServer.{View, Login, unset, begun, asked, checked, refused, over, r_for, answers}
 use Rattle.eap_method.specs.Turns.{ServerOutcome, dropped, done}
-use Rattle.psk_ends.specs.declared.server.login.Begun.{Begun}
+use Rattle.psk_ends.specs.declared.server.login.Initial.{Initial}
 use Rattle.psk_ends.specs.declared.server.login.UserPsk2.{UserPsk2}
 use Rattle.psk_ends.specs.declared.server.stage.EarlyPhase.{EarlyPhase}
 use Rattle.psk_ends.specs.declared.server.stage.EarlyPhase.TheVariants as early
@@ -16,8 +16,8 @@ use Rattle.psk_ends.specs.declared.server.stage.Stage.{Stage}
 use Rattle.psk_ends.specs.declared.server.stage.Stage.TheVariants as stage
 
 -- the state of a server without a login
-abbrev pub in_early : EarlyPhase → Begun → View
-in_early early.Begun own = begun own.side own.nonce
+abbrev pub in_early : EarlyPhase → Initial → View
+in_early early.Initial own = begun own.side own.nonce
 in_early early.Asked own = asked own.side own.nonce
 in_early early.Refused own = refused own.side own.nonce
 
@@ -37,7 +37,7 @@ abbrev pub outcome_with : brief.ServerAnswer → List ℕ → Tags → View → 
 outcome_with turn packet tags after = record { turn = server_turn_with turn packet tags; after = after }
 
 -- the login that begins with PSK-2
-abbrev pub login_with : Begun → UserPsk2 → Login
+abbrev pub login_with : Initial → UserPsk2 → Login
 login_with own found = record {
   own = own.side;
   nonce = own.nonce;
@@ -49,7 +49,7 @@ login_with own found = record {
 
 -- what a server that has sent PSK-1 makes of the PSK-2 that it accepts, of one without a user, or of the
 -- cause why it accepts none
-abbrev pub asked_with : Begun → ℕ → Result (Option UserPsk2) Cause → ServerOutcome View
+abbrev pub asked_with : Initial → ℕ → Result (Option UserPsk2) Cause → ServerOutcome View
 asked_with own next_id (Err cause) = dropped (asked own.side own.nonce) cause
 asked_with own next_id (Ok None) = done (refused own.side own.nonce) false []
 asked_with own next_id (Ok (Some found)) = answers (login_with own found) next_id found.psk2.mac

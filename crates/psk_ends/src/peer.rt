@@ -9,9 +9,9 @@ mod stage;
 mod turns;
 
 use crate::nonces::Nonces;
-use crate::peer::login::Begun;
+use crate::peer::login::Initial;
 use crate::peer::stage::{Phase, Stage};
-use crate::peer::turns::hears_request;
+use crate::peer::turns::handle_request;
 use eap_method::{Credential, PeerAnswer, PeerMethod, Records, Report, Tags};
 use octet_lists::{Nonce, PSK_KIND, Packet};
 use std::marker::Model;
@@ -83,7 +83,7 @@ impl PeerMethod for PskPeer {
 
     fn begin(&mut self, cred: &Credential, nonce: &Nonce) {
         self.stage = Stage::Fresh {
-            own: Begun {
+            own: Initial {
                 cred: cred.copy(),
                 nonce: *nonce,
             },
@@ -101,7 +101,7 @@ impl PeerMethod for PskPeer {
         packet: &mut Packet,
         tags: &mut Tags<R>,
     ) -> PeerAnswer {
-        match hears_request(&mut self.stage, request, packet, tags) {
+        match handle_request(&mut self.stage, request, packet, tags) {
             PeerAnswer::Discard(cause) => {
                 tags.clear();
                 PeerAnswer::Discard(cause)

@@ -10,9 +10,9 @@ mod stage;
 mod turns;
 
 use crate::nonces::Nonces;
-use crate::server::login::Begun;
+use crate::server::login::Initial;
 use crate::server::stage::{EarlyPhase, KnownPhase, Stage};
-use crate::server::turns::{ask, hears_response};
+use crate::server::turns::{ask, handle_response};
 use eap_method::{Records, Report, ServerAnswer, ServerMethod, ServerSide, Tags};
 use login_setup::Users;
 use octet_lists::{Nonce, PSK_KIND, Packet};
@@ -99,11 +99,11 @@ impl ServerMethod for PskServer {
 
     fn begin(&mut self, own: &ServerSide, nonce: &Nonce) {
         self.stage = Stage::Early {
-            own: Begun {
+            own: Initial {
                 side: own.copy(),
                 nonce: *nonce,
             },
-            phase: EarlyPhase::Begun,
+            phase: EarlyPhase::Initial,
         };
     }
 
@@ -132,7 +132,7 @@ impl ServerMethod for PskServer {
         packet: &mut Packet,
         tags: &mut Tags<R>,
     ) -> ServerAnswer {
-        match hears_response(&mut self.stage, response, next_id, users, packet, tags) {
+        match handle_response(&mut self.stage, response, next_id, users, packet, tags) {
             ServerAnswer::Discard(cause) => {
                 tags.clear();
                 ServerAnswer::Discard(cause)

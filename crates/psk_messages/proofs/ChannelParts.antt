@@ -41,7 +41,7 @@ below a b c d p q r s (suc (suc (suc (suc i)))) = omega arith
 pub record AreParts (octets : List ℕ) : Type 0 where
   pub nonce : nonce_at octets < 2 ^ 32
   pub tag : length (tag_at octets) ≡ 16
-  pub spelling : channel (nonce_at octets) (tag_at octets) (sealed_at octets) ≡ octets
+  pub encoding_of : channel (nonce_at octets) (tag_at octets) (sealed_at octets) ≡ octets
 
 pub parts : (octets : List ℕ) → IsOctets octets → length octets ≡ 21 → AreParts octets
 parts [] small size = absurd (omega arith)
@@ -57,5 +57,5 @@ parts (a ∷ b ∷ c ∷ d ∷ rest) small size =
     record {
       nonce = omega (arith, p, q, r, s);
       tag = omega (arith, length-take-le 16 rest (omega arith));
-      spelling = ap (λ xs. xs ++ (take 16 rest ++ (slice_index rest 16 ∷ []))) number ∙ ap (λ xs. a ∷ b ∷ c ∷ d ∷ xs) (tag_and_sealed rest (omega arith));
+      encoding_of = ap (λ xs. xs ++ (take 16 rest ++ (slice_index rest 16 ∷ []))) number ∙ ap (λ xs. a ∷ b ∷ c ∷ d ∷ xs) (tag_and_sealed rest (omega arith));
     }

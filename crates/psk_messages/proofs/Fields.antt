@@ -74,7 +74,7 @@ message_at_fields (psk4 rand_s nonce tag sealed) p =
 pub record IsReadFrom (t : ℕ) (octets : List ℕ) (message : Message) : Type 0 where
   pub fields : AreFields message
   pub same_t : t ≡ t_of message
-  pub spelling : fields_of message ≡ octets
+  pub encoding_of : fields_of message ≡ octets
 
 pub is_read_from : (t : ℕ) (octets : List ℕ) → t < 4 → IsOctets octets → is_size t (length octets) ≡ true → IsReadFrom t octets (message_at t octets)
 is_read_from zero octets low small fits =
@@ -83,7 +83,7 @@ is_read_from zero octets low small fits =
     record {
       fields = (length-take-le 16 octets least, omega (arith, length-drop 16 octets));
       same_t = refl;
-      spelling = take-append-drop 16 octets;
+      encoding_of = take-append-drop 16 octets;
     }
 is_read_from (suc zero) octets low small fits =
     let least : 48 ≤ length octets = grind (arith, nat_tests) in
@@ -95,7 +95,7 @@ is_read_from (suc zero) octets low small fits =
     record {
       fields = (length-take-le 16 octets (omega arith), length-take-le 16 second (omega arith), length-take-le 16 third (omega arith), omega (arith, length-drop 16 third));
       same_t = refl;
-      spelling =
+      encoding_of =
           ap (λ xs. take 16 octets ++ (take 16 second ++ xs)) (take-append-drop 16 third)
           ∙ ap (λ xs. take 16 octets ++ xs) (take-append-drop 16 second)
           ∙ take-append-drop 16 octets;
@@ -110,8 +110,8 @@ is_read_from (suc (suc zero)) octets low small fits =
     record {
       fields = (length-take-le 16 octets (omega arith), length-take-le 16 second (omega arith), channel_parts.nonce, channel_parts.tag);
       same_t = refl;
-      spelling =
-          ap (λ xs. take 16 octets ++ (take 16 second ++ xs)) channel_parts.spelling
+      encoding_of =
+          ap (λ xs. take 16 octets ++ (take 16 second ++ xs)) channel_parts.encoding_of
           ∙ ap (λ xs. take 16 octets ++ xs) (take-append-drop 16 second)
           ∙ take-append-drop 16 octets;
     }
@@ -122,6 +122,6 @@ is_read_from (suc (suc (suc zero))) octets low small fits =
     record {
       fields = (length-take-le 16 octets (omega arith), channel_parts.nonce, channel_parts.tag);
       same_t = refl;
-      spelling = ap (λ xs. take 16 octets ++ xs) channel_parts.spelling ∙ take-append-drop 16 octets;
+      encoding_of = ap (λ xs. take 16 octets ++ xs) channel_parts.encoding_of ∙ take-append-drop 16 octets;
     }
 is_read_from (suc (suc (suc (suc t)))) octets low small fits = absurd (omega arith)

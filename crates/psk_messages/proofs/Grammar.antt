@@ -5,9 +5,9 @@ use Rattle.eap_packet.specs.declared.cause.Cause.{Cause}
 use Rattle.eap_packet.specs.declared.cause.Cause.TheVariants.{PskShape}
 use Rattle.eap_packet.specs.Packet.{IsOctets}
 use Rattle.psk_messages.specs.declared.view.PskMessage.{PskMessage}
-use Rattle.psk_messages.specs.Message.{Message, psk1, psk2, psk3, psk4, t_of, fields_of, AreFields, IsPsk, SpellsNone, spelled, message_of, read_value}
+use Rattle.psk_messages.specs.Message.{Message, psk1, psk2, psk3, psk4, t_of, fields_of, AreFields, IsPsk, EncodesNone, spelled, message_of, read_value}
 use Rattle.psk_messages.specs.Reading.{is_size, message_at, read_of}
-use Rattle.psk_messages.specs.Laws.{ReadsTheSpelling, SpellingsAreApart, RefusesTheRest, SentIsRead, SpellingsAreSized}
+use Rattle.psk_messages.specs.Laws.{ReadsTheEncoding, EncodingsAreApart, RefusesTheRest, SentIsRead, EncodingsAreSized}
 use Rattle.psk_messages.proofs.Fields.{is_size_fields, message_at_fields, IsReadFrom, is_read_from}
 
 pub read_of_fields : (flags : ℕ) (message : Message) → AreFields message → flags / 64 ≡ t_of message →
@@ -20,7 +20,7 @@ read_of_fields flags message p e =
     rw e (rw high (ap Ok same))
 
 pub read_if_psk : (octets : List ℕ) (message : Message) → IsPsk message octets → read_of octets ≡ Ok message
-read_if_psk octets message p = ap read_of p.spelling ∙ read_of_fields p.flags message p.fields p.high_bits
+read_if_psk octets message p = ap read_of p.encoding_of ∙ read_of_fields p.flags message p.fields p.high_bits
 
 if_ok : (fits : Bool) (one other : Message) →
     (let answer : Result Message Cause = if fits then Ok one else Err PskShape in answer) ≡ Ok other → (fits ≡ true) × (one ≡ other)
@@ -38,15 +38,15 @@ psk_if_read (flags ∷ octets) message small e =
       fields = read.fields;
       flags = flags;
       high_bits = read.same_t;
-      spelling = ap (λ xs. flags ∷ xs) (sym read.spelling);
+      encoding_of = ap (λ xs. flags ∷ xs) (sym read.encoding_of);
       fit = small;
     }
 
-pub reads_the_spelling : ReadsTheSpelling
-reads_the_spelling octets message small = (psk_if_read octets message small, read_if_psk octets message)
+pub reads_the_encoding : ReadsTheEncoding
+reads_the_encoding octets message small = (psk_if_read octets message small, read_if_psk octets message)
 
-pub spellings_are_apart : SpellingsAreApart
-spellings_are_apart octets one other p q =
+pub encodings_are_apart : EncodingsAreApart
+encodings_are_apart octets one other p q =
     let same = sym (read_if_psk octets one p) ∙ read_if_psk octets other q in
     cc
 
@@ -79,23 +79,23 @@ refused_for_shape [] cause e = cc
 refused_for_shape (flags ∷ octets) cause e = one_cause (is_size (flags / 64) (length octets)) (message_at (flags / 64) octets) cause e
 
 -- a reader's answer: a message that the octets spell
-pub spelled_if_heard : (answer : Result PskMessage Cause) (octets : List ℕ) → IsOctets octets → read_value answer ≡ read_of octets →
+pub encoding_if_received : (answer : Result PskMessage Cause) (octets : List ℕ) → IsOctets octets → read_value answer ≡ read_of octets →
     IfOk answer (λ view. IsPsk (message_of view) octets)
-spelled_if_heard (Ok view) octets small e = psk_if_read octets (message_of view) small (sym e)
-spelled_if_heard (Err cause) octets small e = tt
+encoding_if_received (Ok view) octets small e = psk_if_read octets (message_of view) small (sym e)
+encoding_if_received (Err cause) octets small e = tt
 
 -- or none, where they spell none
 pub none_if_refused : (answer : Result PskMessage Cause) (octets : List ℕ) → read_value answer ≡ read_of octets →
-    IfErr answer (λ cause. (cause ≡ PskShape) × SpellsNone octets)
+    IfErr answer (λ cause. (cause ≡ PskShape) × EncodesNone octets)
 none_if_refused (Ok view) octets e = tt
 none_if_refused (Err cause) octets e = (refused_for_shape octets cause (sym e), λ message p. (let same = e ∙ read_if_psk octets message p in cc))
 
-pub spellings_are_sized : SpellingsAreSized
+pub encodings_are_sized : EncodingsAreSized
 unfolding spelled
-spellings_are_sized (psk1 rand_s id_s) = simp length-append (omega arith)
-spellings_are_sized (psk2 rand_s rand_p mac id_p) = simp length-append (omega arith)
-spellings_are_sized (psk3 rand_s mac nonce tag sealed) = simp length-append (omega arith)
-spellings_are_sized (psk4 rand_s nonce tag sealed) = simp length-append (omega arith)
+encodings_are_sized (psk1 rand_s id_s) = simp length-append (omega arith)
+encodings_are_sized (psk2 rand_s rand_p mac id_p) = simp length-append (omega arith)
+encodings_are_sized (psk3 rand_s mac nonce tag sealed) = simp length-append (omega arith)
+encodings_are_sized (psk4 rand_s nonce tag sealed) = simp length-append (omega arith)
 
 pub sent_is_read : SentIsRead
 unfolding spelled

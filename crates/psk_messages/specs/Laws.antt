@@ -6,12 +6,12 @@ use Rattle.psk_messages.specs.Message.{Message, AreFields, IsPsk, spelled, size_
 use Rattle.psk_messages.specs.Reading.{read_of}
 
 -- what is read is the message that the octets encode
-abbrev pub ReadsTheSpelling : Type 0
-ReadsTheSpelling = (octets : List ℕ) (message : Message) → IsOctets octets → (read_of octets ≡ Ok message) ↔ IsPsk message octets
+abbrev pub ReadsTheEncoding : Type 0
+ReadsTheEncoding = (octets : List ℕ) (message : Message) → IsOctets octets → (read_of octets ≡ Ok message) ↔ IsPsk message octets
 
 -- no list of octets encodes two messages
-abbrev pub SpellingsAreApart : Type 0
-SpellingsAreApart = (octets : List ℕ) (one other : Message) → IsPsk one octets → IsPsk other octets → one ≡ other
+abbrev pub EncodingsAreApart : Type 0
+EncodingsAreApart = (octets : List ℕ) (one other : Message) → IsPsk one octets → IsPsk other octets → one ≡ other
 
 -- octets are refused exactly if they encode no message
 abbrev pub RefusesTheRest : Type 0
@@ -19,8 +19,8 @@ RefusesTheRest =
     (octets : List ℕ) → IsOctets octets → (read_of octets ≡ Err PskShape) ↔ (¬ ((message : Message) × IsPsk message octets))
 
 -- how many octets are sent
-abbrev pub SpellingsAreSized : Type 0
-SpellingsAreSized = (message : Message) → length (spelled message) ≡ size_of message
+abbrev pub EncodingsAreSized : Type 0
+EncodingsAreSized = (message : Message) → length (spelled message) ≡ size_of message
 
 -- what is sent is read
 abbrev pub SentIsRead : Type 0

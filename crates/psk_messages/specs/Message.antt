@@ -62,12 +62,12 @@ pub record IsPsk (message : Message) (octets : List ℕ) : Type 0 where
   pub fields : AreFields message
   pub flags : ℕ
   pub high_bits : flags / 64 ≡ t_of message
-  pub spelling : octets ≡ flags ∷ fields_of message
+  pub encoding_of : octets ≡ flags ∷ fields_of message
   pub fit : IsOctets octets
 
 -- the octets encode no message
-abbrev pub SpellsNone : List ℕ → Type 0
-SpellsNone octets = (message : Message) → ¬ IsPsk message octets
+abbrev pub EncodesNone : List ℕ → Type 0
+EncodesNone octets = (message : Message) → ¬ IsPsk message octets
 
 -- the octets of the message that is sent: the six low bits of Flags are 0
 unfoldable pub spelled : Message → List ℕ

@@ -1,15 +1,15 @@
 //! Laws of the messages' grammar (RFC 4764 section 5). Each is the contract of a function that does nothing.
 
-ghost use Rattle.psk_messages.specs.Laws.{ReadsTheSpelling, SpellingsAreApart, RefusesTheRest, SentIsRead, SpellingsAreSized};
+ghost use Rattle.psk_messages.specs.Laws.{ReadsTheEncoding, EncodingsAreApart, RefusesTheRest, SentIsRead, EncodingsAreSized};
 
 /// What is read is the message that the octets encode, and that one alone.
-pub fn reads_the_spelling()
-    ensures { ReadsTheSpelling }
+pub fn reads_the_encoding()
+    ensures { ReadsTheEncoding }
 {}
 
 /// No list of octets encodes two messages.
-pub fn spellings_are_apart()
-    ensures { SpellingsAreApart }
+pub fn encodings_are_apart()
+    ensures { EncodingsAreApart }
 {}
 
 /// Octets are refused exactly if they encode no message.
@@ -25,7 +25,7 @@ pub fn sent_is_read()
 {}
 
 /// How many octets a message that is sent has.
-#[tactic(auto, using(crate::proofs::Grammar::spellings_are_sized))]
-pub fn spellings_are_sized()
-    ensures { SpellingsAreSized }
+#[tactic(auto, using(crate::proofs::Grammar::encodings_are_sized))]
+pub fn encodings_are_sized()
+    ensures { EncodingsAreSized }
 {}

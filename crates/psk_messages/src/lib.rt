@@ -8,7 +8,7 @@ mod view;
 mod writing;
 
 pub use laws::{
-    reads_the_spelling, refuses_the_rest, sent_is_read, spellings_are_apart, spellings_are_sized,
+    encodings_are_apart, encodings_are_sized, reads_the_encoding, refuses_the_rest, sent_is_read,
 };
 pub use plain::{PskView, read_psk, write_psk};
 pub use reading::read_psk_message;

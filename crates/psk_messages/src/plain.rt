@@ -5,7 +5,7 @@ ghost use Rattle.octet_lists.specs.Sizes.{max_name};
 ghost use Rattle.eap_packet.specs.Packet.{value_with, has_type};
 ghost use Rattle.eap_packet.specs.Packet as packets;
 ghost use Rattle.eap_packet.specs.declared.cause.Cause.TheVariants.{PskShape};
-ghost use Rattle.psk_messages.specs.Message.{IsPsk, SpellsNone, identity_of, message_of, spelled};
+ghost use Rattle.psk_messages.specs.Message.{IsPsk, EncodesNone, identity_of, message_of, spelled};
 ghost use Rattle.psk_messages.specs.Plain.{fields_of};
 
 use crate::reading::read_psk_message;
@@ -118,7 +118,7 @@ fn message_in<'a>(view: &PskView<'a>) -> PskMessage<'a>
 pub fn read_psk<'a>(body: &'a [u8]) -> Result<PskView<'a>, Cause>
     ensures spelled { IfOk result (λ view. IsPsk (fields_of view) body.now) }
     ensures cause { IfErr result (λ cause. cause ≡ PskShape) }
-    ensures refused { IfErr result (λ cause. SpellsNone body.now) }
+    ensures refused { IfErr result (λ cause. EncodesNone body.now) }
 {
     match read_psk_message(body) {
         Ok(message) => Ok(view_of(&message)),

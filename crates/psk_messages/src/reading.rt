@@ -2,7 +2,7 @@
 
 ghost use Rattle.std.specs.Prelude.{◌≡◌, ◌+◌, ◌≤◌, length, IfOk, IfErr, IsTrue};
 ghost use Rattle.eap_packet.specs.declared.cause.Cause.TheVariants.{PskShape};
-ghost use Rattle.psk_messages.specs.Message.{AreFields, IsPsk, SpellsNone, read_value, message_of};
+ghost use Rattle.psk_messages.specs.Message.{AreFields, IsPsk, EncodesNone, read_value, message_of};
 ghost use Rattle.psk_messages.specs.Reading.{front, behind, is_size, message_at, nonce_at, tag_at, sealed_at, psk1_at, psk2_at, psk3_at, psk4_at, read_of};
 
 use crate::view::{Channel, Psk1, Psk2, Psk3, Psk4, PskMessage};
@@ -138,7 +138,7 @@ pub fn read_psk_message<'a>(body: &'a [u8]) -> Result<PskMessage<'a>, Cause>
     ensures message { read_value result ≡ read_of body.now }
     ensures spelled { IfOk result (λ view. IsPsk (message_of view) body.now) }
     ensures fields { IfOk result (λ view. AreFields (message_of view)) }
-    ensures refused { IfErr result (λ cause. (cause ≡ PskShape) × SpellsNone body.now) }
+    ensures refused { IfErr result (λ cause. (cause ≡ PskShape) × EncodesNone body.now) }
 {
     read_shape(body)
 }

@@ -8,7 +8,7 @@ ghost use Rattle.psk_messages.specs.Message.{message_of, t_of, channel, fields_o
 
 use crate::view::{Channel, PskMessage};
 use byteorder::{BigEndian, ByteOrder};
-use eap_packet::{Code, begin_into};
+use eap_packet::{Code, init_into};
 use octet_lists::{PSK_KIND, Packet};
 
 /// Appends PCHANNEL, for which there is room.
@@ -92,13 +92,13 @@ fn size_of(view: &PskMessage) -> usize
 
 /// Writes the Request or the Response of Type 47 with this Identifier whose Type-Data is the message,
 /// in place of what the packet had; the six low bits of Flags are 0.
-#[tactic(auto, unfolding(crate::specs::Message::spelled), using(crate::proofs::Grammar::spellings_are_sized))]
+#[tactic(auto, unfolding(crate::specs::Message::spelled), using(crate::proofs::Grammar::encodings_are_sized))]
 pub fn write_psk_into(packet: &mut Packet, view: &PskMessage, code: Code, id: u8)
     requires typed { IsTrue (has_type code) }
     requires identity { length (identity_of (message_of view.now)) ≤ max_name }
     ensures { packet.new ≡ packets.spelled (value_with code id 47 (spelled (message_of view.now))) }
 {
-    begin_into(packet, code, id, PSK_KIND, size_of(view));
+    init_into(packet, code, id, PSK_KIND, size_of(view));
     packet.put(&[flags_of(view)]);
     put_fields(packet, view);
 }

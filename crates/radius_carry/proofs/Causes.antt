@@ -17,7 +17,7 @@ pub record HasHead (octets : List ℕ) : Type 0 where
 pub record HasBody (body : List ℕ) : Type 0 where
   pub none_left : length (left_of body) ≡ 0
   pub carries : 1 ≤ count 79 (attributes_of body)
-  pub eap_fits : length (eap_of (attributes_of body)) ≤ 1500
+  pub eap_bounded : length (eap_of (attributes_of body)) ≤ 1500
   pub lone_tag : count 80 (attributes_of body) ≡ 1
   pub tag_size : length (tag_of (attributes_of body)) ≡ 16
 
@@ -83,29 +83,29 @@ body_if_none body e =
     record {
       none_left = grind (arith, nat_tests, fail.0);
       carries = grind (arith, nat_tests, fail.1.0);
-      eap_fits = grind (arith, nat_tests, fail.1.1.0);
+      eap_bounded = grind (arith, nat_tests, fail.1.1.0);
       lone_tag = grind (arith, nat_tests, fail.1.1.1.0);
       tag_size = grind (arith, nat_tests, fail.1.1.1.0);
     }
 
 -- what octets without a fault begin with
-pub record Begins (octets : List ℕ) : Type 0 where
+pub record StartsAt (octets : List ℕ) : Type 0 where
   pub head : HasHead octets
   pub body : HasBody (body_of octets)
 
-pub begins_if_none : (octets : List ℕ) → fault octets ≡ None → Begins octets
+pub starts_if_none : (octets : List ℕ) → fault octets ≡ None → StartsAt octets
 unfolding fault
-begins_if_none octets e = record {
+starts_if_none octets e = record {
   head = head_if_none octets (none_of_first (head_table octets) (body_table (body_of octets)) e);
   body = body_if_none (body_of octets) (none_of_more (head_table octets) (body_table (body_of octets)) e);
 }
 
 pub head_if_faultless : (octets : List ℕ) → fault octets ≡ None → HasHead octets
-head_if_faultless octets e = (begins_if_none octets e).head
+head_if_faultless octets e = (starts_if_none octets e).head
 
-pub none_if_begins : (octets : List ℕ) → Begins octets → fault octets ≡ None
+pub none_if_starts : (octets : List ℕ) → StartsAt octets → fault octets ≡ None
 unfolding fault
-none_if_begins octets b =
+none_if_starts octets b =
     let head = b.head in
     let body = b.body in
     first_cause_fail (head_table octets ++ body_table (body_of octets)) (

@@ -4,15 +4,15 @@ use Rattle.std.proofs.lemmas.List.{length-take-le, length-drop, take-append-drop
 use Rattle.eap_packet.specs.Packet.{IsOctets}
 use Rattle.radius_carry.specs.Packet.{IsRadius, spelled, head_of, octets_of}
 use Rattle.radius_carry.specs.Fault.{body_of, length_of, attributes_of, left_of, packet_at}
-use Rattle.radius_carry.proofs.Causes.{Begins}
-use Rattle.radius_carry.proofs.Held.{attributes_spelled}
+use Rattle.radius_carry.proofs.Causes.{StartsAt}
+use Rattle.radius_carry.proofs.ReadAttributes.{attributes_encoded}
 
 -- where nothing is left, octets are spelled by their attributes
-pub spelled_whole : (octets : List ℕ) → length (left_of octets) ≡ 0 → octets_of (attributes_of octets) ≡ octets
-spelled_whole octets none =
+pub encoding_whole : (octets : List ℕ) → length (left_of octets) ≡ 0 → octets_of (attributes_of octets) ≡ octets
+encoding_whole octets none =
     sym (append-nil (octets_of (attributes_of octets)))
     ∙ ap (λ (l : List ℕ). octets_of (attributes_of octets) ++ l) (sym (nil_from_length (left_of octets) none))
-    ∙ attributes_spelled octets
+    ∙ attributes_encoded octets
 
 take_four : (a b c d m : ℕ) (tail : List ℕ) → take (4 + m) (a ∷ b ∷ c ∷ d ∷ tail) ≡ a ∷ b ∷ c ∷ d ∷ take m tail
 take_four a b c d m tail =
@@ -37,29 +37,29 @@ front_fields code id high low tail small twenty there =
     let whole = take-append-drop 16 (take m tail) in
     rw body (cut ∙ cc)
 
-pub spelled_front : (octets : List ℕ) → IsOctets octets → Begins octets → take (length_of octets) octets ≡ spelled (packet_at octets)
+pub encoding_front : (octets : List ℕ) → IsOctets octets → StartsAt octets → take (length_of octets) octets ≡ spelled (packet_at octets)
 unfolding spelled packet_at
-spelled_front [] small b = absurd (omega (arith, b.head.twenty))
-spelled_front (a ∷ []) small b = absurd (omega (arith, b.head.twenty))
-spelled_front (a ∷ c ∷ []) small b = absurd (omega (arith, b.head.twenty))
-spelled_front (a ∷ c ∷ d ∷ []) small b = absurd (omega (arith, b.head.twenty))
-spelled_front (code ∷ id ∷ high ∷ low ∷ tail) small b =
+encoding_front [] small b = absurd (omega (arith, b.head.twenty))
+encoding_front (a ∷ []) small b = absurd (omega (arith, b.head.twenty))
+encoding_front (a ∷ c ∷ []) small b = absurd (omega (arith, b.head.twenty))
+encoding_front (a ∷ c ∷ d ∷ []) small b = absurd (omega (arith, b.head.twenty))
+encoding_front (code ∷ id ∷ high ∷ low ∷ tail) small b =
     let octets = code ∷ id ∷ high ∷ low ∷ tail in
-    let same : octets_of (attributes_of (body_of octets)) ≡ body_of octets = spelled_whole (body_of octets) b.body.none_left in
+    let same : octets_of (attributes_of (body_of octets)) ≡ body_of octets = encoding_whole (body_of octets) b.body.none_left in
     rw same (front_fields code id high low tail (small 3 0 (omega arith)) b.head.low (omega (arith, b.head.whole)))
 
 -- the fields of octets that begin with a packet are a packet that carries EAP
-pub radius_if_begins : (octets : List ℕ) → IsOctets octets → Begins octets → IsRadius (packet_at octets) (take (length_of octets) octets)
+pub radius_if_starts : (octets : List ℕ) → IsOctets octets → StartsAt octets → IsRadius (packet_at octets) (take (length_of octets) octets)
 unfolding packet_at
-radius_if_begins octets small b = record {
-  spelling = spelled_front octets small b;
+radius_if_starts octets small b = record {
+  encoding_of = encoding_front octets small b;
   known = b.head.known;
   authenticator =
       let head = b.head in
       length-take-le 16 (drop 4 octets) (omega (arith, length-drop 4 octets));
   size = let head = b.head in omega (arith, length-take-le (length_of octets) octets head.whole);
   carries = b.body.carries;
-  eap_fits = b.body.eap_fits;
+  eap_bounded = b.body.eap_bounded;
   lone_tag = b.body.lone_tag;
   tag_size = b.body.tag_size;
 }

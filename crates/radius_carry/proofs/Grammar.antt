@@ -6,10 +6,10 @@ use Rattle.eap_packet.specs.Packet.{IsOctets}
 use Rattle.radius_carry.specs.declared.cause.RadiusCause.{RadiusCause}
 use Rattle.radius_carry.specs.Packet.{RadiusPacket, IsRadius, is_code, octets_of, spelled}
 use Rattle.radius_carry.specs.Fault.{attributes_of, left_of, body_of, code_of, length_of, fault, packet_at, packet_of, packet_unless}
-use Rattle.radius_carry.specs.Laws.{BeginsWith, SpellingsAreRead, SpellingsAreApart, ReadsTheSpelling, FaultlessIsSpelled}
-use Rattle.radius_carry.proofs.Held.{held_whole}
-use Rattle.radius_carry.proofs.Causes.{Begins, HasHead, HasBody, begins_if_none, none_if_begins}
-use Rattle.radius_carry.proofs.Fronts.{radius_if_begins, spelled_front}
+use Rattle.radius_carry.specs.Laws.{IsPrefixed, EncodingsAreRead, EncodingsAreApart, ReadsTheEncoding, FaultlessIsEncoded}
+use Rattle.radius_carry.proofs.ReadAttributes.{stored_whole}
+use Rattle.radius_carry.proofs.Causes.{StartsAt, HasHead, HasBody, starts_if_none, none_if_starts}
+use Rattle.radius_carry.proofs.Fronts.{radius_if_starts, encoding_front}
 
 -- what is read comes of no cause, and is the fields
 unless_ok : (found : Option RadiusCause) (octets : List ℕ) (packet : RadiusPacket) →
@@ -17,25 +17,25 @@ unless_ok : (found : Option RadiusCause) (octets : List ℕ) (packet : RadiusPac
 unless_ok None octets packet e = (refl, cc)
 unless_ok (Some cause) octets packet e = cc
 
-begins_if_read : (octets : List ℕ) (packet : RadiusPacket) → packet_of octets ≡ Ok packet → Begins octets
+starts_if_read : (octets : List ℕ) (packet : RadiusPacket) → packet_of octets ≡ Ok packet → StartsAt octets
 unfolding packet_of
-begins_if_read octets packet e = begins_if_none octets (unless_ok (fault octets) octets packet e).0
+starts_if_read octets packet e = starts_if_none octets (unless_ok (fault octets) octets packet e).0
 
 fields_if_read : (octets : List ℕ) (packet : RadiusPacket) → packet_of octets ≡ Ok packet → packet_at octets ≡ packet
 unfolding packet_of
 fields_if_read octets packet e = (unless_ok (fault octets) octets packet e).1
 
 -- where no cause applies, the octets are read as their fields
-read_if_begins : (octets : List ℕ) → Begins octets → packet_of octets ≡ Ok (packet_at octets)
+read_if_starts : (octets : List ℕ) → StartsAt octets → packet_of octets ≡ Ok (packet_at octets)
 unfolding packet_of
-read_if_begins octets b = ap (λ found. packet_unless found octets) (none_if_begins octets b)
+read_if_starts octets b = ap (λ found. packet_unless found octets) (none_if_starts octets b)
 
 -- octets that begin with a packet are its spelling and what comes after
-begins_with_fields : (octets : List ℕ) → IsOctets octets → Begins octets → BeginsWith octets (packet_at octets)
-begins_with_fields octets small b = record {
-  is_radius = subst (IsRadius (packet_at octets)) (spelled_front octets small b) (radius_if_begins octets small b);
+prefixed_by_fields : (octets : List ℕ) → IsOctets octets → StartsAt octets → IsPrefixed octets (packet_at octets)
+prefixed_by_fields octets small b = record {
+  is_radius = subst (IsRadius (packet_at octets)) (encoding_front octets small b) (radius_if_starts octets small b);
   rest = drop (length_of octets) octets;
-  joined = sym (take-append-drop (length_of octets) octets) ∙ ap (λ (l : List ℕ). l ++ drop (length_of octets) octets) (spelled_front octets small b);
+  joined = sym (take-append-drop (length_of octets) octets) ∙ ap (λ (l : List ℕ). l ++ drop (length_of octets) octets) (encoding_front octets small b);
 }
 
 -- ---- a spelling with any octets behind it
@@ -45,15 +45,15 @@ take_front a b c d m front rest e =
     let four : m ≡ suc (suc (suc (suc (length front)))) = omega arith in
     rw four (ap (λ (l : List ℕ). a ∷ b ∷ c ∷ d ∷ l) (take_at front rest (length front) refl))
 
-record Spelled (packet : RadiusPacket) (rest : List ℕ) : Type 0 where
+record EncodedOctets (packet : RadiusPacket) (rest : List ℕ) : Type 0 where
   size : length_of (spelled packet ++ rest) ≡ 20 + length (octets_of packet.attributes)
   body : body_of (spelled packet ++ rest) ≡ octets_of packet.attributes
   front : take 16 (drop 4 (spelled packet ++ rest)) ≡ packet.authenticator
   room : length (spelled packet ++ rest) ≡ 20 + length (octets_of packet.attributes) + length rest
 
-spelled_fields : (packet : RadiusPacket) (rest : List ℕ) → length packet.authenticator ≡ 16 → Spelled packet rest
+encoded_fields : (packet : RadiusPacket) (rest : List ℕ) → length packet.authenticator ≡ 16 → EncodedOctets packet rest
 unfolding spelled
-spelled_fields packet rest sixteen =
+encoded_fields packet rest sixteen =
     let octets = octets_of packet.attributes in
     let size : ℕ = 20 + length octets in
     let behind : List ℕ = packet.authenticator ++ octets in
@@ -84,10 +84,10 @@ first_fields : (packet : RadiusPacket) (rest : List ℕ) →
 unfolding spelled
 first_fields packet rest = refl
 
-begins_spelled : (packet : RadiusPacket) (rest : List ℕ) → IsRadius packet (spelled packet) → Begins (spelled packet ++ rest)
-begins_spelled packet rest is =
-    let fields = spelled_fields packet rest is.authenticator in
-    let held = held_whole packet.attributes in
+prefix_encoding : (packet : RadiusPacket) (rest : List ℕ) → IsRadius packet (spelled packet) → StartsAt (spelled packet ++ rest)
+prefix_encoding packet rest is =
+    let fields = encoded_fields packet rest is.authenticator in
+    let held = stored_whole packet.attributes in
     let attributes : attributes_of (body_of (spelled packet ++ rest)) ≡ packet.attributes = ap attributes_of fields.body ∙ held.same in
     let left : left_of (body_of (spelled packet ++ rest)) ≡ [] = ap left_of fields.body ∙ held.none_left in
     let whole = length-append (spelled packet) rest in
@@ -103,37 +103,37 @@ begins_spelled packet rest is =
     record {
       none_left = ap length left;
       carries = rw attributes is.carries;
-      eap_fits = rw attributes is.eap_fits;
+      eap_bounded = rw attributes is.eap_bounded;
       lone_tag = rw attributes is.lone_tag;
       tag_size = rw attributes is.tag_size;
     } in
     record { head = head; body = body }
 
-fields_spelled : (packet : RadiusPacket) (rest : List ℕ) → IsRadius packet (spelled packet) → packet_at (spelled packet ++ rest) ≡ packet
+fields_encoded : (packet : RadiusPacket) (rest : List ℕ) → IsRadius packet (spelled packet) → packet_at (spelled packet ++ rest) ≡ packet
 unfolding packet_at
-fields_spelled packet rest is =
-    let fields = spelled_fields packet rest is.authenticator in
-    let held = held_whole packet.attributes in
+fields_encoded packet rest is =
+    let fields = encoded_fields packet rest is.authenticator in
+    let held = stored_whole packet.attributes in
     let attributes : attributes_of (body_of (spelled packet ++ rest)) ≡ packet.attributes = ap attributes_of fields.body ∙ held.same in
     rw (attributes, fields.front) (first_fields packet rest)
 
-pub spellings_are_read : SpellingsAreRead
-spellings_are_read packet rest is =
-    read_if_begins (spelled packet ++ rest) (begins_spelled packet rest is) ∙ ap Ok (fields_spelled packet rest is)
+pub encodings_are_read : EncodingsAreRead
+encodings_are_read packet rest is =
+    read_if_starts (spelled packet ++ rest) (prefix_encoding packet rest is) ∙ ap Ok (fields_encoded packet rest is)
 
-pub spellings_are_apart : SpellingsAreApart
-spellings_are_apart one other rest others p q e =
-    let same = sym (spellings_are_read one rest p) ∙ ap packet_of e ∙ spellings_are_read other others q in
+pub encodings_are_apart : EncodingsAreApart
+encodings_are_apart one other rest others p q e =
+    let same = sym (encodings_are_read one rest p) ∙ ap packet_of e ∙ encodings_are_read other others q in
     cc
 
-pub reads_the_spelling : ReadsTheSpelling
-reads_the_spelling octets packet small = (
-  λ e. subst (BeginsWith octets) (fields_if_read octets packet e) (begins_with_fields octets small (begins_if_read octets packet e)),
-  λ b. ap packet_of b.joined ∙ spellings_are_read packet b.rest b.is_radius,
+pub reads_the_encoding : ReadsTheEncoding
+reads_the_encoding octets packet small = (
+  λ e. subst (IsPrefixed octets) (fields_if_read octets packet e) (prefixed_by_fields octets small (starts_if_read octets packet e)),
+  λ b. ap packet_of b.joined ∙ encodings_are_read packet b.rest b.is_radius,
 )
 
-pub faultless_is_spelled : FaultlessIsSpelled
-faultless_is_spelled octets small = (
-  λ e. (packet_at octets, begins_with_fields octets small (begins_if_none octets e)),
-  λ w. ap fault w.1.joined ∙ none_if_begins (spelled w.0 ++ w.1.rest) (begins_spelled w.0 w.1.rest w.1.is_radius),
+pub faultless_is_encoded : FaultlessIsEncoded
+faultless_is_encoded octets small = (
+  λ e. (packet_at octets, prefixed_by_fields octets small (starts_if_none octets e)),
+  λ w. ap fault w.1.joined ∙ none_if_starts (spelled w.0 ++ w.1.rest) (prefix_encoding w.0 w.1.rest w.1.is_radius),
 )

@@ -1,7 +1,7 @@
 -- Worked values of the definitions.
 mod Worked
 -- The attributes that octets hold.
-pub mod Held
+pub mod ReadAttributes
 -- What it means that no cause applies.
 pub mod Causes
 -- Octets that begin with a packet have its spelling as their front.

@@ -72,19 +72,19 @@ octets_of_none front rest none =
     ∙ append-nil front
 
 -- the attributes before the tag, as they are written
-pub carried_spelled : (user state eap : List ℕ) →
+pub carried_encoded : (user state eap : List ℕ) →
     (octets_of (field 1 user) ++ octets_of (field 24 state)) ++ octets_of (pieces eap) ≡ octets_of (attributes_before_tag user state eap)
-carried_spelled user state eap =
+carried_encoded user state eap =
     append_assoc (octets_of (field 1 user)) (octets_of (field 24 state)) (octets_of (pieces eap))
     ∙ ap (λ (l : List ℕ). octets_of (field 1 user) ++ l) (sym (octets_of-append (field 24 state) (pieces eap)))
     ∙ sym (octets_of-append (field 1 user) (field 24 state ++ pieces eap))
 
 -- a packet with its tag, as it is written
-pub tagged_spelled : (code id : ℕ) (authenticator attributes tag : List ℕ) (list : List Attribute) → length tag ≡ 16 → attributes ≡ octets_of list →
+pub tagged_encoded : (code id : ℕ) (authenticator attributes tag : List ℕ) (list : List Attribute) → length tag ≡ 16 → attributes ≡ octets_of list →
     ((head_of code id (length attributes + 18) ++ authenticator) ++ attributes) ++ attribute_octets (80, tag)
     ≡ spelled (packet_with_tag code id authenticator list tag)
 unfolding spelled packet_with_tag
-tagged_spelled code id authenticator attributes tag list sixteen e =
+tagged_encoded code id authenticator attributes tag list sixteen e =
     let all : octets_of (list ++ (80, tag) ∷ []) ≡ attributes ++ attribute_octets (80, tag) =
     octets_of-append list ((80, tag) ∷ []) ∙ ap (λ (l : List ℕ). octets_of list ++ l) (octets_of_one 80 tag)
     ∙ ap (λ (l : List ℕ). l ++ attribute_octets (80, tag)) (sym e) in

@@ -4,7 +4,7 @@ use Rattle.std.proofs.Common.{refl, ap, ◌∙◌, sym, arith, append_assoc, len
 use Rattle.std.proofs.lemmas.List.{append-nil, length-replicate, take_at, drop_at}
 use Rattle.radius_carry.specs.Packet.{Attribute, RadiusPacket, IsRadius, attribute_octets, count, head_of, value_of_kind, octets_of, spelled, tag_of}
 use Rattle.radius_carry.specs.Place.{tag_place}
-use Rattle.radius_carry.proofs.Held.{both_ways}
+use Rattle.radius_carry.proofs.ReadAttributes.{both_ways}
 use Rattle.radius_carry.specs.Tags.{blank_attributes, blank_text, asked_text}
 
 -- the steps, by the Type of the first attribute
@@ -86,9 +86,9 @@ split_first kind value rest e b =
       place = sym (place_same kind value rest b);
     }
 
-split_behind : (kind : ℕ) (value : List ℕ) (rest : List Attribute) → Split rest → (kind == 80) ≡ false → Split ((kind, value) ∷ rest)
+split_after : (kind : ℕ) (value : List ℕ) (rest : List Attribute) → Split rest → (kind == 80) ≡ false → Split ((kind, value) ∷ rest)
 unfolding octets_of
-split_behind kind value rest tail b =
+split_after kind value rest tail b =
     let tag : tag_of ((kind, value) ∷ rest) ≡ tag_of rest = joined_other 80 kind value rest b in
     let front : List ℕ = attribute_octets (kind, value) in
     record {
@@ -116,7 +116,7 @@ split_at_tag [] e = absurd (omega arith)
 split_at_tag ((kind, value) ∷ rest) e =
     both_ways (Split ((kind, value) ∷ rest)) (kind == 80)
     (λ b. let more = count_same 80 kind value rest b in split_first kind value rest (omega arith) b)
-    (λ b. split_behind kind value rest (split_at_tag rest (sym (count_other 80 kind value rest b) ∙ e)) b)
+    (λ b. split_after kind value rest (split_at_tag rest (sym (count_other 80 kind value rest b) ∙ e)) b)
 
 -- ---- what the authenticators cover
 
@@ -150,7 +150,7 @@ cut_whole packet whole is =
     let tag : List ℕ = tag_of packet.attributes in
     let size : ℕ = 20 + length octets in
     let body : drop 20 whole ≡ octets =
-    ap (drop 20) is.spelling ∙ drop_twenty packet.code packet.id (size / 256) (size % 256) packet.authenticator octets sixteen in
+    ap (drop 20) is.encoding_of ∙ drop_twenty packet.code packet.id (size / 256) (size % 256) packet.authenticator octets sixteen in
     let parts : drop 20 whole ≡ split.before ++ (tag ++ split.after) = body ∙ split.whole in
     let at : drop place (split.before ++ (tag ++ split.after)) ≡ tag ++ split.after =
     drop_at split.before (tag ++ split.after) place split.place in
@@ -160,8 +160,8 @@ cut_whole packet whole is =
     let zeros = length_zeros (length tag) in
     let blank : List ℕ = replicate (length tag) 0 in
     record {
-      room = omega (arith, ap length is.spelling, length-append packet.authenticator octets);
-      head = ap (take 4) is.spelling;
+      room = omega (arith, ap length is.encoding_of, length-append packet.authenticator octets);
+      head = ap (take 4) is.encoding_of;
       body = body;
       place = omega (arith, ap length parts, length-append split.before (tag ++ split.after), length-append tag split.after, split.place, is.tag_size);
       tag = ap (λ (l : List ℕ). take 16 (drop place l)) parts ∙ ap (take 16) at ∙ take_at tag split.after 16 is.tag_size;

@@ -9,7 +9,7 @@ use Rattle.radius_carry.specs.Packet.{Attribute, RadiusPacket, IsRadius, count, 
 use Rattle.radius_carry.specs.Tags.{asked_text, blank_text, blank_attributes, hmac_md5}
 use Rattle.radius_carry.specs.Written.{attributes_before_tag, field, pieces, pieces_in, sealed_packet, packet_with_tag}
 use Rattle.radius_carry.specs.Laws.{AreFields, RequestsAreReadBack, RequestsAreGood, RepliesAreReadBack, RepliesAreGood}
-use Rattle.radius_carry.proofs.Grammar.{spellings_are_read}
+use Rattle.radius_carry.proofs.Grammar.{encodings_are_read}
 use Rattle.radius_carry.proofs.Pieced.{octets_of-append, pieces_more}
 use Rattle.radius_carry.proofs.Places.{has_none}
 
@@ -183,9 +183,9 @@ last_tag tag = record {
   size = omega (arith, ap length (append-nil tag));
 }
 
-spelled_size : (packet : RadiusPacket) → length (spelled packet) ≡ 4 + length packet.authenticator + length (octets_of packet.attributes)
+encoding_size : (packet : RadiusPacket) → length (spelled packet) ≡ 4 + length packet.authenticator + length (octets_of packet.attributes)
 unfolding spelled
-spelled_size packet = omega (arith, length-append packet.authenticator (octets_of packet.attributes))
+encoding_size packet = omega (arith, length-append packet.authenticator (octets_of packet.attributes))
 
 tagged_of : (code id : ℕ) (authenticator user state eap tag : List ℕ) → IsTrue (is_code code) → AreFields authenticator user state eap → length tag ≡ 16 →
     TaggedOf code id authenticator user state eap tag
@@ -207,12 +207,12 @@ tagged_of code id authenticator user state eap tag known fields sixteen =
     joined-append 80 list last ∙ ap (λ (l : List ℕ). l ++ value_of_kind 80 last) none.none_joined ∙ end.joins in
     record {
       is_radius = record {
-        spelling = refl;
+        encoding_of = refl;
         known = known;
         authenticator = fields.sixteen;
-        size = omega (arith, spelled_size packet, of.size, end.size, fields.user_fits, fields.state_fits, fields.eap_fits, fields.sixteen);
+        size = omega (arith, encoding_size packet, of.size, end.size, fields.user_bounded, fields.state_bounded, fields.eap_bounded, fields.sixteen);
         carries = omega (arith, of.carries);
-        eap_fits = omega (arith, ap length carries, fields.eap_fits);
+        eap_bounded = omega (arith, ap length carries, fields.eap_bounded);
         lone_tag = omega (arith, of.no_tag, end.lone);
         tag_size = ap length there ∙ sixteen;
       };
@@ -235,7 +235,7 @@ pub requests_are_read_back : RequestsAreReadBack
 unfolding sealed_packet
 requests_are_read_back secret authenticator user state eap rest id fields =
     let of = tagged_of 1 id authenticator user state eap _ refl fields (length-hmac_md5 secret _) in
-    record { read = spellings_are_read _ rest of.is_radius; carries = of.carries }
+    record { read = encodings_are_read _ rest of.is_radius; carries = of.carries }
 
 pub requests_are_good : RequestsAreGood
 unfolding sealed_packet packet_with_tag blank_text
@@ -259,12 +259,12 @@ replies_are_read_back secret asked state eap rest code id reply fields =
     let of =
     tagged_of code id response [] state eap tag reply.known (record {
       sixteen = length-md5 _;
-      user_fits = fields.user_fits;
-      state_fits = fields.state_fits;
+      user_bounded = fields.user_bounded;
+      state_bounded = fields.state_bounded;
       some_eap = fields.some_eap;
-      eap_fits = fields.eap_fits;
+      eap_bounded = fields.eap_bounded;
     }) (length-hmac_md5 secret (spelled blank)) in
-    record { read = spellings_are_read _ rest of.is_radius; carries = of.carries }
+    record { read = encodings_are_read _ rest of.is_radius; carries = of.carries }
 
 pub replies_are_good : RepliesAreGood
 unfolding sealed_packet packet_with_tag asked_text blank_text

@@ -8,31 +8,31 @@ use Rattle.radius_carry.specs.Tags.{IsGoodRequest, IsGoodReply}
 use Rattle.radius_carry.specs.Written.{request_of, reply_of}
 
 -- the octets are the packet's encoding with some octets behind it
-pub record BeginsWith (octets : List ℕ) (packet : RadiusPacket) : Type 0 where
+pub record IsPrefixed (octets : List ℕ) (packet : RadiusPacket) : Type 0 where
   pub is_radius : IsRadius packet (spelled packet)
   pub rest : List ℕ
   pub joined : octets ≡ spelled packet ++ rest
 
 -- an encoding with any octets behind it is read as its packet
-abbrev pub SpellingsAreRead : Type 0
-SpellingsAreRead =
+abbrev pub EncodingsAreRead : Type 0
+EncodingsAreRead =
     (packet : RadiusPacket) (rest : List ℕ) → IsRadius packet (spelled packet) → packet_of (spelled packet ++ rest) ≡ Ok packet
 
 -- no two packets have encodings that begin one list
-abbrev pub SpellingsAreApart : Type 0
-SpellingsAreApart =
+abbrev pub EncodingsAreApart : Type 0
+EncodingsAreApart =
     (one other : RadiusPacket) (rest others : List ℕ) → IsRadius one (spelled one) → IsRadius other (spelled other) →
     spelled one ++ rest ≡ spelled other ++ others → one ≡ other
 
 -- what is read is the packet with whose encoding the octets begin
-abbrev pub ReadsTheSpelling : Type 0
-ReadsTheSpelling =
-    (octets : List ℕ) (packet : RadiusPacket) → IsOctets octets → (packet_of octets ≡ Ok packet) ↔ BeginsWith octets packet
+abbrev pub ReadsTheEncoding : Type 0
+ReadsTheEncoding =
+    (octets : List ℕ) (packet : RadiusPacket) → IsOctets octets → (packet_of octets ≡ Ok packet) ↔ IsPrefixed octets packet
 
 -- no cause applies exactly if the octets begin with the encoding of some packet
-abbrev pub FaultlessIsSpelled : Type 0
-FaultlessIsSpelled =
-    (octets : List ℕ) → IsOctets octets → (fault octets ≡ None) ↔ ((packet : RadiusPacket) × BeginsWith octets packet)
+abbrev pub FaultlessIsEncoded : Type 0
+FaultlessIsEncoded =
+    (octets : List ℕ) → IsOctets octets → (fault octets ≡ None) ↔ ((packet : RadiusPacket) × IsPrefixed octets packet)
 
 -- the Code of a reply
 pub record IsReply (code : ℕ) : Type 0 where
@@ -42,10 +42,10 @@ pub record IsReply (code : ℕ) : Type 0 where
 -- the limits of what is written: an Authenticator, a name, a state, an EAP packet
 pub record AreFields (authenticator user state eap : List ℕ) : Type 0 where
   pub sixteen : length authenticator ≡ 16
-  pub user_fits : length user ≤ max_value
-  pub state_fits : length state ≤ max_value
+  pub user_bounded : length user ≤ max_value
+  pub state_bounded : length state ≤ max_value
   pub some_eap : 1 ≤ length eap
-  pub eap_fits : length eap ≤ max_packet
+  pub eap_bounded : length eap ≤ max_packet
 
 -- a packet is read from its encoding, with any octets behind it, and carries this EAP packet
 pub record ReadsBack (packet : RadiusPacket) (eap rest : List ℕ) : Type 0 where

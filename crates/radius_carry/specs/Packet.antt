@@ -72,11 +72,11 @@ max_value = 253
 -- the octets are this packet, which carries EAP: at least one attribute EAP-Message, and exactly one
 -- Message-Authenticator, with 16 octets
 pub record IsRadius (packet : RadiusPacket) (octets : List ℕ) : Type 0 where
-  pub spelling : octets ≡ spelled packet
+  pub encoding_of : octets ≡ spelled packet
   pub known : IsTrue (is_code packet.code)
   pub authenticator : length packet.authenticator ≡ 16
   pub size : length octets ≤ max_radius
   pub carries : 1 ≤ count 79 packet.attributes
-  pub eap_fits : length (eap_of packet.attributes) ≤ max_packet
+  pub eap_bounded : length (eap_of packet.attributes) ≤ max_packet
   pub lone_tag : count 80 packet.attributes ≡ 1
   pub tag_size : length (tag_of packet.attributes) ≡ 16

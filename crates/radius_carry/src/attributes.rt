@@ -30,7 +30,7 @@ struct Attribute<'a> {
 
 /// The first attribute, or None if the octets begin with none: there are fewer than two, or its
 /// length is under 2 or past their end.
-#[tactic(auto, using(crate::proofs::Held::first_steps))]
+#[tactic(auto, using(crate::proofs::ReadAttributes::first_steps))]
 fn first_attribute<'a>(octets: &'a [u8]) -> Option<Attribute<'a>>
     ensures attributes { MatchOption result (attributes_of octets.now ≡ []) (λ a. attributes_of octets.now ≡ (a.kind, a.value.now) ∷ attributes_of a.rest.now) }
     ensures left { MatchOption result (left_of octets.now ≡ octets.now) (λ a. left_of octets.now ≡ left_of a.rest.now) }

@@ -13,8 +13,8 @@ mod writing;
 
 pub use cause::RadiusCause;
 pub use laws::{
-    faultless_is_spelled, reads_the_spelling, replies_are_good, replies_are_read_back,
-    requests_are_good, requests_are_read_back, spellings_are_apart, spellings_are_read,
+    encodings_are_apart, encodings_are_read, faultless_is_encoded, reads_the_encoding,
+    replies_are_good, replies_are_read_back, requests_are_good, requests_are_read_back,
 };
 pub use reading::{eap_of, read_radius};
 pub use tags::{reply_good, request_good};

@@ -11,8 +11,8 @@ ghost use Rattle.radius_carry.specs.Tags.{is_good_request, is_good_reply};
 use crate::attributes::{HEAD, TAG, place_of_tag};
 use crate::mac::Mac;
 use crate::view::{RadiusKind, RadiusView};
-use octet_lists::equal_in_full;
 use md5::{Digest, Md5};
+use octet_lists::equal_in_full;
 
 /// The octets of Code, Identifier and Length.
 const FRONT: usize = 4;

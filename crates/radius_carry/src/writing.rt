@@ -11,8 +11,8 @@ use crate::attributes::{EAP_MESSAGE, MESSAGE_AUTHENTICATOR};
 use crate::mac::Mac;
 use crate::view::RadiusKind;
 use byteorder::{BigEndian, ByteOrder};
-use octet_lists::Octets;
 use md5::{Digest, Md5};
+use octet_lists::Octets;
 
 /// The Type of an attribute User-Name.
 const USER_NAME: u8 = 1;
@@ -63,7 +63,7 @@ fn put_eap(packet: &mut Octets<2000>, eap: &[u8])
 }
 
 /// The attributes before the tag.
-#[tactic(auto, using(crate::proofs::Pieced::carried_spelled))]
+#[tactic(auto, using(crate::proofs::Pieced::carried_encoded))]
 fn carried_octets(user: &[u8], state: &[u8], eap: &[u8]) -> Octets<2000>
     requires user { length user.now ≤ max_value }
     requires state { length state.now ≤ 64 }
@@ -89,7 +89,7 @@ fn head(code: u8, id: u8, size: usize) -> [u8; 4]
 }
 
 /// The packet with these attributes and this tag behind them.
-#[tactic(auto, using(crate::proofs::Pieced::tagged_spelled))]
+#[tactic(auto, using(crate::proofs::Pieced::tagged_encoded))]
 fn framed(
     code: u8,
     id: u8,

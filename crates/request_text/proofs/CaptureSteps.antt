@@ -6,10 +6,10 @@ use Rattle.std.specs.Str.{bytes_eq}
 use Rattle.login_setup.specs.declared.users.User.{User}
 use Rattle.text_tables.specs.Words.{words, is_printable}
 use Rattle.text_tables.specs.Fields.{word_in}
-use Rattle.text_tables.specs.Phases.{may_stand}
+use Rattle.text_tables.specs.Phases.{may_occur}
 use Rattle.text_tables.specs.Rows.{line_has}
 use Rattle.text_tables.specs.Texts as texts
-use Rattle.text_tables.specs.Texts.{entry_in, read_at, read_begin, word_of}
+use Rattle.text_tables.specs.Texts.{entry_in, read_at, read_first_line, word_of}
 use Rattle.text_tables.specs.Users.{with_user}
 use Rattle.text_tables.specs.declared.fault.LineFault.TheVariants as fault
 use Rattle.text_tables.specs.declared.phase.Phase.{Phase}
@@ -76,12 +76,12 @@ unfolding entry_of
 entry_printable word.User line h = name_printable line h
 entry_printable other line h = tt
 
-taken_follows : (p : Phase) (users : List User) (e : CaptureEntry) → may_stand p (part_of e) ≡ true → NamePrintable e → Follows users p (line_of_entry p users e)
-taken_follows phase.Settings users (entry.User user) m n = NewUser user n
-taken_follows phase.Settings users entry.Packets m n = AllUsers
-taken_follows phase.Events users (entry.Packet to_peer octets) m n = NewPacket to_peer octets
-taken_follows phase.Events users entry.End m n = AllPackets
-taken_follows other users e m n = absurd cc
+accepted_follows : (p : Phase) (users : List User) (e : CaptureEntry) → may_occur p (part_of e) ≡ true → NamePrintable e → Follows users p (line_of_entry p users e)
+accepted_follows phase.Settings users (entry.User user) m n = NewUser user n
+accepted_follows phase.Settings users entry.Packets m n = AllUsers
+accepted_follows phase.Events users (entry.Packet to_peer octets) m n = NewPacket to_peer octets
+accepted_follows phase.Events users entry.End m n = AllPackets
+accepted_follows other users e m n = absurd cc
 
 -- a line without a fault is printable
 printable_if : (line : List ℕ) → line_has row_of capture_words line fault.BadWord ≡ false → is_printable line ≡ true
@@ -92,10 +92,10 @@ module _ (c : Capture) (line : List ℕ) where
   stepped_follows : (out : CaptureLine) → Stepped row_of capture c line out → Follows c.users c.phase out
   stepped_follows _ (steps.Passed is) = Passed c.phase
   stepped_follows _ (steps.Entered k own may) =
-      taken_follows c.phase c.users (entry_in row_of capture c line) may.stands
+      accepted_follows c.phase c.users (entry_in row_of capture c line) may.stands
       (entry_printable (word_of row_of capture c line) line (printable_if line (own fault.BadWord)))
 
-  header_follows : (out : CaptureLine) (same : Bool) → read_begin row_of capture (cond same (Some (record { phase = phase.Settings; users = [] })) None) ≡ Ok out
+  header_follows : (out : CaptureLine) (same : Bool) → read_first_line row_of capture (cond same (Some (record { phase = phase.Settings; users = [] })) None) ≡ Ok out
       → Follows c.users phase.Unread out
   header_follows out true e = let is : line_of item.Nothing phase.Settings [] ≡ out = cc in subst (Follows c.users phase.Unread) is Header
   header_follows out false e = absurd cc

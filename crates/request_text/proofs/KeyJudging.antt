@@ -4,8 +4,8 @@ use Rattle.text_tables.specs.Words.{words}
 use Rattle.text_tables.specs.Fields.{◌>>=◌}
 use Rattle.text_tables.specs.Rows.{faults, unless, fault_of_words, keyword_in, first_word, line_has}
 use Rattle.text_tables.specs.declared.fault.LineFault.{LineFault}
-use Rattle.text_tables.proofs.Fitting.{no_fault, unless-ok, faultless-fits}
-use Rattle.text_tables.proofs.Judging.{Begins, bad_word, judges}
+use Rattle.text_tables.proofs.Bounded.{no_fault, unless-ok, faultless-fits}
+use Rattle.text_tables.proofs.Judging.{StartsAt, bad_word, judges}
 use Rattle.request_text.specs.Keys.{row_of, requests, asked_of, asked_by, has_fault, HasSizes, key_line}
 use Rattle.request_text.specs.Laws.{RequestsAreJudged}
 use Rattle.request_text.specs.declared.key_line.KeyLine.{KeyLine}
@@ -14,7 +14,7 @@ use Rattle.request_text.specs.declared.key_line.Request.TheVariants as request
 use Rattle.request_text.proofs.GpskSizes.{asked_of_sizes}
 
 -- what a line asks for, behind its request
-pub asked_by_known : (line : List ℕ) (r : Request) → Begins row_of requests line r → asked_by line ≡ unless (fault_of_words (row_of r).least (row_of r).fields (words line)) (asked_of r (words line))
+pub asked_by_known : (line : List ℕ) (r : Request) → StartsAt row_of requests line r → asked_by line ≡ unless (fault_of_words (row_of r).least (row_of r).fields (words line)) (asked_of r (words line))
 unfolding asked_by line_has fault_of_words
 asked_by_known line r b = let p = b.printable in let q = b.found in rw (p, q) refl
 

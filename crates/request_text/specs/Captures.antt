@@ -1,7 +1,7 @@
 -- A capture: the table of its lines, what has been read, and what each line adds.
 use Rattle.std.specs.Prelude.{◌≡◌, ℕ, List, [], ◌∷◌, length, nat_le, Bool, true, false, if◌then◌else◌, codes, Option, Some, None, Result, is_some, IsTrue}
 use Rattle.std.specs.Str.{bytes_eq}
-use Rattle.login_setup.specs.Setup.{fits_kind}
+use Rattle.login_setup.specs.Setup.{is_valid_for}
 use Rattle.login_setup.specs.Users.{user_of}
 use Rattle.login_setup.specs.declared.users.User.{User}
 use Rattle.text_tables.specs.Fields.{word_in, octets_of, kind_of}
@@ -73,9 +73,9 @@ is_crowded users word.User = nat_le 16 (length users)
 is_crowded users k = false
 
 -- Repeated: a user whose name and method came before
-abbrev pub came_before : List User → CaptureEntry → Bool
-came_before users (entry.User user) = is_some (user_of users user.name user.kind)
-came_before users e = false
+abbrev pub occurred_before : List User → CaptureEntry → Bool
+occurred_before users (entry.User user) = is_some (user_of users user.name user.kind)
+occurred_before users e = false
 
 -- what a line says and adds
 abbrev pub line_of_entry : Phase → List User → CaptureEntry → CaptureLine
@@ -94,7 +94,7 @@ capture = record {
   begun = λ c. reading_after_header;
   nothing = item.Nothing;
   is_crowded = λ c. is_crowded c.users;
-  came_before = λ c. came_before c.users;
+  occurred_before = λ c. occurred_before c.users;
   is_missing = λ c e. false;
   taken = λ c. line_of_entry c.phase c.users;
 }
@@ -109,7 +109,7 @@ finish_of c = phases.finish_of c.phase
 
 -- a user has a key of its method's size
 abbrev pub HasKey : CaptureEntry → Type 0
-HasKey (entry.User user) = IsTrue (fits_kind user.kind user.psk)
+HasKey (entry.User user) = IsTrue (is_valid_for user.kind user.psk)
 HasKey other = Unit {0}
 
 -- what a line says, but for the users

@@ -63,10 +63,10 @@ abbrev pub reading_after_header : List ℕ → Option RadiusReader
 reading_after_header line = if bytes_eq line (codes "eap-radius 1") then Some (record { phase = phase.Settings }) else None
 
 -- Repeated: a second secret
-abbrev pub came_before : Phase → RadiusItem → Bool
-came_before phase.Events (item.Secret octets) = true
-came_before phase.Ended (item.Secret octets) = true
-came_before p i = false
+abbrev pub occurred_before : Phase → RadiusItem → Bool
+occurred_before phase.Events (item.Secret octets) = true
+occurred_before phase.Ended (item.Secret octets) = true
+occurred_before p i = false
 
 -- how far the text has come with what a line says
 abbrev pub phase_after : Phase → RadiusItem → Phase
@@ -84,7 +84,7 @@ radius = record {
   begun = λ r. reading_after_header;
   nothing = item.Nothing;
   is_crowded = λ r k. false;
-  came_before = λ r. came_before r.phase;
+  occurred_before = λ r. occurred_before r.phase;
   is_missing = λ r i. false;
   taken = λ r i. texts.line_of i (record { phase = phase_after r.phase i });
 }

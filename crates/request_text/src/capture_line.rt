@@ -2,7 +2,7 @@
 
 ghost use Rattle.std.specs.Prelude.{◌≡◌};
 ghost use Rattle.text_tables.specs.Words.{words};
-ghost use Rattle.text_tables.specs.Fits.{Fits};
+ghost use Rattle.text_tables.specs.IsValidRow.{IsValidRow};
 ghost use Rattle.request_text.specs.Captures.{row_of, entry_of, HasKey};
 
 use login_setup::User;
@@ -60,7 +60,7 @@ impl TableWord for CaptureWord {
 /// What a keyword says with the words of its line.
 #[tactic(auto, unfolding(crate::specs::Captures::entry_of))]
 pub fn entry_of(word: CaptureWord, line: &[u8]) -> CaptureEntry
-    requires { Fits (row_of word) (words line.now) }
+    requires { IsValidRow (row_of word) (words line.now) }
     ensures entry { result ≡ entry_of word (words line.now) }
     ensures key { HasKey result }
 {

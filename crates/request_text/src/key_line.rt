@@ -3,7 +3,7 @@
 ghost use Rattle.std.specs.Prelude.{◌≡◌, ◌≢◌, [], true, Ok, IfErr, IfOk, IfSome};
 ghost use Rattle.text_tables.specs.Words.{words};
 ghost use Rattle.request_text.specs.declared.key_line.KeyLine.TheVariants as key;
-ghost use Rattle.text_tables.specs.Fits.{Fits};
+ghost use Rattle.text_tables.specs.IsValidRow.{IsValidRow};
 ghost use Rattle.request_text.specs.Keys.{row_of, ciphersuite_of, asked_of, asked_by, key_line, read_into, asked_into, HasSizes};
 
 use octet_lists::{MAX_NAME, Octets, Suite};
@@ -156,7 +156,7 @@ pub fn read_key_line(line: &[u8]) -> Result<Option<KeyLine>, LineFault>
     }
 }
 
-#[tactic(auto, unfolding(crate::specs::Keys::asked_by), using(text_tables::proofs::Fitting::fits))]
+#[tactic(auto, unfolding(crate::specs::Keys::asked_by), using(text_tables::proofs::Bounded::fits))]
 fn read_request(line: &[u8], asked: &mut KeyLine) -> Result<(), LineFault>
     ensures value { asked_into result asked.new ≡ asked_by line.now }
     ensures kept { IfErr result (λ fault. asked.new ≡ asked.old) }
@@ -179,7 +179,7 @@ fn read_request(line: &[u8], asked: &mut KeyLine) -> Result<(), LineFault>
 /// Writes what a request asks for with the words of its line.
 #[tactic(auto, unfolding(crate::specs::Keys::asked_of))]
 fn ask(request: Request, line: &[u8], asked: &mut KeyLine)
-    requires { Fits (row_of request) (words line.now) }
+    requires { IsValidRow (row_of request) (words line.now) }
     ensures { asked.new ≡ asked_of request (words line.now) }
 {
     let first = word_in(line, 1);

@@ -58,7 +58,7 @@ impl Text for RadiusReader {
 
     ghost Whole = { RadiusItem };
 
-    ghost Said = { RadiusItem };
+    ghost Meaning = { RadiusItem };
 
     ghost table = { radius };
 
@@ -102,7 +102,7 @@ impl Text for RadiusReader {
         }
     }
 
-    fn came_before(&self, entry: &RadiusItem) -> bool {
+    fn occurred_before(&self, entry: &RadiusItem) -> bool {
         match entry {
             RadiusItem::Secret(_) => self.phase == Phase::Events || self.phase == Phase::Ended,
             _ => false,

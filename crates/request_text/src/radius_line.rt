@@ -2,7 +2,7 @@
 
 ghost use Rattle.std.specs.Prelude.{◌≡◌};
 ghost use Rattle.text_tables.specs.Words.{words};
-ghost use Rattle.text_tables.specs.Fits.{Fits};
+ghost use Rattle.text_tables.specs.IsValidRow.{IsValidRow};
 ghost use Rattle.request_text.specs.Radius.{row_of, reply_of, item_of};
 
 use octet_lists::{Identity, MAX_NAME, MAX_PACKET, Octets, Packet};
@@ -119,7 +119,7 @@ fn reply_of(name: &[u8]) -> ReplyKind
 /// What a keyword says with the words of its line.
 #[tactic(auto, unfolding(crate::specs::Radius::item_of))]
 pub fn item_of(word: RadiusWord, line: &[u8]) -> RadiusItem
-    requires { Fits (row_of word) (words line.now) }
+    requires { IsValidRow (row_of word) (words line.now) }
     ensures { result ≡ item_of word (words line.now) }
 {
     let first = word_in(line, 1);

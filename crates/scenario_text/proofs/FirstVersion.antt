@@ -10,7 +10,7 @@ use Rattle.text_tables.specs.Words.{words}
 use Rattle.text_tables.specs.Fields.{word_in, kind_of, octets_of}
 use Rattle.text_tables.specs.Rows.{keyword_in}
 use Rattle.scenario_text.specs.Keywords.{row_of, keywords}
-use Rattle.scenario_text.specs.Entries.{item_of, keyword_of, said_by}
+use Rattle.scenario_text.specs.Entries.{item_of, keyword_of, meaning_by}
 use Rattle.scenario_text.specs.Contents.{Entry}
 use Rattle.scenario_text.specs.Contents as entry
 use Rattle.scenario_text.proofs.Settling.{none-later}
@@ -34,10 +34,10 @@ sets_later (setting.PeerExpanded v) = true
 sets_later (setting.ServerExpanded v) = true
 sets_later v = false
 
-abbrev tells_later : Entry → Bool
-tells_later (entry.Set v) = sets_later v
-tells_later (entry.Happens e) = is_restart e
-tells_later e = false
+abbrev implies_later : Entry → Bool
+implies_later (entry.Set v) = sets_later v
+implies_later (entry.Happens e) = is_restart e
+implies_later e = false
 
 -- what is found has what all have
 found-has : {A : Type 0} (p q : A → Bool) (xs : List A) (default : A) → q default ≡ false → list_any q xs ≡ false → q (unwrap_or (find p xs) default) ≡ false
@@ -56,7 +56,7 @@ key-first : (b : Bool) (k : List ℕ) → sets_later (cond b (setting.PeerPsk47 
 key-first true k = refl
 key-first false k = refl
 
-item-first : (k : Keyword) (ws : List (List ℕ)) → is_later k ≡ false → tells_later (item_of k ws) ≡ false
+item-first : (k : Keyword) (ws : List (List ℕ)) → is_later k ≡ false → implies_later (item_of k ws) ≡ false
 unfolding item_of
 item-first key.PeerPsk ws h = key-first (kind_of (word_in ws 1) == psk_kind) (octets_of (word_in ws 2))
 item-first key.PeerExpanded ws h = h
@@ -64,10 +64,10 @@ item-first key.ServerExpanded ws h = h
 item-first key.Restart ws h = h
 item-first other ws h = refl
 
-said-first : (line : List ℕ) → tells_later (said_by First line) ≡ false
+said-first : (line : List ℕ) → implies_later (meaning_by First line) ≡ false
 said-first line = item-first (keyword_of First line) (words line) (keyword-first line)
 
-none-said : (lines : List (List ℕ)) → list_any tells_later (map (said_by First) lines) ≡ false
+none-said : (lines : List (List ℕ)) → list_any implies_later (map (meaning_by First) lines) ≡ false
 none-said [] = refl
 none-said (line ∷ rest) = let one = said-first line in rw one (none-said rest)
 
@@ -100,21 +100,21 @@ by-default [] value h e = h
 by-default (given ∷ rest) value h e = absurd cc
 
 alone-in : (version : Version) (kept : List (List ℕ)) (settings : List Setting) (events : List Event) (setup : Setup) → version ≡ First →
-    map (said_by version) kept ≡ map entry.Set settings ++ entry.Events ∷ (map entry.Happens events ++ entry.End ∷ []) →
+    map (meaning_by version) kept ≡ map entry.Set settings ++ entry.Events ∷ (map entry.Happens events ++ entry.End ∷ []) →
     MakesSetup version (values_of settings) setup → IsAlone setup events
 alone-in version kept settings events setup first order made =
     let tail : List Entry = map entry.Happens events ++ entry.End ∷ [] in
     let made_first = subst (λ v. MakesSetup v (values_of settings) setup) first made in
-    let order_first = subst (λ v. map (said_by v) kept ≡ map entry.Set settings ++ entry.Events ∷ tail) first order in
-    let none : list_any tells_later (map entry.Set settings ++ entry.Events ∷ tail) ≡ false = subst (λ es. list_any tells_later es ≡ false) order_first (none-said kept) in
-    let parts = or_parts (list_any tells_later (map entry.Set settings)) (list_any tells_later tail) (sym (any-join tells_later (map entry.Set settings) (entry.Events ∷ tail)) ∙ none) in
-    let in_tail = or_parts (list_any tells_later (map entry.Happens events)) (list_any tells_later (entry.End ∷ [])) (sym (any-join tells_later (map entry.Happens events) (entry.End ∷ [])) ∙ (parts.1)) in
-    let values = no-values settings (sym (any-map tells_later entry.Set settings) ∙ (parts.0)) in
+    let order_first = subst (λ v. map (meaning_by v) kept ≡ map entry.Set settings ++ entry.Events ∷ tail) first order in
+    let none : list_any implies_later (map entry.Set settings ++ entry.Events ∷ tail) ≡ false = subst (λ es. list_any implies_later es ≡ false) order_first (none-said kept) in
+    let parts = or_parts (list_any implies_later (map entry.Set settings)) (list_any implies_later tail) (sym (any-join implies_later (map entry.Set settings) (entry.Events ∷ tail)) ∙ none) in
+    let in_tail = or_parts (list_any implies_later (map entry.Happens events)) (list_any implies_later (entry.End ∷ [])) (sym (any-join implies_later (map entry.Happens events) (entry.End ∷ [])) ∙ (parts.1)) in
+    let values = no-values settings (sym (any-map implies_later entry.Set settings) ∙ (parts.0)) in
     record {
       later = none-later (values_of settings) setup made_first;
       peer = by-default (values_of settings).peer_expanded setup.peer.expanded (made_first.peer.expanded) values.peer;
       server = by-default (values_of settings).server_expanded setup.server.expanded (made_first.server.expanded) values.server;
-      no_restart = sym (any-map tells_later entry.Happens events) ∙ (in_tail.0);
+      no_restart = sym (any-map implies_later entry.Happens events) ∙ (in_tail.0);
     }
 
 pub first_scenarios_are_alone : FirstScenariosAreAlone

@@ -13,7 +13,7 @@ use Rattle.text_tables.specs.Fields.{spells_number, spells_octets}
 use Rattle.text_tables.specs.Texts as texts
 use Rattle.text_tables.specs.Texts.{body_has, read_body}
 use Rattle.text_tables.specs.Rows.{faults, unless, keyword_in, line_has}
-use Rattle.scenario_text.specs.Entries.{item_of, has_fault, said_by}
+use Rattle.scenario_text.specs.Entries.{item_of, has_fault, meaning_by}
 use Rattle.scenario_text.specs.Contents.{Entry, Set, Happens}
 use Rattle.text_tables.specs.Users.{with_user}
 use Rattle.scenario_text.specs.Reading.{with_later, peer_setup_of, server_setup_of, setup_of, read_line}
@@ -23,14 +23,14 @@ use Rattle.text_tables.specs.declared.fault.LineFault.TheVariants as fault
 use Rattle.scenario_text.specs.declared.entry.Setting.TheVariants as setting
 use Rattle.scenario_text.specs.declared.version.Version.{Version}
 use Rattle.scenario_text.specs.declared.version.Version.TheVariants.{First, Second}
-use Rattle.scenario_text.proofs.Telling.{scenarios_are_read}
+use Rattle.scenario_text.proofs.Implying.{scenarios_are_read}
 
 -- what a line of a version says, or the first fault of its words
-abbrev says_in : Version → List ℕ → Result Entry LineFault
-says_in version line = unless (find (has_fault version line) faults) (said_by version line)
+abbrev means_in : Version → List ℕ → Result Entry LineFault
+means_in version line = unless (find (has_fault version line) faults) (meaning_by version line)
 
 abbrev says : List ℕ → Result Entry LineFault
-says line = says_in First line
+says line = means_in First line
 
 -- a number has no leading zero, and is in its range; one space parts words, and their number comes before what they are
 numbers : (says (codes "deliver 1000000") ≡ Ok (Happens (event.Deliver 1000000)))
@@ -65,14 +65,14 @@ users = (refl, refl, refl, refl)
 -- the words of the second version are none of the first
 later-words : (says (codes "restart peer") ≡ Err fault.BadWord)
     × (says (codes "peer-expanded no") ≡ Err fault.BadWord)
-    × (says_in Second (codes "restart pass") ≡ Ok (Happens (event.Restart party.Pass)))
-    × (says_in Second (codes "restart peer") ≡ Ok (Happens (event.Restart party.Peer)))
-    × (says_in Second (codes "restart pass-peer") ≡ Err fault.BadChoice)
-    × (says_in Second (codes "restart") ≡ Err fault.BadCount)
-    × (says_in Second (codes "server-expanded no") ≡ Ok (Set (setting.ServerExpanded false)))
-    × (says_in Second (codes "server-expanded yes") ≡ Ok (Set (setting.ServerExpanded true)))
-    × (says_in Second (codes "peer-expanded maybe") ≡ Err fault.BadChoice)
-    × (says_in Second (codes "deliver 1") ≡ Ok (Happens (event.Deliver 1)))
+    × (means_in Second (codes "restart pass") ≡ Ok (Happens (event.Restart party.Pass)))
+    × (means_in Second (codes "restart peer") ≡ Ok (Happens (event.Restart party.Peer)))
+    × (means_in Second (codes "restart pass-peer") ≡ Err fault.BadChoice)
+    × (means_in Second (codes "restart") ≡ Err fault.BadCount)
+    × (means_in Second (codes "server-expanded no") ≡ Ok (Set (setting.ServerExpanded false)))
+    × (means_in Second (codes "server-expanded yes") ≡ Ok (Set (setting.ServerExpanded true)))
+    × (means_in Second (codes "peer-expanded maybe") ≡ Err fault.BadChoice)
+    × (means_in Second (codes "deliver 1") ≡ Ok (Happens (event.Deliver 1)))
 unfolding line_has keyword_in item_of spells_number
 later-words = (refl, refl, refl, refl, refl, refl, refl, refl, refl, refl)
 

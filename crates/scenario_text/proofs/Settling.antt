@@ -5,7 +5,7 @@ use Rattle.std.proofs.lemmas.Bool.{cond_both, leb-false, lt-leb, lt-ltb, ltb-tru
 use Rattle.std.proofs.lemmas.List.{get_or_append_left}
 use Rattle.std.proofs.Math.Seq.{get_or-append_seam}
 use Rattle.login_setup.specs.Setup.{no_later, has_keys}
-use Rattle.login_setup.specs.Users.{user_of, is_named, HasRoom, AreDistinct}
+use Rattle.login_setup.specs.Users.{user_of, is_named, HasCapacity, AreDistinct}
 use Rattle.login_setup.specs.declared.users.User.{User}
 use Rattle.login_setup.specs.declared.setup.Later.{Later}
 use Rattle.login_setup.specs.declared.setup.PeerSetup.{PeerSetup}
@@ -14,9 +14,9 @@ use Rattle.login_setup.specs.declared.setup.Setup.{Setup}
 use Rattle.login_setup.proofs.UserLists.{AreDistinct-push}
 use Rattle.text_tables.specs.Fields.{◌>>=◌}
 use Rattle.text_tables.specs.Users.{with_user}
-use Rattle.text_tables.proofs.Adding.{empty, with_user_is, with_user_holds}
+use Rattle.text_tables.proofs.Adding.{empty, with_user_is, with_user_satisfies}
 use Rattle.scenario_text.specs.Reading.{settings_of_version, has_setting, with_later, with_nonce, is_full, with_setting, both_suites, given_or_missing, keyed_or_missing, later_nonces, later_of, peer_setup_of, server_setup_of, setup_of}
-use Rattle.scenario_text.specs.Valid.{AreUsers, AreFew, IsKept}
+use Rattle.scenario_text.specs.Valid.{AreUsers, AreFew, IsConsistent}
 use Rattle.scenario_text.specs.Versions.{has_later, most_later}
 use Rattle.scenario_text.specs.Whole.{Values, no_values, with_value, values_of, IsGivenOr, IsGivenOrNone, AreNoncesOf, MakesPeer, MakesServer, MakesSetup}
 use Rattle.text_tables.specs.declared.fault.LineFault.{LineFault}
@@ -33,7 +33,7 @@ no-users = record { few = lit≤ tt; distinct = λ i j d low high. absurd (not-s
 
 users-kept : (users : List User) (user : User) → AreUsers users → AreUsers (with_user users user)
 users-kept users user h =
-    with_user_holds AreUsers users user h (λ r.
+    with_user_satisfies AreUsers users user h (λ r.
     record { few = omega (arith, length-append users (user ∷ []), r.few); distinct = AreDistinct-push users user (h.distinct) (r.absent) })
 
 later-few : (version : Version) (later : List (List ℕ)) (nonce : List ℕ) → length later ≤ most_later version → length (with_later version later nonce) ≤ most_later version
@@ -47,10 +47,10 @@ few-kept First None nonce h = lit≤ tt
 few-kept Second None nonce h = lit≤ tt
 few-kept version (Some given) nonce h = later-few version given.later nonce h
 
-pub none-kept : (version : Version) → IsKept (settings_of_version version)
+pub none-kept : (version : Version) → IsConsistent (settings_of_version version)
 none-kept version = record { users = no-users; peer_nonces = tt; server_nonces = tt }
 
-pub kept : (s : Settings) (x : Setting) → IsKept s → IsKept (with_setting s x)
+pub kept : (s : Settings) (x : Setting) → IsConsistent s → IsConsistent (with_setting s x)
 kept s (setting.User user) h = record { users = users-kept s.users user h.users; peer_nonces = h.peer_nonces; server_nonces = h.server_nonces }
 kept s (setting.PeerNonce nonce) h =
     record { users = h.users; peer_nonces = few-kept s.version s.peer_nonces nonce h.peer_nonces; server_nonces = h.server_nonces }
@@ -113,13 +113,13 @@ fresh : {A : Type 0} (slot : Option A) (a : A) (xs : List A) → is_some slot �
 fresh None a xs e = refl
 fresh (Some b) a xs e = absurd cc
 
-room : (users : List User) (user : User) → nat_le 16 (length users) ≡ false → is_some (user_of users user.name user.kind) ≡ false → HasRoom users user
+room : (users : List User) (user : User) → nat_le 16 (length users) ≡ false → is_some (user_of users user.name user.kind) ≡ false → HasCapacity users user
 room users user f n = record { few = leb-false 16 (length users) f; absent = empty (user_of users user.name user.kind) n }
 
-pushed : (users : List User) (user : User) → HasRoom users user → users ++ user ∷ [] ≡ with_user users user
+pushed : (users : List User) (user : User) → HasCapacity users user → users ++ user ∷ [] ≡ with_user users user
 pushed users user h = with_user_is users (users ++ user ∷ []) user (λ k. refl) (λ no. absurd (no h))
 
-added : (users : List User) (user : User) (rest : List User) → HasRoom users user → users ++ user ∷ rest ≡ with_user users user ++ rest
+added : (users : List User) (user : User) (rest : List User) → HasCapacity users user → users ++ user ∷ rest ≡ with_user users user ++ rest
 added users user rest h = sym (append_assoc users (user ∷ []) rest) ∙ ap (λ l. l ++ rest) (pushed users user h)
 
 -- so does a nonce for which there is room
@@ -146,7 +146,7 @@ pub gathers : (s : Settings) (settings : List Setting) → AllNew s settings →
 gathers s [] h = refl
 gathers s (x ∷ rest) h = moves s x (values_of rest) (h.0) (h.1) ∙ gathers (with_setting s x) rest (h.2)
 
-pub kept-after : (s : Settings) (settings : List Setting) → IsKept s → IsKept (settings_after s settings)
+pub kept-after : (s : Settings) (settings : List Setting) → IsConsistent s → IsConsistent (settings_after s settings)
 kept-after s [] k = k
 kept-after s (x ∷ rest) k = kept-after (with_setting s x) rest (kept s x k)
 
@@ -160,9 +160,9 @@ module _ {A B : Type 0} (Q : B → Type 0) where
   with_needed None f h = tt
   with_needed (Some a) f h = h a refl
 
-  with_made : (x : Result A LineFault) (P : A → Type 0) (f : A → Result B LineFault) → IfOk x P → ((a : A) → P a → IfOk (f a) Q) → IfOk (x >>= f) Q
-  with_made (Ok a) P f p h = h a p
-  with_made (Err e) P f p h = tt
+  with_created : (x : Result A LineFault) (P : A → Type 0) (f : A → Result B LineFault) → IfOk x P → ((a : A) → P a → IfOk (f a) Q) → IfOk (x >>= f) Q
+  with_created (Ok a) P f p h = h a p
+  with_created (Err e) P f p h = tt
 
 given-or : {A : Type 0} (slot : Option A) (d : A) → IsGivenOr d (plus slot []) (unwrap_or slot d)
 given-or None d = refl
@@ -188,7 +188,7 @@ with_given : {A B : Type 0} (Q : B → Type 0) (slot : Option A) (f : A → Resu
 with_given Q None f h = tt
 with_given Q (Some a) f h = h a refl
 
-pub peers-given : (s : Settings) → IsKept s → IfOk (peer_setup_of s) (MakesPeer s.version (joined s no_values) (later_nonces s.peer_nonces))
+pub peers-given : (s : Settings) → IsConsistent s → IfOk (peer_setup_of s) (MakesPeer s.version (joined s no_values) (later_nonces s.peer_nonces))
 unfolding peer_setup_of
 peers-given s h =
     let Q = MakesPeer s.version (joined s no_values) (later_nonces s.peer_nonces) in
@@ -209,7 +209,7 @@ peers-given s h =
       expanded = given-or s.peer_expanded false;
     })))))
 
-pub servers-given : (s : Settings) → IsKept s → IfOk (server_setup_of s) (MakesServer s.version (joined s no_values) (later_nonces s.server_nonces))
+pub servers-given : (s : Settings) → IsConsistent s → IfOk (server_setup_of s) (MakesServer s.version (joined s no_values) (later_nonces s.server_nonces))
 unfolding server_setup_of
 servers-given s h =
     let Q = MakesServer s.version (joined s no_values) (later_nonces s.server_nonces) in
@@ -226,13 +226,13 @@ servers-given s h =
       expanded = given-or s.server_expanded false;
     })))
 
-pub all-given : (s : Settings) → IsKept s → IfOk (setup_of s) (MakesSetup s.version (joined s no_values))
+pub all-given : (s : Settings) → IsConsistent s → IfOk (setup_of s) (MakesSetup s.version (joined s no_values))
 unfolding setup_of
 all-given s h =
     let Q = MakesSetup s.version (joined s no_values) in
     with_needed Q s.mode _ (λ mode a.
-    with_made Q (peer_setup_of s) (MakesPeer s.version (joined s no_values) (later_nonces s.peer_nonces)) _ (peers-given s h) (λ peer b.
-    with_made Q (server_setup_of s) (MakesServer s.version (joined s no_values) (later_nonces s.server_nonces)) _ (servers-given s h) (λ server c.
+    with_created Q (peer_setup_of s) (MakesPeer s.version (joined s no_values) (later_nonces s.peer_nonces)) _ (peers-given s h) (λ peer b.
+    with_created Q (server_setup_of s) (MakesServer s.version (joined s no_values) (later_nonces s.server_nonces)) _ (servers-given s h) (λ server c.
     record { mode = a; first_id = given-or s.first_id 0; max_retrans = given-or s.max_retrans 4; peer = b; server = c; number = refl })))
 
 -- a setting that comes where it is set would be given twice

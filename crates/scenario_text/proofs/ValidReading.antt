@@ -7,7 +7,7 @@ use Rattle.std.proofs.lemmas.Result.{IfOk-weaker}
 use Rattle.std.proofs.lemmas.Slice.Eq.{bytes_eq-Decides}
 use Rattle.std.specs.Str.{bytes_eq}
 use Rattle.octet_lists.specs.Among.{psk_kind, gpsk_kind, is_kind}
-use Rattle.login_setup.specs.Setup.{are_kinds, are_suites, fits_kind, no_later}
+use Rattle.login_setup.specs.Setup.{are_kinds, are_suites, is_valid_for, no_later}
 use Rattle.login_setup.specs.declared.event.Event.{Event}
 use Rattle.login_setup.specs.declared.setup.Accepts.TheVariants.{Any, One}
 use Rattle.login_setup.specs.declared.setup.PeerSetup.{PeerSetup}
@@ -18,13 +18,13 @@ use Rattle.text_tables.specs.Fields.{word_in, is_dash, octets_of, spells_kind, k
 use Rattle.text_tables.specs.Rows.{is_kind_or_none}
 use Rattle.text_tables.specs.Texts as texts
 use Rattle.text_tables.specs.Texts.{read_body}
-use Rattle.text_tables.specs.Fits.{IsName, IsOther, Fits}
+use Rattle.text_tables.specs.IsValidRow.{IsName, IsOther, IsValidRow}
 use Rattle.scenario_text.specs.Keywords.{row_of, keywords_in}
-use Rattle.scenario_text.specs.Entries.{accepts_of, kinds_of, suites_of, key_setting, item_of, keyword_of, said_by}
+use Rattle.scenario_text.specs.Entries.{accepts_of, kinds_of, suites_of, key_setting, item_of, keyword_of, meaning_by}
 use Rattle.scenario_text.specs.Contents.{Entry, entry_with}
 use Rattle.scenario_text.specs.Contents as entry
 use Rattle.scenario_text.specs.Reading.{Reading, ReadLine, with_setting, with_later, with_nonce, no_settings, settings_of_version, both_suites, peer_setup_of, server_setup_of, later_nonces, setup_of, ready, scenario, line_of_entry, read_line}
-use Rattle.scenario_text.specs.Valid.{AcceptsName, IsValidUser, IsNonce, IsValidSetting, IsValidEntry, IsValidTold, AreValidNonces, AreValid, IsValidPeer, IsValidServer, IsValidSetup, IsValidItem, IsValidReadLine}
+use Rattle.scenario_text.specs.Valid.{AcceptsName, IsValidUser, IsNonce, IsValidSetting, IsValidEntry, IsValidContent, AreValidNonces, AreValid, IsValidPeer, IsValidServer, IsValidSetup, IsValidItem, IsValidReadLine}
 use Rattle.scenario_text.specs.Versions.{most_later}
 use Rattle.scenario_text.specs.Whole.{IsFaultless, Values, no_values, IsGivenOr, IsGivenOrNone, AreNoncesOf, MakesPeer, MakesServer, MakesSetup}
 use Rattle.scenario_text.specs.declared.entry.Entry as told
@@ -39,9 +39,9 @@ use Rattle.scenario_text.specs.declared.settings.GivenNonces.{GivenNonces}
 use Rattle.scenario_text.specs.declared.settings.Settings.{Settings}
 use Rattle.scenario_text.specs.declared.version.Version.{Version}
 use Rattle.scenario_text.specs.declared.version.Version.TheVariants.{First, Second}
-use Rattle.text_tables.proofs.Fitting.{faultless-fits}
+use Rattle.text_tables.proofs.Bounded.{faultless-fits}
 use Rattle.text_tables.proofs.Reading.{stepped}
-use Rattle.scenario_text.proofs.Telling.{step-cases, read_line_from_unread}
+use Rattle.scenario_text.proofs.Implying.{step-cases, read_line_from_unread}
 use Rattle.text_tables.proofs.Adding.{with_user-all}
 use Rattle.scenario_text.proofs.Settling.{plus, plus_nonces, joined, none-kept, kept, nonces-set, peers-given, servers-given, all-given, none-later}
 
@@ -113,14 +113,14 @@ suites-valid ws h k =
     (λ one. one-suite (word_in ws 1))
     (λ two. two-suites (word_in ws 1) (word_in ws 2) h (k (leb-false (length ws) 2 two)))
 
-key-valid : (word key : List ℕ) → IsTrue (fits_kind (kind_of word) key) → IsValidSetting (key_setting (kind_of word) key)
+key-valid : (word key : List ℕ) → IsTrue (is_valid_for (kind_of word) key) → IsValidSetting (key_setting (kind_of word) key)
 key-valid word key h =
     elim (cases_Bool (bytes_eq word (codes "47"))) [
       | inl e ↦ rw e (rw e at h)
       | inr e ↦ rw e (rw e at h)
     ]
 
-pub item_of_valid : (k : Keyword) (ws : List (List ℕ)) → Fits (row_of k) ws → IsValidEntry (item_of k ws)
+pub item_of_valid : (k : Keyword) (ws : List (List ℕ)) → IsValidRow (row_of k) ws → IsValidEntry (item_of k ws)
 unfolding item_of
 item_of_valid key.FirstId ws h = omega (arith, h.fields.0.most)
 item_of_valid key.MaxRetrans ws h = h.fields.0.most
@@ -138,16 +138,16 @@ item_of_valid key.User ws h = record { name = h.fields.0; kind = kind-valid (wor
 item_of_valid other ws h = tt
 
 -- what a line says is within its limits
-pub said_by_valid : (version : Version) (line : List ℕ) → IsFaultless version line → IsValidEntry (said_by version line)
-said_by_valid version line own = item_of_valid (keyword_of version line) (words line) (faultless-fits row_of (keywords_in version) key.End line own)
+pub stated_by_valid : (version : Version) (line : List ℕ) → IsFaultless version line → IsValidEntry (meaning_by version line)
+stated_by_valid version line own = item_of_valid (keyword_of version line) (words line) (faultless-fits row_of (keywords_in version) key.End line own)
 
 -- and of what is told of it
-pub valid_told : (it : told.Entry) (e : Event) → IsValidEntry (entry_with it e) → IsValidTold it
-valid_told (told.TheVariants.Set v) e h = h
-valid_told other e h = tt
+pub valid_reported : (it : told.Entry) (e : Event) → IsValidEntry (entry_with it e) → IsValidContent it
+valid_reported (told.TheVariants.Set v) e h = h
+valid_reported other e h = tt
 
-pub begun_valid : (version : Version) → AreValid (settings_of_version version)
-begun_valid version = record {
+pub started_valid : (version : Version) → AreValid (settings_of_version version)
+started_valid version = record {
   first_id = tt;
   max_retrans = tt;
   peer_name = tt;
@@ -166,7 +166,7 @@ begun_valid version = record {
 }
 
 pub no_settings_valid : AreValid no_settings
-no_settings_valid = begun_valid First
+no_settings_valid = started_valid First
 
 -- one more nonce
 later-valid : (version : Version) (later : List (List ℕ)) (nonce : List ℕ) → All IsNonce later → IsNonce nonce → All IsNonce (with_later version later nonce)
@@ -216,8 +216,8 @@ valid-peer version s later peer h m = record {
   sound = record {
     methods = held (λ kinds. IsTrue (are_kinds kinds)) s.peer_methods peer.methods h.peer_methods m.methods;
     suites = held-or (λ suites. IsTrue (are_suites suites)) s.peer_suites both_suites peer.suites h.peer_suites refl m.suites;
-    psk47 = held-key (λ key. IsTrue (fits_kind psk_kind key)) s.peer_psk47 peer.psk47 h.peer_psk47 m.psk47;
-    psk51 = held-key (λ key. IsTrue (fits_kind gpsk_kind key)) s.peer_psk51 peer.psk51 h.peer_psk51 m.psk51;
+    psk47 = held-key (λ key. IsTrue (is_valid_for psk_kind key)) s.peer_psk47 peer.psk47 h.peer_psk47 m.psk47;
+    psk51 = held-key (λ key. IsTrue (is_valid_for gpsk_kind key)) s.peer_psk51 peer.psk51 h.peer_psk51 m.psk51;
   };
   keys = m.keys;
   name = held IsName s.peer_name peer.name h.peer_name m.name;
@@ -234,7 +234,7 @@ valid-server version s later server h m =
         methods = held (λ kinds. IsTrue (are_kinds kinds)) s.server_methods server.methods h.server_methods m.methods;
         suites = held-or (λ suites. IsTrue (are_suites suites)) s.server_suites both_suites server.suites h.server_suites refl m.suites;
         kinds = All-weaker IsValidUser (λ user. IsTrue (is_kind user.kind)) (λ user v. v.kind) server.users users;
-        keys = All-weaker IsValidUser (λ user. IsTrue (fits_kind user.kind user.psk)) (λ user v. v.psk) server.users users;
+        keys = All-weaker IsValidUser (λ user. IsTrue (is_valid_for user.kind user.psk)) (λ user v. v.psk) server.users users;
       };
       name = held IsName s.server_name server.name h.server_name m.name;
       users = users;
@@ -280,7 +280,7 @@ taken-valid p s other h k = record { item = tt; settings = h }
 
 step-valid : (p : Phase) (s : Settings) (line : List ℕ) (out : ReadLine) → AreValid s → read_body row_of scenario (record { phase = p; settings = s }) line ≡ Ok out → IsValidReadLine out
 step-valid p s line out h e =
-    step-cases p s line IsValidReadLine (record { item = tt; settings = h }) (λ own may. taken-valid p s (said_by s.version line) h (said_by_valid s.version line own)) out
+    step-cases p s line IsValidReadLine (record { item = tt; settings = h }) (λ own may. taken-valid p s (meaning_by s.version line) h (stated_by_valid s.version line own)) out
     (stepped row_of scenario (record { phase = p; settings = s }) line out e)
 
 -- what a line says and adds
@@ -288,7 +288,7 @@ line-valid : (p : Phase) (s : Settings) (line : List ℕ) (out : ReadLine) → A
 unfolding read_line texts.read_line
 line-valid phase.Unread s line out h e =
     let begins = read_line_from_unread (record { phase = phase.Unread; settings = s }) line out refl e in
-    subst IsValidReadLine (sym begins.out_is) (record { item = tt; settings = begun_valid begins.version })
+    subst IsValidReadLine (sym begins.out_is) (record { item = tt; settings = started_valid begins.version })
 line-valid other s line out h e = step-valid other s line out h e
 
 if-ok : (x : Result ReadLine LineFault) → ((out : ReadLine) → x ≡ Ok out → IsValidReadLine out) → IfOk x IsValidReadLine

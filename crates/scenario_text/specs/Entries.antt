@@ -113,5 +113,5 @@ has_fault version line e = line_has row_of (keywords_in version) line e
 abbrev pub keyword_of : Version → List ℕ → Keyword
 keyword_of version line = unwrap_or (keyword_in row_of (keywords_in version) (words line)) key.End
 
-abbrev pub said_by : Version → List ℕ → Entry
-said_by version line = item_of (keyword_of version line) (words line)
+abbrev pub meaning_by : Version → List ℕ → Entry
+meaning_by version line = item_of (keyword_of version line) (words line)

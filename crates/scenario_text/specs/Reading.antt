@@ -210,9 +210,9 @@ HasSetup answer.TheVariants.Ready after = IsOk (setup_of after.settings)
 HasSetup other after = Unit {0}
 
 -- line 1 is the header of a version
-abbrev pub begun_with : Option Version → Option Reading
-begun_with None = None
-begun_with (Some v) = Some (record { phase = phase.Settings; settings = settings_of_version v })
+abbrev pub started_with : Option Version → Option Reading
+started_with None = None
+started_with (Some v) = Some (record { phase = phase.Settings; settings = settings_of_version v })
 
 -- settings come before the line `events`, events and the line `end` after it
 abbrev pub part_of : Entry → Part
@@ -229,9 +229,9 @@ is_crowded s key.ServerNonce = has_later s.version && is_full s.server_nonces
 is_crowded s k = false
 
 -- Repeated: a setting that came before
-abbrev pub came_before : Settings → Entry → Bool
-came_before s (entry.Set v) = has_setting s v
-came_before s e = false
+abbrev pub occurred_before : Settings → Entry → Bool
+occurred_before s (entry.Set v) = has_setting s v
+occurred_before s e = false
 
 -- Missing: the line `events`, and a needed setting isn't there
 abbrev pub is_missing : Settings → Entry → Bool
@@ -252,10 +252,10 @@ scenario = record {
   entry = item_of;
   part = part_of;
   phase = λ r. r.phase;
-  begun = λ r line. begun_with (version_of line);
+  begun = λ r line. started_with (version_of line);
   nothing = item.Nothing;
   is_crowded = λ r. is_crowded r.settings;
-  came_before = λ r. came_before r.settings;
+  occurred_before = λ r. occurred_before r.settings;
   is_missing = λ r. is_missing r.settings;
   taken = λ r. line_of_entry r.phase r.settings;
 }

@@ -1,7 +1,7 @@
 -- What every setting that was read keeps: its number, its name or its nonce is within its limits.
 use Rattle.std.specs.Prelude.{◌≡◌, ◌==◌, false, ◌≤◌, ◌<◌, length, IfSome, IsTrue, All, Option, ℕ, List}
 use Rattle.octet_lists.specs.Among.{psk_kind, gpsk_kind, is_kind}
-use Rattle.login_setup.specs.Setup.{are_kinds, are_suites, fits_kind, no_later, IsSoundPeer, IsSoundServer, HasKeys}
+use Rattle.login_setup.specs.Setup.{are_kinds, are_suites, is_valid_for, no_later, IsSoundPeer, IsSoundServer, HasKeys}
 use Rattle.login_setup.specs.Users.{AreDistinct, max_users}
 use Rattle.login_setup.specs.declared.users.User.{User}
 use Rattle.login_setup.specs.declared.setup.Accepts.{Accepts}
@@ -10,7 +10,7 @@ use Rattle.login_setup.specs.declared.setup.Later.{Later}
 use Rattle.login_setup.specs.declared.setup.PeerSetup.{PeerSetup}
 use Rattle.login_setup.specs.declared.setup.ServerSetup.{ServerSetup}
 use Rattle.login_setup.specs.declared.setup.Setup.{Setup}
-use Rattle.text_tables.specs.Fits.{IsName}
+use Rattle.text_tables.specs.IsValidRow.{IsName}
 use Rattle.scenario_text.specs.Reading.{ReadLine}
 use Rattle.scenario_text.specs.Versions.{most_later}
 use Rattle.scenario_text.specs.declared.entry.Setting.{Setting}
@@ -33,7 +33,7 @@ AcceptsName (One name) = IsName name
 pub record IsValidUser (user : User) : Type 0 where
   pub name : IsName user.name
   pub kind : IsTrue (is_kind user.kind)
-  pub psk : IsTrue (fits_kind user.kind user.psk)
+  pub psk : IsTrue (is_valid_for user.kind user.psk)
 
 abbrev pub IsNonce : List ℕ → Type 0
 IsNonce nonce = length nonce ≡ 32
@@ -46,8 +46,8 @@ IsValidSetting (setting.PeerName name) = IsName name
 IsValidSetting (setting.PeerServer accepts) = AcceptsName accepts
 IsValidSetting (setting.PeerMethods kinds) = IsTrue (are_kinds kinds)
 IsValidSetting (setting.PeerSuites suites) = IsTrue (are_suites suites)
-IsValidSetting (setting.PeerPsk47 key) = IsTrue (fits_kind psk_kind key)
-IsValidSetting (setting.PeerPsk51 key) = IsTrue (fits_kind gpsk_kind key)
+IsValidSetting (setting.PeerPsk47 key) = IsTrue (is_valid_for psk_kind key)
+IsValidSetting (setting.PeerPsk51 key) = IsTrue (is_valid_for gpsk_kind key)
 IsValidSetting (setting.PeerNonce nonce) = IsNonce nonce
 IsValidSetting (setting.ServerName name) = IsName name
 IsValidSetting (setting.ServerMethods kinds) = IsTrue (are_kinds kinds)
@@ -62,9 +62,9 @@ IsValidEntry (entry.Set v) = IsValidSetting v
 IsValidEntry other = Unit {0}
 
 -- the same of what a line contains
-abbrev pub IsValidTold : told.Entry → Type 0
-IsValidTold (told.TheVariants.Set v) = IsValidSetting v
-IsValidTold other = Unit {0}
+abbrev pub IsValidContent : told.Entry → Type 0
+IsValidContent (told.TheVariants.Set v) = IsValidSetting v
+IsValidContent other = Unit {0}
 
 -- users that are few and distinct
 pub record AreUsers (users : List User) : Type 0 where
@@ -80,7 +80,7 @@ abbrev pub AreFew : Version → Option GivenNonces → Type 0
 AreFew version slot = IfSome slot (λ given. length given.later ≤ most_later version)
 
 -- what comes on several lines
-pub record IsKept (s : Settings) : Type 0 where
+pub record IsConsistent (s : Settings) : Type 0 where
   pub users : AreUsers s.users
   pub peer_nonces : AreFew s.version s.peer_nonces
   pub server_nonces : AreFew s.version s.server_nonces
@@ -93,15 +93,15 @@ pub record AreValid (s : Settings) : Type 0 where
   pub peer_server : IfSome s.peer_server AcceptsName
   pub peer_methods : IfSome s.peer_methods (λ kinds. IsTrue (are_kinds kinds))
   pub peer_suites : IfSome s.peer_suites (λ suites. IsTrue (are_suites suites))
-  pub peer_psk47 : IfSome s.peer_psk47 (λ key. IsTrue (fits_kind psk_kind key))
-  pub peer_psk51 : IfSome s.peer_psk51 (λ key. IsTrue (fits_kind gpsk_kind key))
+  pub peer_psk47 : IfSome s.peer_psk47 (λ key. IsTrue (is_valid_for psk_kind key))
+  pub peer_psk51 : IfSome s.peer_psk51 (λ key. IsTrue (is_valid_for gpsk_kind key))
   pub peer_nonces : IfSome s.peer_nonces AreValidNonces
   pub server_name : IfSome s.server_name IsName
   pub server_methods : IfSome s.server_methods (λ kinds. IsTrue (are_kinds kinds))
   pub server_suites : IfSome s.server_suites (λ suites. IsTrue (are_suites suites))
   pub server_nonces : IfSome s.server_nonces AreValidNonces
   pub users : All IsValidUser s.users
-  pub kept : IsKept s
+  pub kept : IsConsistent s
 
 -- the settings of each end and of a run, within their limits
 pub record IsValidPeer (peer : PeerSetup) : Type 0 where

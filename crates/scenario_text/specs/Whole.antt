@@ -12,7 +12,7 @@ use Rattle.login_setup.specs.declared.event.Event.{Event}
 use Rattle.login_setup.specs.declared.event.Event.TheVariants as event
 use Rattle.text_tables.specs.Words.{is_passed_over}
 use Rattle.text_tables.specs.Fields.{◌>>=◌}
-use Rattle.scenario_text.specs.Entries.{has_fault, said_by}
+use Rattle.scenario_text.specs.Entries.{has_fault, meaning_by}
 use Rattle.scenario_text.specs.Contents.{Set, Events, Happens, End}
 use Rattle.scenario_text.specs.Reading.{Reading, no_settings, read_line, finish_of, both_suites}
 use Rattle.scenario_text.specs.Valid.{AreUsers}
@@ -156,7 +156,7 @@ pub record IsScenario (lines : List (List ℕ)) (setup : Setup) (events : List E
   pub settings : List Setting
   pub begins : lines ≡ header version ∷ body
   pub faultless : All (IsFaultless version) (lines_that_count body)
-  pub order : map (said_by version) (lines_that_count body) ≡ map Set settings ++ Events ∷ (map Happens events ++ End ∷ [])
+  pub order : map (meaning_by version) (lines_that_count body) ≡ map Set settings ++ Events ∷ (map Happens events ++ End ∷ [])
   pub made : MakesSetup version (values_of settings) setup
 
 -- what reading lines makes: the setup, if the line `events` came, and the events

@@ -4,7 +4,7 @@ ghost use Rattle.std.specs.Prelude.{◌≡◌, ◌≤◌, length};
 ghost use Rattle.octet_lists.specs.Sizes.{max_name};
 ghost use Rattle.text_tables.specs.Words.{words};
 ghost use Rattle.scenario_text.specs.Contents.{entry_with};
-ghost use Rattle.text_tables.specs.Fits.{Fits};
+ghost use Rattle.text_tables.specs.IsValidRow.{IsValidRow};
 ghost use Rattle.scenario_text.specs.Keywords.{row_of};
 ghost use Rattle.scenario_text.specs.Entries.{accepts_of, kinds_of, suites_of, key_setting, port_of, party_of, is_yes, mode_of, item_of, IsSet};
 
@@ -48,7 +48,7 @@ pub enum Entry {
 /// What a keyword says with the words of its line, which fit its row. An event is written to `event`.
 #[tactic(auto, unfolding(crate::specs::Entries::item_of))]
 pub fn item_of(keyword: Keyword, line: &[u8], event: &mut Event) -> Entry
-    requires { Fits (row_of keyword) (words line.now) }
+    requires { IsValidRow (row_of keyword) (words line.now) }
     ensures { item_of keyword (words line.now) ≡ entry_with result event.new }
 {
     let first = word_in(line, 1);
@@ -120,7 +120,7 @@ pub fn item_of(keyword: Keyword, line: &[u8], event: &mut Event) -> Entry
 #[inline(never)]
 #[tactic(auto, unfolding(crate::specs::Entries::item_of))]
 fn inject(line: &[u8], event: &mut Event)
-    requires { Fits (row_of Keyword.Inject) (words line.now) }
+    requires { IsValidRow (row_of Keyword.Inject) (words line.now) }
     ensures { item_of Keyword.Inject (words line.now) ≡ entry_with Entry.Happens event.new }
 {
     *event = Event::Inject {
@@ -134,7 +134,7 @@ fn inject(line: &[u8], event: &mut Event)
 #[inline(never)]
 #[tactic(auto, unfolding(crate::specs::Entries::item_of))]
 fn set_by(keyword: Keyword, line: &[u8]) -> Entry
-    requires { Fits (row_of keyword) (words line.now) }
+    requires { IsValidRow (row_of keyword) (words line.now) }
     ensures { (event : Event) → IsSet (item_of keyword (words line.now)) → item_of keyword (words line.now) ≡ entry_with result event }
 {
     let first = word_in(line, 1);

@@ -14,7 +14,7 @@ pub fn lines_are_judged()
 /// setting given twice, but for the nonces of the second version, which each end may have 16 times, and none
 /// missing that is needed. Each setting then has the value of its line, else its default, the nonces are those
 /// of their lines, in order, and so are the events.
-#[tactic(auto, using(crate::proofs::Telling::scenarios_are_read))]
+#[tactic(auto, using(crate::proofs::Implying::scenarios_are_read))]
 pub fn scenarios_are_read()
     ensures { ScenariosAreRead }
 {}

@@ -120,7 +120,7 @@ impl Text for ScenarioReader {
     ghost use Rattle.scenario_text.specs.Contents.{entry_with};
     ghost use Rattle.scenario_text.specs.Items as items;
     ghost use Rattle.scenario_text.specs.Reading.{HasSetup, item_with, scenario};
-    ghost use Rattle.scenario_text.specs.Valid.{IsValidTold};
+    ghost use Rattle.scenario_text.specs.Valid.{IsValidContent};
 
     type Word = Keyword;
 
@@ -132,7 +132,7 @@ impl Text for ScenarioReader {
 
     ghost Whole = { contents.Entry };
 
-    ghost Said = { items.Item };
+    ghost Meaning = { items.Item };
 
     ghost table = { scenario };
 
@@ -140,7 +140,7 @@ impl Text for ScenarioReader {
 
     ghost says = { item_with };
 
-    ghost is_valid = { IsValidTold };
+    ghost is_valid = { IsValidContent };
 
     ghost is_so = { HasSetup };
 
@@ -181,7 +181,7 @@ impl Text for ScenarioReader {
         }
     }
 
-    fn came_before(&self, entry: &Entry) -> bool {
+    fn occurred_before(&self, entry: &Entry) -> bool {
         match entry {
             Entry::Set(setting) => self.settings.has(setting),
             _ => false,

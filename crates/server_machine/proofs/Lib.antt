@@ -1,7 +1,7 @@
 -- What the server makes of an input is one of the rows of its table.
 pub mod ServerRows
 -- What a delivery comes to: the row of its table, a refusal, or the row of the plain form, whose Request is wrapped.
-pub mod Hearing
+pub mod Receiving
 -- A discard changes nothing.
 pub mod Discards
 -- The methods already proposed: two kinds there are, so a kind that isn't among them finds room.

@@ -28,10 +28,10 @@ three a b kind a_is b_is kind_is_one ab ak bk =
       ]
     ]
 
-pub proposed_has_room : (proposed : List ℕ) (kind : ℕ) → are_kinds proposed ≡ true → is_kind kind ≡ true → is_among proposed kind ≡ false → length proposed < 2
-proposed_has_room [] kind kinds is unproposed = omega arith
-proposed_has_room (a ∷ []) kind kinds is unproposed = omega arith
-proposed_has_room (a ∷ b ∷ rest) kind kinds is unproposed =
+pub proposed_has_capacity : (proposed : List ℕ) (kind : ℕ) → are_kinds proposed ≡ true → is_kind kind ≡ true → is_among proposed kind ≡ false → length proposed < 2
+proposed_has_capacity [] kind kinds is unproposed = omega arith
+proposed_has_capacity (a ∷ []) kind kinds is unproposed = omega arith
+proposed_has_capacity (a ∷ b ∷ rest) kind kinds is unproposed =
     let parts = and_parts (is_kind a && (is_kind b && list_all is_kind rest)) (are_distinct (a ∷ b ∷ rest)) kinds in
     let all = and_parts (is_kind a) (is_kind b && list_all is_kind rest) parts.0 in
     let others = and_parts (is_kind b) (list_all is_kind rest) all.1 in
@@ -50,7 +50,7 @@ proposed_grows (a ∷ []) kind kinds is unproposed =
     let fresh = or_parts (a == kind) false unproposed in
     let apart = ne_eqb kind a (λ same. eqb-false a kind fresh.0 (sym same)) in
     rw (is, first.0, apart) refl
-proposed_grows (a ∷ b ∷ rest) kind kinds is unproposed = absurd (omega (arith, proposed_has_room (a ∷ b ∷ rest) kind kinds is unproposed))
+proposed_grows (a ∷ b ∷ rest) kind kinds is unproposed = absurd (omega (arith, proposed_has_capacity (a ∷ b ∷ rest) kind kinds is unproposed))
 
 pub order_is_kind : (order : List ℕ) (kind : ℕ) → IsTrue (are_kinds order) → is_among order kind ≡ true → is_kind kind ≡ true
 order_is_kind order kind kinds ordered = each_one is_kind order kind (and_parts (list_all is_kind order) (are_distinct order) kinds).0 ordered

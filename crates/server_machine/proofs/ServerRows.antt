@@ -13,7 +13,7 @@ use Rattle.eap_method.specs.ServerTurn as turn
 use Rattle.eap_method.specs.Server.{ServerViews}
 use Rattle.eap_method.specs.Steps.{is_end}
 use Rattle.server_machine.specs.Inputs.{start, timeout, octets, restart}
-use Rattle.server_machine.specs.Rows.{outside, received, no_packet, no_response, other_id, other_method, by_method, Hears, Selects, after_identity, after_nak, first_identity, first_nak, first_other, Proposes, Turns, ServerRow, ended, rests, goes_on, drops, starts, begins, resends, times_out, proposes, proposes_without, proposes_none, requests, succeeds, method_fails, ServerAnswersAreRows}
+use Rattle.server_machine.specs.Rows.{outside, received, no_packet, no_response, other_id, other_method, by_method, Receives, Selects, after_identity, after_nak, first_identity, first_nak, first_other, Proposes, Turns, ServerRow, ended, rests, goes_on, drops, starts, begins, resends, times_out, proposes, proposes_without, proposes_none, requests, succeeds, method_fails, ServerAnswersAreRows}
 use Rattle.server_machine.specs.ServerTable as table
 use Rattle.server_machine.specs.ServerTable.{ServerNow, ServerAnswer, offers, select_action, method_answers, server_method, is_awaited, is_proposed, is_started, awaits_first, current_response, first_response, pick_up, server_row, server_start, server_deliver, server_timeout}
 use Rattle.server_machine.specs.declared.variables.ServerVariables.{ServerVariables}
@@ -28,7 +28,7 @@ module _ (now : ServerNow) where
     abbrev IsRow : ServerAnswer → Type 0
     IsRow out = ServerRow now (octets bytes) out
 
-    module _ (id kind : ℕ) (body : List ℕ) (heard : Hears now bytes id kind body) where
+    module _ (id kind : ℕ) (body : List ℕ) (heard : Receives now bytes id kind body) where
       module _ (entered : List State) (vars : ServerVariables) (desired : Option (List ℕ)) (selects : Selects now id kind body entered vars desired) where
         offers-row : (next : ℕ) (packet : Option (List ℕ)) (views : ServerViews) → Proposes now vars desired next (record { packet = packet; after = views })
             → IsRow (offers entered vars views id next packet)
@@ -111,7 +111,7 @@ module _ (now : ServerNow) where
 pub server_answers_are_rows : ServerAnswersAreRows
 unfolding server_start
 server_answers_are_rows now start =
-    cond_both (is_started now.vars) _ _ (ServerRow now start) (λ is_begun. goes_on is_begun) (λ unstarted. starts unstarted)
+    cond_both (is_started now.vars) _ _ (ServerRow now start) (λ is_initiated. goes_on is_initiated) (λ unstarted. starts unstarted)
 server_answers_are_rows now timeout =
     cond_both (is_end now.vars.state) _ _ (ServerRow now timeout) (λ over. rests over) (λ going. timeout-row now going)
 server_answers_are_rows now (octets bytes) = octets-row now bytes

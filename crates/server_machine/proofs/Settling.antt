@@ -9,7 +9,7 @@ use Rattle.eap_method.specs.Steps.{Step, step_with}
 use Rattle.eap_method.specs.ServerTurn.{ServerTurn}
 use Rattle.eap_method.specs.ServerTurn.{Discard, Request, Done, server_turn_with, server_tags}
 use Rattle.eap_method.specs.Server.{ServerShown, ServerViews, server_views, server_turn, server_offer, side_of, server_report_of}
-use Rattle.eap_method.proofs.ServerObjects.{server_turn_keeps}
+use Rattle.eap_method.proofs.ServerObjects.{server_turn_preserves}
 use Rattle.server_machine.specs.ServerTable.{ServerNow, answer, method_answers, views_after, server_method, select_action, offers, ends_badly, next_id}
 use Rattle.server_machine.specs.declared.variables.ServerVariables.{ServerVariables}
 
@@ -46,7 +46,7 @@ offer_settles entered before vars shown after id kind desired first step next of
 settled_after : (now : ServerNow) (kind : ℕ) (after : ServerViews) (octets : List ℕ) (turn : ServerTurn)
     → server_turn now.vars.setup.users (next_id now.vars) kind now.views octets ≡ record { turn = turn; after = after }
     → views_after now.views after turn ≡ after
-settled_after now kind after octets (Discard c) turned = sym (server_turn_keeps now.vars.setup.users (next_id now.vars) kind now.views after octets c turned)
+settled_after now kind after octets (Discard c) turned = sym (server_turn_preserves now.vars.setup.users (next_id now.vars) kind now.views after octets c turned)
 settled_after now kind after octets (Request packet tags) turned = refl
 settled_after now kind after octets (Done good tags) turned = refl
 

@@ -6,7 +6,7 @@ use Rattle.eap_packet.specs.Fault.{code_of}
 use Rattle.eap_packet.specs.declared.state.State.{State}
 use Rattle.eap_method.specs.Server.{ServerViews}
 use Rattle.eap_method.specs.Steps.{Step, is_end}
-use Rattle.server_machine.specs.Expanded.{response_octets, discards_bad, server_hears, wraps_sent}
+use Rattle.server_machine.specs.Expanded.{response_octets, discards_bad, server_receives, wraps_sent}
 use Rattle.server_machine.specs.Inputs.{ServerInput, server_answers}
 use Rattle.server_machine.specs.Inputs as inputs
 use Rattle.server_machine.specs.Laws.{StaysReady, StaysAsItIs}
@@ -16,7 +16,7 @@ use Rattle.server_machine.specs.Rows.{succeeds, method_fails}
 use Rattle.server_machine.specs.ServerTable.{ServerNow, ServerAnswer, answer, awaits_first, has_timer, is_backend, is_ready, is_started, server_deliver, server_restart, server_start}
 use Rattle.server_machine.specs.declared.variables.Role.TheVariants.{Backend, StandAlone}
 use Rattle.server_machine.specs.declared.variables.ServerVariables.{ServerVariables}
-use Rattle.server_machine.proofs.Hearing.{ServerHearing, as_it_is, bad, wrapping, server_hears_so}
+use Rattle.server_machine.proofs.Receiving.{ServerReceiving, as_it_is, bad, wrapping, server_receives_so}
 use Rattle.server_machine.proofs.ServerRows.{server_answers_are_rows}
 
 -- the role is the same, and a server that has started doesn't stand in INITIALIZE again
@@ -51,7 +51,7 @@ row-stays : (now : ServerNow) (input : ServerInput) (out : ServerAnswer) → Ser
     → StaysStarted now.vars out.after.vars
 row-stays now _ _ (ended bytes over) same = stays now.vars
 row-stays now _ _ (rests over) same = stays now.vars
-row-stays now _ _ (goes_on is_begun) same = stays now.vars
+row-stays now _ _ (goes_on is_initiated) same = stays now.vars
 row-stays now _ _ (drops bytes path c going why) same = stays now.vars
 row-stays now _ _ (starts unstarted) same = record { role = refl; started = λ was. refl }
 row-stays now _ _ (resends going in_time) same = record { role = refl; started = λ was. was }
@@ -93,17 +93,17 @@ bad-ready now =
     cond_both (awaits_first now.vars) _ _ (λ (next : ServerAnswer). StaysReady now.vars next.after.vars) (λ _. record { role = refl; ready = λ was. was })
     (λ _. record { role = refl; ready = λ was. was })
 
-of_hearing : (now : ServerNow) (bytes : List ℕ) (out : ServerAnswer) → ServerHearing now bytes out → StaysReady now.vars out.after.vars
-of_hearing now bytes _ as_it_is = of_octets now bytes
-of_hearing now bytes _ (bad id kind body answers is_bad) = bad-ready now
-of_hearing now bytes _ (wrapping id kind body answers good) =
+of_receiving : (now : ServerNow) (bytes : List ℕ) (out : ServerAnswer) → ServerReceiving now bytes out → StaysReady now.vars out.after.vars
+of_receiving now bytes _ as_it_is = of_octets now bytes
+of_receiving now bytes _ (bad id kind body answers is_bad) = bad-ready now
+of_receiving now bytes _ (wrapping id kind body answers good) =
     let plain = response_octets now.vars bytes id kind body in
     wraps-ready now.vars (server_deliver now plain) (server_deliver now plain).step.sent (of_octets now plain)
 
 pub stays_as_it_is : StaysAsItIs
 stays_as_it_is now inputs.start = of_conversation now inputs.start (λ nonce e. cc e)
 stays_as_it_is now inputs.timeout = of_conversation now inputs.timeout (λ nonce e. cc e)
-stays_as_it_is now (inputs.octets bytes) = of_hearing now bytes _ (server_hears_so now bytes)
+stays_as_it_is now (inputs.octets bytes) = of_receiving now bytes _ (server_receives_so now bytes)
 stays_as_it_is now (inputs.restart nonce) = again_ready now nonce
 
 -- a backend is ready from the first, and stays one
@@ -111,7 +111,7 @@ pub backend_is_ready : (vars : ServerVariables) → vars.role ≡ Backend → is
 backend_is_ready vars is = rw is refl
 
 pub backend_stays : (before after : ServerVariables) (shown views : ServerViews) (octets : List ℕ) (step : Step)
-    → server_hears (record { vars = before; views = shown }) octets ≡ answer step (record { vars = after; views = views })
+    → server_receives (record { vars = before; views = shown }) octets ≡ answer step (record { vars = after; views = views })
     → before.role ≡ Backend → after.role ≡ Backend
 backend_stays before after shown views octets step delivered is =
     let now : ServerNow = record { vars = before; views = shown } in
@@ -134,5 +134,5 @@ timer-going false false over runs = cc runs
 timer-going false true true runs = cc runs
 timer-going false true false runs = refl
 
-pub timer_is_going : (vars : ServerVariables) → has_timer vars ≡ true → is_end vars.state ≡ false
-timer_is_going vars runs = timer-going (is_backend vars) (is_started vars) (is_end vars.state) runs
+pub timer_is_running : (vars : ServerVariables) → has_timer vars ≡ true → is_end vars.state ≡ false
+timer_is_running vars runs = timer-going (is_backend vars) (is_started vars) (is_end vars.state) runs

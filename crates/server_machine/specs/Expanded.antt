@@ -10,15 +10,15 @@ use Rattle.eap_packet.specs.declared.cause.Cause.TheVariants as cause
 use Rattle.login_policy.specs.Policy.{nak_of}
 use Rattle.login_policy.specs.Expanded.{expanded_kinds}
 use Rattle.eap_method.specs.Plain.{plain_octets}
-use Rattle.eap_method.specs.Room.{HasRoom}
+use Rattle.eap_method.specs.Capacity.{HasCapacity}
 use Rattle.eap_method.specs.Steps.{is_end}
 use Rattle.server_machine.specs.ServerTable.{ServerNow, ServerAnswer, answer, awaits_first, first_discard, server_discard, server_deliver}
 use Rattle.server_machine.specs.declared.variables.ServerVariables.{ServerVariables}
 
 -- an Expanded Nak is accepted as a backend's first Response, and if the Request that was sent last is of Type 254; the
 -- table requires the rest: that it has currentId, and that the method is proposed
-abbrev pub takes_nak : ServerVariables → Bool
-takes_nak vars = awaits_first vars || (type_of vars.last_request == expanded_kind)
+abbrev pub accepts_nak : ServerVariables → Bool
+accepts_nak vars = awaits_first vars || (type_of vars.last_request == expanded_kind)
 
 -- the Nak that an Expanded Nak says (section 5.3.2); one that names neither method desires none
 abbrev pub nak_octets : ℕ → List ℕ → List ℕ
@@ -27,25 +27,25 @@ nak_octets id body = spelled (response id nak_kind (nak_of (expanded_kinds (inne
 -- what the table reads in place of a Response
 abbrev pub response_octets : ServerVariables → List ℕ → ℕ → ℕ → List ℕ → List ℕ
 response_octets vars octets id kind body =
-    if (kind == expanded_kind) && (is_nak_body body && takes_nak vars) then nak_octets id body
+    if (kind == expanded_kind) && (is_nak_body body && accepts_nak vars) then nak_octets id body
     else plain_octets octets (response id kind body)
 
 -- a Request is sent, and stored for the timer, as it is wrapped
-abbrev pub keeps_sent : ServerAnswer → List ℕ → ServerAnswer
-keeps_sent out octets =
+abbrev pub stores_sent : ServerAnswer → List ℕ → ServerAnswer
+stores_sent out octets =
     answer (record out.step { sent = Some octets })
     (record { vars = record out.after.vars { last_request = octets }; views = out.after.views })
 
 abbrev pub wraps_sent : ServerAnswer → Option (List ℕ) → ServerAnswer
 wraps_sent out None = out
-wraps_sent out (Some octets) = if code_of octets == 1 then keeps_sent out (expanded_form octets) else out
+wraps_sent out (Some octets) = if code_of octets == 1 then stores_sent out (expanded_form octets) else out
 
 abbrev pub wraps : ServerAnswer → ServerAnswer
 wraps out = wraps_sent out out.step.sent
 
 -- a Request that is sent has room for an Expanded Type
 abbrev pub MayWrap : Bool → List ℕ → Type 0
-MayWrap sends packet = sends ≡ true → code_of packet ≡ 1 → HasRoom packet
+MayWrap sends packet = sends ≡ true → code_of packet ≡ 1 → HasCapacity packet
 
 -- a Response that no party accepts; to a backend that awaits its first, with an empty path
 abbrev pub discards_bad : ServerNow → ServerAnswer
@@ -62,7 +62,7 @@ server_reads now octets (Ok (response id kind body)) = reads_response now octets
 server_reads now octets packet = server_deliver now octets
 
 -- a delivery, read so if the settings say so
-unfoldable pub server_hears : ServerNow → List ℕ → ServerAnswer
-server_hears now octets =
+unfoldable pub server_receives : ServerNow → List ℕ → ServerAnswer
+server_receives now octets =
     if now.vars.setup.expanded && not (is_end now.vars.state) then server_reads now octets (packet_of octets)
     else server_deliver now octets

@@ -3,7 +3,7 @@
 use Rattle.std.specs.Prelude.{ℕ, List, [], if◌then◌else◌}
 use Rattle.eap_method.specs.Steps.{enters, is_end}
 use Rattle.eap_method.specs.Tags.{no_tags}
-use Rattle.server_machine.specs.Expanded.{server_hears}
+use Rattle.server_machine.specs.Expanded.{server_receives}
 use Rattle.server_machine.specs.ServerTable.{ServerNow, ServerAnswer, answer, is_started, server_restart, server_start, server_deliver, server_timeout}
 
 -- the start, the end of the retransmission timer, or octets from the peer
@@ -25,6 +25,6 @@ server_answers now (octets bytes) = server_deliver now bytes
 server_answers now (restart nonce) = server_restart now nonce
 
 -- by the table, with Expanded Types if the settings say so
-abbrev pub server_takes : ServerNow → ServerInput → ServerAnswer
-server_takes now (octets bytes) = server_hears now bytes
-server_takes now input = server_answers now input
+abbrev pub server_accepts : ServerNow → ServerInput → ServerAnswer
+server_accepts now (octets bytes) = server_receives now bytes
+server_accepts now input = server_answers now input

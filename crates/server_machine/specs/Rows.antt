@@ -16,11 +16,11 @@ use Rattle.eap_method.specs.Steps.{sends, enters, discards, is_end}
 use Rattle.server_machine.specs.Inputs.{ServerInput, start, timeout, octets, restart, server_rests, server_answers}
 use Rattle.server_machine.specs.ServerTable.{ServerNow, ServerAnswer, answer, next_id, identity_request, success_packet, failure_packet, before_proposal, is_awaited, is_proposed, is_started, awaits_first, picked_up, server_restart}
 use Rattle.server_machine.specs.declared.variables.Progress.TheVariants as progress
-use Rattle.server_machine.specs.declared.variables.Way.TheVariants as way
+use Rattle.server_machine.specs.declared.variables.ProposalPath.TheVariants as way
 use Rattle.server_machine.specs.declared.variables.ServerVariables.{ServerVariables}
 
 -- this Response has come to a server that has not ended
-pub record Hears (now : ServerNow) (bytes : List ℕ) (id kind : ℕ) (body : List ℕ) : Type 0 where
+pub record Receives (now : ServerNow) (bytes : List ℕ) (id kind : ℕ) (body : List ℕ) : Type 0 where
   pub going : is_end now.vars.state ≡ false
   pub is_packet : packet_of bytes ≡ Ok (response id kind body)
 
@@ -73,10 +73,10 @@ pub data Drops (now : ServerNow) (bytes : List ℕ) : Cause → List State → T
       (path : List State) (place : Unheard now path) → Drops now bytes cause.WrongRole path
   other_id : (id kind : ℕ) (body : List ℕ) (is_packet : packet_of bytes ≡ Ok (response id kind body)) (other : is_awaited now.vars.current_id id ≡ false)
       (unawaited : awaits_first now.vars ≡ false) → Drops now bytes cause.IdMismatch unheard
-  other_method : (id kind : ℕ) (body : List ℕ) (heard : Hears now bytes id kind body) (is_id : now.vars.current_id ≡ Some id) (other : is_awaited now.vars.current kind ≡ false)
+  other_method : (id kind : ℕ) (body : List ℕ) (heard : Receives now bytes id kind body) (is_id : now.vars.current_id ≡ Some id) (other : is_awaited now.vars.current kind ≡ false)
       (no_nak : ((kind == nak_kind) && is_proposed now.vars.progress) ≡ false) (unawaited : awaits_first now.vars ≡ false)
       → Drops now bytes cause.WrongMethod unheard
-  by_method : (id kind : ℕ) (body : List ℕ) (c : Cause) (views : ServerViews) (heard : Hears now bytes id kind body)
+  by_method : (id kind : ℕ) (body : List ℕ) (c : Cause) (views : ServerViews) (heard : Receives now bytes id kind body)
       (turned : Turns now id kind body (turn.Discard c) views) → Drops now bytes c discard_path
 
 -- what the server does at an input
@@ -84,7 +84,7 @@ pub data ServerRow (now : ServerNow) : ServerInput → ServerAnswer → Type 0 w
   -- after the end octets are discarded, and the timer does nothing; a second start does nothing
   ended : (bytes : List ℕ) (over : is_end now.vars.state ≡ true) → ServerRow now (octets bytes) (answer (discards [] cause.Ended) now)
   rests : (over : is_end now.vars.state ≡ true) → ServerRow now timeout (server_rests now)
-  goes_on : (is_begun : is_started now.vars ≡ true) → ServerRow now start (server_rests now)
+  goes_on : (is_initiated : is_started now.vars ≡ true) → ServerRow now start (server_rests now)
   -- octets that are no packet or out of place, and what the method discards
   drops : (bytes : List ℕ) (path : List State) (c : Cause) (going : is_end now.vars.state ≡ false) (why : Drops now bytes c path)
       → ServerRow now (octets bytes) (answer (discards path c) now)
@@ -120,7 +120,7 @@ pub data ServerRow (now : ServerNow) : ServerInput → ServerAnswer → Type 0 w
   -- SELECT_ACTION with a method that is offered, with one that can't be, and with none
   proposes : (bytes : List ℕ) (id kind : ℕ) (body : List ℕ) (entered : List State) (vars : ServerVariables) (desired : Option (List ℕ))
       (next : ℕ) (packet : List ℕ) (views : ServerViews)
-      (heard : Hears now bytes id kind body) (selects : Selects now id kind body entered vars desired)
+      (heard : Receives now bytes id kind body) (selects : Selects now id kind body entered vars desired)
       (next_is : Proposes now vars desired next (record { packet = Some packet; after = views }))
       → ServerRow now (octets bytes)
       (answer (sends (entered ++ state.ProposeMethod ∷ state.MethodRequest ∷ state.SendRequest ∷ state.Idle ∷ []) packet no_tags)
@@ -137,20 +137,20 @@ pub data ServerRow (now : ServerNow) : ServerInput → ServerAnswer → Type 0 w
       }))
   proposes_without : (bytes : List ℕ) (id kind : ℕ) (body : List ℕ) (entered : List State) (vars : ServerVariables) (desired : Option (List ℕ))
       (next : ℕ) (views : ServerViews)
-      (heard : Hears now bytes id kind body) (selects : Selects now id kind body entered vars desired)
+      (heard : Receives now bytes id kind body) (selects : Selects now id kind body entered vars desired)
       (next_is : Proposes now vars desired next (record { packet = None; after = views }))
       → ServerRow now (octets bytes)
       (answer (sends (entered ++ state.Failure ∷ []) (failure_packet id) no_tags)
       (record { vars = record vars { state = state.Failure }; views = views }))
   proposes_none : (bytes : List ℕ) (id kind : ℕ) (body : List ℕ) (entered : List State) (vars : ServerVariables) (desired : Option (List ℕ))
-      (heard : Hears now bytes id kind body) (selects : Selects now id kind body entered vars desired)
+      (heard : Receives now bytes id kind body) (selects : Selects now id kind body entered vars desired)
       (none : next_kind vars.setup.methods vars.proposed desired ≡ None)
       → ServerRow now (octets bytes)
       (answer (sends (entered ++ state.Failure ∷ []) (failure_packet id) no_tags)
       (record { vars = record vars { state = state.Failure }; views = now.views }))
   -- METHOD_REQUEST after the method's turn; SUCCESS and FAILURE if it is over
   requests : (bytes : List ℕ) (id kind : ℕ) (body packet : List ℕ) (tags : Tags) (views : ServerViews)
-      (heard : Hears now bytes id kind body) (turned : Turns now id kind body (turn.Request packet tags) views)
+      (heard : Receives now bytes id kind body) (turned : Turns now id kind body (turn.Request packet tags) views)
       → ServerRow now (octets bytes)
       (answer
       (sends (state.Received ∷ state.IntegrityCheck ∷ state.MethodResponse ∷ state.MethodRequest ∷ state.SendRequest ∷ state.Idle ∷ []) packet tags)
@@ -159,12 +159,12 @@ pub data ServerRow (now : ServerNow) : ServerInput → ServerAnswer → Type 0 w
         views = views;
       }))
   succeeds : (bytes : List ℕ) (id kind : ℕ) (body : List ℕ) (tags : Tags) (views : ServerViews)
-      (heard : Hears now bytes id kind body) (turned : Turns now id kind body (turn.Done true tags) views)
+      (heard : Receives now bytes id kind body) (turned : Turns now id kind body (turn.Done true tags) views)
       → ServerRow now (octets bytes)
       (answer (sends (before_proposal way.AfterResponse ++ state.Success ∷ []) (success_packet id) tags)
       (record { vars = record now.vars { progress = progress.End; state = state.Success }; views = views }))
   method_fails : (bytes : List ℕ) (id kind : ℕ) (body : List ℕ) (tags : Tags) (views : ServerViews)
-      (heard : Hears now bytes id kind body) (turned : Turns now id kind body (turn.Done false tags) views)
+      (heard : Receives now bytes id kind body) (turned : Turns now id kind body (turn.Done false tags) views)
       → ServerRow now (octets bytes)
       (answer (sends (before_proposal way.AfterResponse ++ state.Failure ∷ []) (failure_packet id) tags)
       (record { vars = record now.vars { progress = progress.End; state = state.Failure }; views = views }))

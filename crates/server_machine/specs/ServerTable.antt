@@ -17,15 +17,15 @@ use Rattle.eap_method.specs.Tags.{Tags, no_tags}
 use Rattle.eap_method.specs.ServerTurn.{ServerTurn}
 use Rattle.eap_method.specs.ServerTurn as turn
 use Rattle.eap_method.specs.declared.values.Report.{Report}
-use Rattle.eap_method.specs.Server.{ServerShown, server_kind, ServerViews, server_views, view_of, views_begun, side_of, server_offer, server_turn, server_report_of}
+use Rattle.eap_method.specs.Server.{ServerShown, server_kind, ServerViews, server_views, view_of, views_started, side_of, server_offer, server_turn, server_report_of}
 use Rattle.eap_method.specs.Steps.{sends, enters, discards, is_end}
 use Rattle.server_machine.specs.declared.variables.ServerVariables.{ServerVariables}
 use Rattle.server_machine.specs.declared.variables.Progress.{Progress}
 use Rattle.server_machine.specs.declared.variables.Progress.TheVariants as progress
 use Rattle.server_machine.specs.declared.variables.Role.{Role}
 use Rattle.server_machine.specs.declared.variables.Role.TheVariants as role
-use Rattle.server_machine.specs.declared.variables.Way.{Way}
-use Rattle.server_machine.specs.declared.variables.Way.TheVariants as way
+use Rattle.server_machine.specs.declared.variables.ProposalPath.{ProposalPath}
+use Rattle.server_machine.specs.declared.variables.ProposalPath.TheVariants as way
 
 -- a machine as its fields show it: its variables and its objects
 pub record ServerValue (M : Type 0) : Type 0 where
@@ -50,8 +50,8 @@ abbrev pub answer : Step → ServerNow → ServerAnswer
 answer step after = record { step = step; after = after }
 
 -- a server that has not started; the methods that it proposes have begun
-abbrev pub vars_made : Role → ServerSetup → ℕ → ℕ → ServerVariables
-vars_made of setup first_id max_retrans = record {
+abbrev pub initial_vars_of : Role → ServerSetup → ℕ → ℕ → ServerVariables
+initial_vars_of of setup first_id max_retrans = record {
   role = of;
   setup = setup;
   first_id = first_id;
@@ -65,12 +65,12 @@ vars_made of setup first_id max_retrans = record {
   proposed = [];
 }
 
-abbrev pub server_made : Role → ServerSetup → ℕ → ℕ → ServerNow
-server_made of setup first_id max_retrans = record { vars = vars_made of setup first_id max_retrans; views = views_begun setup }
+abbrev pub initial_server : Role → ServerSetup → ℕ → ℕ → ServerNow
+initial_server of setup first_id max_retrans = record { vars = initial_vars_of of setup first_id max_retrans; views = views_started setup }
 
 -- a backend before its first Response; it has no first Identifier of its own, and sends nothing again
-abbrev pub backend_made : ServerSetup → ServerNow
-backend_made setup = server_made role.Backend setup 0 0
+abbrev pub initial_backend : ServerSetup → ServerNow
+initial_backend setup = initial_server role.Backend setup 0 0
 
 -- the next Identifier: the first one, or one more modulo 256
 abbrev pub next_id_after : ℕ → Option ℕ → ℕ
@@ -149,7 +149,7 @@ unfoldable pub select_action : List State → ServerVariables → ServerViews �
 select_action entered vars views id desired = proposes entered vars views id (next_kind vars.setup.methods vars.proposed desired)
 
 -- the states up to SELECT_ACTION
-abbrev pub before_proposal : Way → List State
+abbrev pub before_proposal : ProposalPath → List State
 before_proposal way.AfterNak = state.Received ∷ state.Nak ∷ state.SelectAction ∷ []
 before_proposal way.AfterResponse = state.Received ∷ state.IntegrityCheck ∷ state.MethodResponse ∷ state.SelectAction ∷ []
 before_proposal way.FirstIdentity = state.PickUpMethod ∷ state.MethodResponse ∷ state.SelectAction ∷ []
@@ -157,8 +157,8 @@ before_proposal way.FirstNak = state.Nak ∷ state.SelectAction ∷ []
 before_proposal way.FirstOther = state.PickUpMethod ∷ state.SelectAction ∷ []
 
 -- the identity has come: the Identity round is over, and the first method is proposed
-abbrev pub hears_identity : ServerNow → ℕ → ServerAnswer
-hears_identity now id =
+abbrev pub receives_identity : ServerNow → ℕ → ServerAnswer
+receives_identity now id =
     select_action (before_proposal way.AfterResponse)
     (record now.vars { progress = progress.End }) now.views id None
 
@@ -201,7 +201,7 @@ current_response now id kind body =
     if (kind == nak_kind) && is_proposed now.vars.progress
     then select_action (before_proposal way.AfterNak) now.vars now.views id (Some body)
     else if is_awaited now.vars.current kind
-    then (if kind == identity_kind then hears_identity now id else server_method now id kind (spelled (response id kind body)))
+    then (if kind == identity_kind then receives_identity now id else server_method now id kind (spelled (response id kind body)))
     else server_discard now cause.WrongMethod
 
 abbrev pub server_row : ServerNow → Result PacketValue Cause → ServerAnswer
@@ -255,8 +255,8 @@ abbrev pub is_ready : ServerVariables → Bool
 is_ready vars = is_backend vars || is_started vars
 
 -- the settings with this nonce
-abbrev pub own_nonce : ServerSetup → List ℕ → ServerSetup
-own_nonce setup nonce = record setup { nonce = nonce }
+abbrev pub setup_with_nonce : ServerSetup → List ℕ → ServerSetup
+setup_with_nonce setup nonce = record setup { nonce = nonce }
 
 -- the settings with these users, and the machine that knows them from now on
 abbrev pub own_users : ServerSetup → List User → ServerSetup
@@ -267,7 +267,7 @@ with_users value users = record value { vars = record value.vars { setup = own_u
 
 -- every variable and the view of each method as INITIALIZE sets it, with this nonce
 abbrev pub made_again : ServerNow → List ℕ → ServerNow
-made_again now nonce = server_made now.vars.role (own_nonce now.vars.setup nonce) now.vars.first_id now.vars.max_retrans
+made_again now nonce = initial_server now.vars.role (setup_with_nonce now.vars.setup nonce) now.vars.first_id now.vars.max_retrans
 
 -- a new conversation: a stand-alone server starts, and a backend waits for its first Response
 unfoldable pub server_restart : ServerNow → List ℕ → ServerAnswer

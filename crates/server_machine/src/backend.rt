@@ -13,15 +13,15 @@
 
 ghost use Rattle.std.specs.Prelude.{◌≡◌, [], ◌∷◌, ◌++◌, map, true, option_map, All, IsTrue};
 ghost use Rattle.octet_lists.specs.Among.{is_kind};
-ghost use Rattle.login_setup.specs.Setup.{IsSoundServer, fits_kind};
+ghost use Rattle.login_setup.specs.Setup.{IsSoundServer, is_valid_for};
 ghost use Rattle.login_setup.specs.Users as users;
 ghost use Rattle.eap_method.specs.Peer.{have_each};
 ghost use Rattle.eap_method.specs.Server.{server_kinds};
 ghost use Rattle.eap_method.specs.Steps.{is_end, step_with};
 ghost use Rattle.eap_method.specs.Tags.{no_tags};
-ghost use Rattle.eap_method.specs.Unnamed.{KeepsServers};
-ghost use Rattle.server_machine.specs.ServerTable.{answer, backend_made, current_view, made_again, now_of, own_nonce, server_reports, server_restart, vars_made, with_users};
-ghost use Rattle.server_machine.specs.Expanded.{server_hears};
+ghost use Rattle.eap_method.specs.Unnamed.{PreservesServers};
+ghost use Rattle.server_machine.specs.ServerTable.{answer, initial_backend, current_view, made_again, now_of, setup_with_nonce, server_reports, server_restart, initial_vars_of, with_users};
+ghost use Rattle.server_machine.specs.Expanded.{server_receives};
 ghost use Rattle.server_machine.specs.declared.variables.Role.TheVariants as role;
 
 use crate::ServerStep;
@@ -60,8 +60,8 @@ impl<M: ServerMethod> Backend<M> {
     pub fn new(setup: ServerSetup, methods: Vec<M>) -> Backend<M>
         requires sound { IsSoundServer setup }
         requires objects { have_each (server_kinds (map M.server_shown methods.items)) setup.methods ≡ true }
-        ensures made { now_of M.server_shown result ≡ backend_made setup }
-        ensures kept { KeepsServers setup.methods (map M.server_shown methods.items) (map M.server_shown result.methods) }
+        ensures made { now_of M.server_shown result ≡ initial_backend setup }
+        ensures kept { PreservesServers setup.methods (map M.server_shown methods.items) (map M.server_shown result.methods) }
     {
         Backend {
             machine: ServerMachine::in_role(Role::Backend, setup, 0, 0, methods),
@@ -73,7 +73,7 @@ impl<M: ServerMethod> Backend<M> {
     #[inline(always)]
     pub fn unbegun(setup: ServerSetup, methods: Vec<M>) -> Backend<M>
         requires sound { IsSoundServer setup }
-        ensures vars { result.vars ≡ vars_made role.Backend setup 0 0 }
+        ensures vars { result.vars ≡ initial_vars_of role.Backend setup 0 0 }
         ensures methods { result.methods ≡ methods.items }
     {
         Backend {
@@ -96,9 +96,9 @@ impl<M: ServerMethod> Backend<M> {
         packet: &mut Packet,
         tags: &mut Tags<R>,
     ) -> Step
-        ensures step { server_hears (now_of M.server_shown self.old) octets.now
+        ensures step { server_receives (now_of M.server_shown self.old) octets.now
             ≡ answer (step_with result packet.new tags.new) (now_of M.server_shown self.new) }
-        ensures kept { KeepsServers self.old.vars.setup.methods (map M.server_shown self.old.methods) (map M.server_shown self.new.methods) }
+        ensures kept { PreservesServers self.old.vars.setup.methods (map M.server_shown self.old.methods) (map M.server_shown self.new.methods) }
         ensures setup { self.new.vars.setup ≡ self.old.vars.setup }
     {
         self.machine.deliver_step(octets, packet, tags)
@@ -112,8 +112,8 @@ impl<M: ServerMethod> Backend<M> {
         requires objects { have_each (server_kinds (map M.server_shown self.old.methods)) self.old.vars.setup.methods ≡ true }
         ensures step { server_restart (now_of M.server_shown self.old) nonce.now
             ≡ answer (step_with result [] no_tags) (now_of M.server_shown self.new) }
-        ensures kept { KeepsServers self.old.vars.setup.methods (map M.server_shown self.old.methods) (map M.server_shown self.new.methods) }
-        ensures setup { self.new.vars.setup ≡ own_nonce self.old.vars.setup nonce.now }
+        ensures kept { PreservesServers self.old.vars.setup.methods (map M.server_shown self.old.methods) (map M.server_shown self.new.methods) }
+        ensures setup { self.new.vars.setup ≡ setup_with_nonce self.old.vars.setup nonce.now }
     {
         self.machine.make_again(nonce);
         Step::entering(&[State::Initialize])
@@ -123,16 +123,16 @@ impl<M: ServerMethod> Backend<M> {
     pub fn make_again(&mut self, nonce: &Nonce)
         requires objects { have_each (server_kinds (map M.server_shown self.old.methods)) self.old.vars.setup.methods ≡ true }
         ensures made { made_again (now_of M.server_shown self.old) nonce.now ≡ now_of M.server_shown self.new }
-        ensures kept { KeepsServers self.old.vars.setup.methods (map M.server_shown self.old.methods) (map M.server_shown self.new.methods) }
-        ensures setup { self.new.vars.setup ≡ own_nonce self.old.vars.setup nonce.now }
+        ensures kept { PreservesServers self.old.vars.setup.methods (map M.server_shown self.old.methods) (map M.server_shown self.new.methods) }
+        ensures setup { self.new.vars.setup ≡ setup_with_nonce self.old.vars.setup nonce.now }
     {
         self.machine.make_again(nonce)
     }
 
     /// [`deliver_step`](Backend::deliver_step), with the packet and the records in its answer.
     pub fn deliver(&mut self, octets: &[u8]) -> ServerStep
-        ensures step { server_hears (now_of M.server_shown self.old) octets.now ≡ answer result (now_of M.server_shown self.new) }
-        ensures kept { KeepsServers self.old.vars.setup.methods (map M.server_shown self.old.methods) (map M.server_shown self.new.methods) }
+        ensures step { server_receives (now_of M.server_shown self.old) octets.now ≡ answer result (now_of M.server_shown self.new) }
+        ensures kept { PreservesServers self.old.vars.setup.methods (map M.server_shown self.old.methods) (map M.server_shown self.new.methods) }
         ensures setup { self.new.vars.setup ≡ self.old.vars.setup }
     {
         let mut packet = Packet::new();
@@ -145,8 +145,8 @@ impl<M: ServerMethod> Backend<M> {
     pub fn restart(&mut self, nonce: &Nonce) -> ServerStep
         requires objects { have_each (server_kinds (map M.server_shown self.old.methods)) self.old.vars.setup.methods ≡ true }
         ensures step { server_restart (now_of M.server_shown self.old) nonce.now ≡ answer result (now_of M.server_shown self.new) }
-        ensures kept { KeepsServers self.old.vars.setup.methods (map M.server_shown self.old.methods) (map M.server_shown self.new.methods) }
-        ensures setup { self.new.vars.setup ≡ own_nonce self.old.vars.setup nonce.now }
+        ensures kept { PreservesServers self.old.vars.setup.methods (map M.server_shown self.old.methods) (map M.server_shown self.new.methods) }
+        ensures setup { self.new.vars.setup ≡ setup_with_nonce self.old.vars.setup nonce.now }
     {
         self.restart_step(nonce).alone()
     }
@@ -191,7 +191,7 @@ impl<M: ServerMethod> Backend<M> {
     /// for one of the two methods, of the size that the method requires.
     pub fn set_users(&mut self, users: Users)
         requires kinds { All (λ user. IsTrue (is_kind user.kind)) users }
-        requires keys { All (λ user. IsTrue (fits_kind user.kind user.psk)) users }
+        requires keys { All (λ user. IsTrue (is_valid_for user.kind user.psk)) users }
         ensures { self.new ≡ with_users self.old users }
     {
         self.machine.set_users(users)
@@ -199,9 +199,9 @@ impl<M: ServerMethod> Backend<M> {
 
     /// The backend knows this user too from now on, as [`ServerMachine::add_user`].
     pub fn add_user(&mut self, user: User)
-        requires room { users.HasRoom self.old.vars.setup.users user }
+        requires room { users.HasCapacity self.old.vars.setup.users user }
         requires kind { is_kind user.kind ≡ true }
-        requires key { fits_kind user.kind user.psk ≡ true }
+        requires key { is_valid_for user.kind user.psk ≡ true }
         ensures { self.new ≡ with_users self.old (self.old.vars.setup.users ++ user ∷ []) }
     {
         self.machine.add_user(user)

@@ -10,7 +10,7 @@ ghost use Rattle.eap_method.specs.Server.{ServerViews};
 ghost use Rattle.eap_method.specs.Steps.{step_with};
 ghost use Rattle.eap_method.specs.declared.step.Step as brief;
 ghost use Rattle.eap_method.specs.Tags as records;
-ghost use Rattle.server_machine.specs.Expanded.{MayWrap, response_octets, takes_nak, wraps};
+ghost use Rattle.server_machine.specs.Expanded.{MayWrap, response_octets, accepts_nak, wraps};
 ghost use Rattle.server_machine.specs.ServerTable.{AreInOrder, answer, awaits_first};
 
 use crate::variables::{Role, ServerVariables};
@@ -28,13 +28,13 @@ pub fn awaits_first(vars: &ServerVariables) -> bool
 /// Writes what a Response is handled as, in place of what `packet` had, and answers true: an Expanded Nak that
 /// is accepted as the Nak that it says, any other of Vendor-Id 0 in its plain form. Of any other Response it is
 /// the octets that came; the answer is then false, and what `packet` then has is unspecified.
-pub fn write_taken(vars: &ServerVariables, view: &PacketView, packet: &mut Packet) -> bool
+pub fn write_if_accepted(vars: &ServerVariables, view: &PacketView, packet: &mut Packet) -> bool
     requires response { view.now.code ≡ Code.Response }
     requires fits { length view.now.body.now ≤ max_type_data }
     ensures { (octets : List ℕ) → response_octets vars.now octets view.now.id view.now.kind view.now.body.now
         ≡ (if result then packet.new else octets) }
 {
-    if view.kind == EXPANDED && is_nak_body(view.body) && takes_nak(vars) {
+    if view.kind == EXPANDED && is_nak_body(view.body) && accepts_nak(vars) {
         write_nak(packet, view.id, &view.body[VENDOR_SIZE..]);
         true
     } else {
@@ -51,8 +51,8 @@ fn is_nak_body(body: &[u8]) -> bool
 
 /// Whether an Expanded Nak is accepted: as a backend's first Response, and if the Request that was sent last
 /// is of Type 254.
-fn takes_nak(vars: &ServerVariables) -> bool
-    ensures { result ≡ takes_nak vars.now }
+fn accepts_nak(vars: &ServerVariables) -> bool
+    ensures { result ≡ accepts_nak vars.now }
 {
     awaits_first(vars) || octet_is(vars.last_request.as_slice(), 4, EXPANDED)
 }

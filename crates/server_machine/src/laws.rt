@@ -1,13 +1,13 @@
 //! Laws of the server (RFC 4137 section 5). Each is the contract of a function that does nothing.
 
-ghost use Rattle.server_machine.specs.Laws.{DiscardsKeep, StaysAsItIs};
+ghost use Rattle.server_machine.specs.Laws.{DiscardsChangeNothing, StaysAsItIs};
 ghost use Rattle.server_machine.specs.Rows.{ServerAnswersAreRows};
 
 /// An input that is discarded changes no variable and no method's view, sends nothing and makes no
 /// record.
-#[tactic(auto, using(crate::proofs::Discards::discards_keep))]
-pub fn discards_keep()
-    ensures { DiscardsKeep }
+#[tactic(auto, using(crate::proofs::Discards::discards_change_nothing))]
+pub fn discards_change_nothing()
+    ensures { DiscardsChangeNothing }
 {}
 
 /// What the server does at every input is one transition of its table, with all that is then known.

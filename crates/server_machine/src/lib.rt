@@ -10,9 +10,9 @@ mod outcome;
 mod variables;
 
 pub use backend::Backend;
-pub use laws::{answers_are_rows, discards_keep, stays_as_it_is};
+pub use laws::{answers_are_rows, discards_change_nothing, stays_as_it_is};
 pub use machine::ServerMachine;
-pub use variables::{Progress, Role, ServerVariables, Way};
+pub use variables::{Progress, ProposalPath, Role, ServerVariables};
 
 /// What one call of the server does.
 pub type ServerStep = eap_method::WholeStep;

@@ -20,7 +20,7 @@
 
 ghost use Rattle.std.specs.Prelude.{◌≡◌, ◌≤◌, [], ◌∷◌, ◌++◌, true, false, map, length, Some, None, Ok, option_copied, option_map, All, IsTrue, if◌then◌else◌};
 ghost use Rattle.octet_lists.specs.Among.{is_among, is_kind};
-ghost use Rattle.login_setup.specs.Setup.{IsSoundServer, are_suites, fits_kind};
+ghost use Rattle.login_setup.specs.Setup.{IsSoundServer, are_suites, is_valid_for};
 ghost use Rattle.login_setup.specs.Users as users;
 ghost use Rattle.eap_packet.specs.Packet.{spelled, value_of, IsPacket, max_type_data};
 ghost use Rattle.eap_packet.specs.Packet as packets;
@@ -29,20 +29,20 @@ ghost use Rattle.eap_packet.specs.declared.state.State.TheVariants.{Received, Di
 ghost use Rattle.eap_method.specs.Peer.{have_each};
 ghost use Rattle.eap_method.specs.Server.{IsResponse, server_views, server_kinds, server_offer, server_turn, side_of};
 ghost use Rattle.eap_method.specs.ServerTurn.{server_turn_with, server_tags};
-ghost use Rattle.eap_method.specs.Room.{HasRoom, requests};
+ghost use Rattle.eap_method.specs.Capacity.{HasCapacity, requests};
 ghost use Rattle.eap_method.specs.Steps.{step_with};
 ghost use Rattle.eap_method.specs.Tags.{no_tags};
-ghost use Rattle.eap_method.specs.Unnamed.{KeepsServers};
+ghost use Rattle.eap_method.specs.Unnamed.{PreservesServers};
 ghost use Rattle.server_machine.specs.Expanded.{MayWrap, reads_response};
 ghost use Rattle.server_machine.specs.ServerTable.{answer, before_proposal, identity_request, next_id, AreInOrder, first_of};
 
 use crate::ServerStep;
-use crate::expanded::{awaits_first, wrap_sent, write_taken};
+use crate::expanded::{awaits_first, wrap_sent, write_if_accepted};
 use crate::outcome::{end_badly, next_id, settle, settle_offer};
-use crate::variables::{Progress, Role, ServerVariables, Way};
+use crate::variables::{Progress, ProposalPath, Role, ServerVariables};
 use eap_method::{
-    Records, Report, ServerAnswer, ServerMethod, ServerSide, Step, Tags, begin_servers,
-    hand_to_server, has_ended, offer_method, server_report,
+    Records, Report, ServerAnswer, ServerMethod, ServerSide, Step, Tags, call_server_method,
+    has_ended, offer_method, server_report, start_servers,
 };
 use eap_packet::{Cause, Code, PacketView, State, decode, encode_into, is_bad_expanded};
 use login_policy::next_method;
@@ -75,9 +75,9 @@ impl<M> Model for ServerMachine<M> {
 
 impl<M: ServerMethod> ServerMachine<M> {
     ghost use Rattle.eap_method.specs.Steps.{is_end};
-    ghost use Rattle.server_machine.specs.ServerTable.{now_of, made_again, own_nonce, vars_made, server_made, server_restart, server_start, server_deliver, server_timeout, server_reports, is_started, server_row, select_action, server_method, current_response};
+    ghost use Rattle.server_machine.specs.ServerTable.{now_of, made_again, setup_with_nonce, initial_vars_of, initial_server, server_restart, server_start, server_deliver, server_timeout, server_reports, is_started, server_row, select_action, server_method, current_response};
     ghost use Rattle.server_machine.specs.ServerTable.{current_view, first_response, has_timer, is_backend, is_ready, pick_up, with_users};
-    ghost use Rattle.server_machine.specs.Expanded.{server_hears, server_reads};
+    ghost use Rattle.server_machine.specs.Expanded.{server_receives, server_reads};
     ghost use Rattle.server_machine.specs.declared.variables.Role.TheVariants.{StandAlone};
 
     /// A stand-alone server that has not started: begins the objects of the methods that the setup
@@ -91,8 +91,8 @@ impl<M: ServerMethod> ServerMachine<M> {
         requires sound { IsSoundServer setup }
         requires few { max_retrans ≤ 10 }
         requires objects { have_each (server_kinds (map M.server_shown methods.items)) setup.methods ≡ true }
-        ensures made { now_of M.server_shown result ≡ server_made StandAlone setup first_id max_retrans }
-        ensures kept { KeepsServers setup.methods (map M.server_shown methods.items) (map M.server_shown result.methods) }
+        ensures made { now_of M.server_shown result ≡ initial_server StandAlone setup first_id max_retrans }
+        ensures kept { PreservesServers setup.methods (map M.server_shown methods.items) (map M.server_shown result.methods) }
     {
         ServerMachine::in_role(Role::StandAlone, setup, first_id, max_retrans, methods)
     }
@@ -109,11 +109,11 @@ impl<M: ServerMethod> ServerMachine<M> {
         requires sound { IsSoundServer setup }
         requires few { max_retrans ≤ 10 }
         requires objects { have_each (server_kinds (map M.server_shown methods.items)) setup.methods ≡ true }
-        ensures made { now_of M.server_shown result ≡ server_made role setup first_id max_retrans }
-        ensures kept { KeepsServers setup.methods (map M.server_shown methods.items) (map M.server_shown result.methods) }
+        ensures made { now_of M.server_shown result ≡ initial_server role setup first_id max_retrans }
+        ensures kept { PreservesServers setup.methods (map M.server_shown methods.items) (map M.server_shown result.methods) }
     {
         let mut methods = methods;
-        begin_servers(methods.as_mut_slice(), &setup);
+        start_servers(methods.as_mut_slice(), &setup);
         ServerMachine::unbegun(role, setup, first_id, max_retrans, methods)
     }
 
@@ -129,7 +129,7 @@ impl<M: ServerMethod> ServerMachine<M> {
     ) -> ServerMachine<M>
         requires sound { IsSoundServer setup }
         requires few { max_retrans ≤ 10 }
-        ensures vars { result.vars ≡ vars_made role setup first_id max_retrans }
+        ensures vars { result.vars ≡ initial_vars_of role setup first_id max_retrans }
         ensures methods { result.methods ≡ methods.items }
     {
         ServerMachine {
@@ -157,7 +157,7 @@ impl<M: ServerMethod> ServerMachine<M> {
         requires unstarted { is_started self.old.vars ≡ false }
         requires stand_alone { is_backend self.old.vars ≡ false }
         ensures step { server_start (now_of M.server_shown self.old) ≡ answer (step_with result packet.new no_tags) (now_of M.server_shown self.new) }
-        ensures kept { KeepsServers self.old.vars.setup.methods (map M.server_shown self.old.methods) (map M.server_shown self.new.methods) }
+        ensures kept { PreservesServers self.old.vars.setup.methods (map M.server_shown self.old.methods) (map M.server_shown self.new.methods) }
         ensures setup { self.new.vars.setup ≡ self.old.vars.setup }
     {
         write_identity(packet, self.vars.first_id);
@@ -187,8 +187,8 @@ impl<M: ServerMethod> ServerMachine<M> {
     pub fn restart_step(&mut self, nonce: &Nonce, packet: &mut Packet) -> Step
         requires objects { have_each (server_kinds (map M.server_shown self.old.methods)) self.old.vars.setup.methods ≡ true }
         ensures step { server_restart (now_of M.server_shown self.old) nonce.now ≡ answer (step_with result packet.new no_tags) (now_of M.server_shown self.new) }
-        ensures kept { KeepsServers self.old.vars.setup.methods (map M.server_shown self.old.methods) (map M.server_shown self.new.methods) }
-        ensures setup { self.new.vars.setup ≡ own_nonce self.old.vars.setup nonce.now }
+        ensures kept { PreservesServers self.old.vars.setup.methods (map M.server_shown self.old.methods) (map M.server_shown self.new.methods) }
+        ensures setup { self.new.vars.setup ≡ setup_with_nonce self.old.vars.setup nonce.now }
     {
         self.make_again(nonce);
         match self.vars.role {
@@ -202,12 +202,12 @@ impl<M: ServerMethod> ServerMachine<M> {
     pub fn make_again(&mut self, nonce: &Nonce)
         requires objects { have_each (server_kinds (map M.server_shown self.old.methods)) self.old.vars.setup.methods ≡ true }
         ensures made { made_again (now_of M.server_shown self.old) nonce.now ≡ now_of M.server_shown self.new }
-        ensures kept { KeepsServers self.old.vars.setup.methods (map M.server_shown self.old.methods) (map M.server_shown self.new.methods) }
-        ensures setup { self.new.vars.setup ≡ own_nonce self.old.vars.setup nonce.now }
+        ensures kept { PreservesServers self.old.vars.setup.methods (map M.server_shown self.old.methods) (map M.server_shown self.new.methods) }
+        ensures setup { self.new.vars.setup ≡ setup_with_nonce self.old.vars.setup nonce.now }
         ensures role { self.new.vars.role ≡ self.old.vars.role }
     {
         self.vars.setup.nonce = *nonce;
-        begin_servers(self.methods.as_mut_slice(), &self.vars.setup);
+        start_servers(self.methods.as_mut_slice(), &self.vars.setup);
         self.vars.state = State::Initialize;
         self.vars.current_id = None;
         self.vars.current = None;
@@ -231,7 +231,7 @@ impl<M: ServerMethod> ServerMachine<M> {
     /// a backend's first Response or answers a Request of Type 254. Each Request of a method is sent with Type 254,
     /// 7 octets longer, at most 1,500 in all, and again so by the timer; the Identity Request, a Success and a Failure
     /// are sent as they are.
-    #[tactic(auto, unfolding(crate::specs::Expanded::server_hears))]
+    #[tactic(auto, unfolding(crate::specs::Expanded::server_receives))]
     pub fn deliver_step<R: Records>(
         &mut self,
         octets: &[u8],
@@ -239,9 +239,9 @@ impl<M: ServerMethod> ServerMachine<M> {
         tags: &mut Tags<R>,
     ) -> Step
         requires ready { is_ready self.old.vars ≡ true }
-        ensures step { server_hears (now_of M.server_shown self.old) octets.now
+        ensures step { server_receives (now_of M.server_shown self.old) octets.now
             ≡ answer (step_with result packet.new tags.new) (now_of M.server_shown self.new) }
-        ensures kept { KeepsServers self.old.vars.setup.methods (map M.server_shown self.old.methods) (map M.server_shown self.new.methods) }
+        ensures kept { PreservesServers self.old.vars.setup.methods (map M.server_shown self.old.methods) (map M.server_shown self.new.methods) }
         ensures setup { self.new.vars.setup ≡ self.old.vars.setup }
     {
         if self.vars.setup.expanded && !self.ended() {
@@ -258,7 +258,7 @@ impl<M: ServerMethod> ServerMachine<M> {
         requires ready { is_ready self.old.vars ≡ true }
         ensures step { server_reads (now_of M.server_shown self.old) octets.now (packet_of octets.now)
             ≡ answer (step_with result packet.new tags.new) (now_of M.server_shown self.new) }
-        ensures kept { KeepsServers self.old.vars.setup.methods (map M.server_shown self.old.methods) (map M.server_shown self.new.methods) }
+        ensures kept { PreservesServers self.old.vars.setup.methods (map M.server_shown self.old.methods) (map M.server_shown self.new.methods) }
         ensures setup { self.new.vars.setup ≡ self.old.vars.setup }
     {
         match decode(octets) {
@@ -285,7 +285,7 @@ impl<M: ServerMethod> ServerMachine<M> {
         requires fits { length view.now.body.now ≤ max_type_data }
         ensures step { reads_response (now_of M.server_shown self.old) octets.now view.now.id view.now.kind view.now.body.now
             ≡ answer (step_with result packet.new tags.new) (now_of M.server_shown self.new) }
-        ensures kept { KeepsServers self.old.vars.setup.methods (map M.server_shown self.old.methods) (map M.server_shown self.new.methods) }
+        ensures kept { PreservesServers self.old.vars.setup.methods (map M.server_shown self.old.methods) (map M.server_shown self.new.methods) }
         ensures setup { self.new.vars.setup ≡ self.old.vars.setup }
     {
         if is_bad_expanded(view) {
@@ -297,7 +297,7 @@ impl<M: ServerMethod> ServerMachine<M> {
             }
         } else {
             let mut plain = Packet::new();
-            let has_form = write_taken(&self.vars, view, &mut plain);
+            let has_form = write_if_accepted(&self.vars, view, &mut plain);
             let taken = if has_form { plain.as_slice() } else { octets };
             let step = self.deliver_plain(taken, packet, tags);
             wrap_sent(&mut self.vars, step.sends, packet);
@@ -318,7 +318,7 @@ impl<M: ServerMethod> ServerMachine<M> {
         ensures step { server_deliver (now_of M.server_shown self.old) octets.now
             ≡ answer (step_with result packet.new tags.new) (now_of M.server_shown self.new) }
         ensures room { MayWrap result.sends packet.new }
-        ensures kept { KeepsServers self.old.vars.setup.methods (map M.server_shown self.old.methods) (map M.server_shown self.new.methods) }
+        ensures kept { PreservesServers self.old.vars.setup.methods (map M.server_shown self.old.methods) (map M.server_shown self.new.methods) }
         ensures setup { self.new.vars.setup ≡ self.old.vars.setup }
     {
         tags.clear();
@@ -347,11 +347,11 @@ impl<M: ServerMethod> ServerMachine<M> {
     /// The retransmission timer ends (RFC 4137 section 5.5): the Request is sent again, in `packet`, at
     /// most MaxRetrans times; then TIMEOUT_FAILURE follows. The server
     /// [has the timer](ServerMachine::has_timer) running.
-    #[tactic(auto, using(crate::proofs::Starting::timer_is_going), unfolding(crate::specs::ServerTable::server_timeout))]
+    #[tactic(auto, using(crate::proofs::Starting::timer_is_running), unfolding(crate::specs::ServerTable::server_timeout))]
     pub fn timeout_step(&mut self, packet: &mut Packet) -> Step
         requires { has_timer self.old.vars ≡ true }
         ensures step { server_timeout (now_of M.server_shown self.old) ≡ answer (step_with result packet.new no_tags) (now_of M.server_shown self.new) }
-        ensures kept { KeepsServers self.old.vars.setup.methods (map M.server_shown self.old.methods) (map M.server_shown self.new.methods) }
+        ensures kept { PreservesServers self.old.vars.setup.methods (map M.server_shown self.old.methods) (map M.server_shown self.new.methods) }
         ensures setup { self.new.vars.setup ≡ self.old.vars.setup }
     {
         self.vars.retrans_count += 1;
@@ -369,7 +369,7 @@ impl<M: ServerMethod> ServerMachine<M> {
         requires unstarted { is_started self.old.vars ≡ false }
         requires stand_alone { is_backend self.old.vars ≡ false }
         ensures step { server_start (now_of M.server_shown self.old) ≡ answer result (now_of M.server_shown self.new) }
-        ensures kept { KeepsServers self.old.vars.setup.methods (map M.server_shown self.old.methods) (map M.server_shown self.new.methods) }
+        ensures kept { PreservesServers self.old.vars.setup.methods (map M.server_shown self.old.methods) (map M.server_shown self.new.methods) }
         ensures setup { self.new.vars.setup ≡ self.old.vars.setup }
     {
         let mut packet = Packet::new();
@@ -381,8 +381,8 @@ impl<M: ServerMethod> ServerMachine<M> {
     pub fn restart(&mut self, nonce: &Nonce) -> ServerStep
         requires objects { have_each (server_kinds (map M.server_shown self.old.methods)) self.old.vars.setup.methods ≡ true }
         ensures step { server_restart (now_of M.server_shown self.old) nonce.now ≡ answer result (now_of M.server_shown self.new) }
-        ensures kept { KeepsServers self.old.vars.setup.methods (map M.server_shown self.old.methods) (map M.server_shown self.new.methods) }
-        ensures setup { self.new.vars.setup ≡ own_nonce self.old.vars.setup nonce.now }
+        ensures kept { PreservesServers self.old.vars.setup.methods (map M.server_shown self.old.methods) (map M.server_shown self.new.methods) }
+        ensures setup { self.new.vars.setup ≡ setup_with_nonce self.old.vars.setup nonce.now }
     {
         let mut packet = Packet::new();
         let step = self.restart_step(nonce, &mut packet);
@@ -392,8 +392,8 @@ impl<M: ServerMethod> ServerMachine<M> {
     /// [`deliver_step`](ServerMachine::deliver_step), with the packet and the records in its answer.
     pub fn deliver(&mut self, octets: &[u8]) -> ServerStep
         requires ready { is_ready self.old.vars ≡ true }
-        ensures step { server_hears (now_of M.server_shown self.old) octets.now ≡ answer result (now_of M.server_shown self.new) }
-        ensures kept { KeepsServers self.old.vars.setup.methods (map M.server_shown self.old.methods) (map M.server_shown self.new.methods) }
+        ensures step { server_receives (now_of M.server_shown self.old) octets.now ≡ answer result (now_of M.server_shown self.new) }
+        ensures kept { PreservesServers self.old.vars.setup.methods (map M.server_shown self.old.methods) (map M.server_shown self.new.methods) }
         ensures setup { self.new.vars.setup ≡ self.old.vars.setup }
     {
         let mut packet = Packet::new();
@@ -406,7 +406,7 @@ impl<M: ServerMethod> ServerMachine<M> {
     pub fn timeout(&mut self) -> ServerStep
         requires { has_timer self.old.vars ≡ true }
         ensures step { server_timeout (now_of M.server_shown self.old) ≡ answer result (now_of M.server_shown self.new) }
-        ensures kept { KeepsServers self.old.vars.setup.methods (map M.server_shown self.old.methods) (map M.server_shown self.new.methods) }
+        ensures kept { PreservesServers self.old.vars.setup.methods (map M.server_shown self.old.methods) (map M.server_shown self.new.methods) }
         ensures setup { self.new.vars.setup ≡ self.old.vars.setup }
     {
         let mut packet = Packet::new();
@@ -499,7 +499,7 @@ impl<M: ServerMethod> ServerMachine<M> {
     #[tactic(auto, using(crate::proofs::Restarting::sound_with_users))]
     pub fn set_users(&mut self, users: Users)
         requires kinds { All (λ user. IsTrue (is_kind user.kind)) users }
-        requires keys { All (λ user. IsTrue (fits_kind user.kind user.psk)) users }
+        requires keys { All (λ user. IsTrue (is_valid_for user.kind user.psk)) users }
         ensures { self.new ≡ with_users self.old users }
     {
         self.vars.setup.users = users;
@@ -509,9 +509,9 @@ impl<M: ServerMethod> ServerMachine<M> {
     /// key for one of the two methods, of the size that the method requires.
     #[tactic(auto, using(crate::proofs::Restarting::sound_with_user))]
     pub fn add_user(&mut self, user: User)
-        requires room { users.HasRoom self.old.vars.setup.users user }
+        requires room { users.HasCapacity self.old.vars.setup.users user }
         requires kind { is_kind user.kind ≡ true }
-        requires key { fits_kind user.kind user.psk ≡ true }
+        requires key { is_valid_for user.kind user.psk ≡ true }
         ensures { self.new ≡ with_users self.old (self.old.vars.setup.users ++ user ∷ []) }
     {
         self.vars.setup.users.add(user);
@@ -538,7 +538,7 @@ impl<M: ServerMethod> ServerMachine<M> {
         ensures step { pick_up (now_of M.server_shown self.old) (Ok (value_of view.now))
             ≡ answer (step_with result packet.new no_tags) (now_of M.server_shown self.new) }
         ensures room { MayWrap result.sends packet.new }
-        ensures kept { KeepsServers self.old.vars.setup.methods (map M.server_shown self.old.methods) (map M.server_shown self.new.methods) }
+        ensures kept { PreservesServers self.old.vars.setup.methods (map M.server_shown self.old.methods) (map M.server_shown self.new.methods) }
         ensures setup { self.new.vars.setup ≡ self.old.vars.setup }
     {
         match view.code {
@@ -555,18 +555,18 @@ impl<M: ServerMethod> ServerMachine<M> {
         ensures step { first_response (now_of M.server_shown self.old) id kind body.now
             ≡ answer (step_with result packet.new no_tags) (now_of M.server_shown self.new) }
         ensures room { MayWrap result.sends packet.new }
-        ensures kept { KeepsServers self.old.vars.setup.methods (map M.server_shown self.old.methods) (map M.server_shown self.new.methods) }
+        ensures kept { PreservesServers self.old.vars.setup.methods (map M.server_shown self.old.methods) (map M.server_shown self.new.methods) }
         ensures setup { self.new.vars.setup ≡ self.old.vars.setup }
     {
         self.vars.state = State::Idle;
         self.vars.current_id = Some(id);
         if kind == NAK {
-            self.propose(Way::FirstNak, id, Some(body), packet)
+            self.propose(ProposalPath::FirstNak, id, Some(body), packet)
         } else if kind == IDENTITY {
             self.vars.progress = Progress::End;
-            self.propose(Way::FirstIdentity, id, None, packet)
+            self.propose(ProposalPath::FirstIdentity, id, None, packet)
         } else {
-            self.propose(Way::FirstOther, id, None, packet)
+            self.propose(ProposalPath::FirstOther, id, None, packet)
         }
     }
 
@@ -584,13 +584,13 @@ impl<M: ServerMethod> ServerMachine<M> {
         ensures step { server_row (now_of M.server_shown self.old) (Ok (value_of view.now))
             ≡ answer (step_with result packet.new tags.new) (now_of M.server_shown self.new) }
         ensures room { MayWrap result.sends packet.new }
-        ensures kept { KeepsServers self.old.vars.setup.methods (map M.server_shown self.old.methods) (map M.server_shown self.new.methods) }
+        ensures kept { PreservesServers self.old.vars.setup.methods (map M.server_shown self.old.methods) (map M.server_shown self.new.methods) }
         ensures setup { self.new.vars.setup ≡ self.old.vars.setup }
     {
         match view.code {
             Code::Response => {
                 if self.vars.current_id == Some(view.id) {
-                    self.take_current(view, packet, tags)
+                    self.receive_current(view, packet, tags)
                 } else {
                     discard(Cause::IdMismatch)
                 }
@@ -601,7 +601,7 @@ impl<M: ServerMethod> ServerMachine<M> {
 
     /// A Response with currentId; `tags` has no record yet. With the identity the Identity round is over,
     /// and the first method is proposed.
-    fn take_current<R: Records>(
+    fn receive_current<R: Records>(
         &mut self,
         view: &PacketView,
         packet: &mut Packet,
@@ -613,16 +613,16 @@ impl<M: ServerMethod> ServerMachine<M> {
         ensures step { current_response (now_of M.server_shown self.old) view.now.id view.now.kind view.now.body.now
             ≡ answer (step_with result packet.new tags.new) (now_of M.server_shown self.new) }
         ensures room { MayWrap result.sends packet.new }
-        ensures kept { KeepsServers self.old.vars.setup.methods (map M.server_shown self.old.methods) (map M.server_shown self.new.methods) }
+        ensures kept { PreservesServers self.old.vars.setup.methods (map M.server_shown self.old.methods) (map M.server_shown self.new.methods) }
         ensures setup { self.new.vars.setup ≡ self.old.vars.setup }
     {
         if view.kind == NAK && self.vars.progress == Progress::Proposed {
-            self.propose(Way::AfterNak, view.id, Some(view.body), packet)
+            self.propose(ProposalPath::AfterNak, view.id, Some(view.body), packet)
         } else if self.vars.current != Some(view.kind) {
             discard(Cause::WrongMethod)
         } else if view.kind == IDENTITY {
             self.vars.progress = Progress::End;
-            self.propose(Way::AfterResponse, view.id, None, packet)
+            self.propose(ProposalPath::AfterResponse, view.id, None, packet)
         } else {
             self.method(view.id, view.kind, view.whole, packet, tags)
         }
@@ -631,11 +631,17 @@ impl<M: ServerMethod> ServerMachine<M> {
     /// SELECT_ACTION if a method is to be proposed: the first of the order that isn't yet proposed and that the Nak, if
     /// one has come, desires; if there is none, or no object of it, FAILURE.
     #[tactic(auto, using(login_policy::proofs::Choices::next_is_ordered, login_policy::proofs::Choices::next_is_unproposed), unfolding(crate::specs::ServerTable::select_action))]
-    fn propose(&mut self, way: Way, id: u8, desired: Option<&[u8]>, packet: &mut Packet) -> Step
+    fn propose(
+        &mut self,
+        way: ProposalPath,
+        id: u8,
+        desired: Option<&[u8]>,
+        packet: &mut Packet,
+    ) -> Step
         ensures step { let now = now_of M.server_shown self.old in select_action (before_proposal way) now.vars now.views id (option_copied desired.entry)
             ≡ answer (step_with result packet.new no_tags) (now_of M.server_shown self.new) }
         ensures room { MayWrap result.sends packet.new }
-        ensures kept { KeepsServers self.old.vars.setup.methods (map M.server_shown self.old.methods) (map M.server_shown self.new.methods) }
+        ensures kept { PreservesServers self.old.vars.setup.methods (map M.server_shown self.old.methods) (map M.server_shown self.new.methods) }
         ensures setup { self.new.vars.setup ≡ self.old.vars.setup }
     {
         match next_method(&self.vars.setup.methods, &self.vars.proposed, desired) {
@@ -662,7 +668,7 @@ impl<M: ServerMethod> ServerMachine<M> {
         ensures step { server_method (now_of M.server_shown self.old) id kind response.now
             ≡ answer (step_with result packet.new tags.new) (now_of M.server_shown self.new) }
         ensures room { MayWrap result.sends packet.new }
-        ensures kept { KeepsServers self.old.vars.setup.methods (map M.server_shown self.old.methods) (map M.server_shown self.new.methods) }
+        ensures kept { PreservesServers self.old.vars.setup.methods (map M.server_shown self.old.methods) (map M.server_shown self.new.methods) }
         ensures setup { self.new.vars.setup ≡ self.old.vars.setup }
     {
         let turn = turn_of(&mut self.methods, &self.vars, kind, response, packet, tags);
@@ -709,8 +715,8 @@ fn write_first<M: ServerMethod>(
     ensures offer { server_offer (side_of vars.now.setup) vars.now.setup.nonce kind (next_id vars.now)
         (server_views vars.now.setup.methods (map M.server_shown methods.old.items))
         ≡ record { packet = if result then Some packet.new else None; after = server_views vars.now.setup.methods (map M.server_shown methods.new.items) } }
-    ensures room { result ≡ true → HasRoom packet.new }
-    ensures kept { KeepsServers vars.now.setup.methods (map M.server_shown methods.old.items) (map M.server_shown methods.new.items) }
+    ensures room { result ≡ true → HasCapacity packet.new }
+    ensures kept { PreservesServers vars.now.setup.methods (map M.server_shown methods.old.items) (map M.server_shown methods.new.items) }
 {
     offer_method(
         methods.as_mut_slice(),
@@ -733,15 +739,15 @@ fn turn_of<M: ServerMethod, R: Records>(
 ) -> ServerAnswer
     requires response { IsResponse kind response.now }
     requires ordered { is_among vars.now.setup.methods kind ≡ true }
-    requires keys { All (λ user. IsTrue (fits_kind user.kind user.psk)) vars.now.setup.users }
+    requires keys { All (λ user. IsTrue (is_valid_for user.kind user.psk)) vars.now.setup.users }
     ensures turn { server_turn vars.now.setup.users (next_id vars.now) kind
         (server_views vars.now.setup.methods (map M.server_shown methods.old.items)) response.now
         ≡ record { turn = server_turn_with result packet.new tags.new; after = server_views vars.now.setup.methods (map M.server_shown methods.new.items) } }
     ensures tags { tags.new ≡ server_tags (server_turn_with result packet.new tags.new) }
-    ensures room { requests result ≡ true → HasRoom packet.new }
-    ensures kept { KeepsServers vars.now.setup.methods (map M.server_shown methods.old.items) (map M.server_shown methods.new.items) }
+    ensures room { requests result ≡ true → HasCapacity packet.new }
+    ensures kept { PreservesServers vars.now.setup.methods (map M.server_shown methods.old.items) (map M.server_shown methods.new.items) }
 {
-    hand_to_server(
+    call_server_method(
         methods.as_mut_slice(),
         kind,
         response,

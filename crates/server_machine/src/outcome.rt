@@ -5,7 +5,7 @@ ghost use Rattle.octet_lists.specs.Among.{is_among};
 ghost use Rattle.eap_packet.specs.Fault.{code_of};
 ghost use Rattle.eap_packet.specs.Packet.{spelled, value_with, has_type};
 ghost use Rattle.eap_packet.specs.declared.state.State.TheVariants.{ProposeMethod, MethodRequest, SendRequest, Idle, Failure};
-ghost use Rattle.eap_method.specs.Room.{HasRoom, requests};
+ghost use Rattle.eap_method.specs.Capacity.{HasCapacity, requests};
 ghost use Rattle.eap_method.specs.Server.{ServerViews};
 ghost use Rattle.eap_method.specs.ServerTurn.{server_turn_with, server_tags};
 ghost use Rattle.eap_method.specs.Steps.{step_with};
@@ -13,9 +13,9 @@ ghost use Rattle.eap_method.specs.Tags.{Tags, no_tags};
 ghost use Rattle.server_machine.specs.Expanded.{MayWrap};
 ghost use Rattle.server_machine.specs.ServerTable.{answer, before_proposal, next_id, with_request, ends_well, ends_badly, offers, method_answers};
 ghost use Rattle.server_machine.specs.ServerTable.{views_after, AreInOrder};
-ghost use Rattle.server_machine.specs.declared.variables.Way.TheVariants.{AfterResponse};
+ghost use Rattle.server_machine.specs.declared.variables.ProposalPath.TheVariants.{AfterResponse};
 
-use crate::variables::{Progress, ServerVariables, Way};
+use crate::variables::{Progress, ProposalPath, ServerVariables};
 use eap_method::{ServerAnswer, Step};
 use eap_packet::{Code, State, encode_end_into};
 use octet_lists::Packet;
@@ -59,7 +59,7 @@ pub fn next_id(vars: &ServerVariables) -> u8
 }
 
 /// FAILURE, if a method was to be proposed: a Failure with currentId.
-pub fn end_badly(vars: &mut ServerVariables, way: Way, id: u8, packet: &mut Packet) -> Step
+pub fn end_badly(vars: &mut ServerVariables, way: ProposalPath, id: u8, packet: &mut Packet) -> Step
     ensures step { (views : ServerViews) → ends_badly (before_proposal way) vars.old views id no_tags
         ≡ answer (step_with result packet.new no_tags) (record { vars = vars.new; views = views }) }
     ensures room { MayWrap result.sends packet.new }
@@ -72,25 +72,25 @@ pub fn end_badly(vars: &mut ServerVariables, way: Way, id: u8, packet: &mut Pack
 }
 
 /// The step of FAILURE, if no method is left to propose.
-fn failing(way: Way) -> Step
+fn failing(way: ProposalPath) -> Step
     ensures { result ≡ record { path = before_proposal way ++ Failure ∷ []; cause = None; sends = true } }
 {
     match way {
-        Way::AfterResponse => Step::sending(&FAILING),
-        Way::AfterNak => Step::sending(&[
+        ProposalPath::AfterResponse => Step::sending(&FAILING),
+        ProposalPath::AfterNak => Step::sending(&[
             State::Received,
             State::Nak,
             State::SelectAction,
             State::Failure,
         ]),
-        Way::FirstIdentity => Step::sending(&[
+        ProposalPath::FirstIdentity => Step::sending(&[
             State::PickUpMethod,
             State::MethodResponse,
             State::SelectAction,
             State::Failure,
         ]),
-        Way::FirstNak => Step::sending(&[State::Nak, State::SelectAction, State::Failure]),
-        Way::FirstOther => {
+        ProposalPath::FirstNak => Step::sending(&[State::Nak, State::SelectAction, State::Failure]),
+        ProposalPath::FirstOther => {
             Step::sending(&[State::PickUpMethod, State::SelectAction, State::Failure])
         }
     }
@@ -98,10 +98,10 @@ fn failing(way: Way) -> Step
 
 /// PROPOSE_METHOD, METHOD_REQUEST and SEND_REQUEST of a method that isn't yet proposed, whose first
 /// Request is `packet`; without one, FAILURE.
-#[tactic(auto, using(crate::proofs::Proposed::proposed_has_room, crate::proofs::Proposed::proposed_grows, crate::proofs::Proposed::order_is_kind))]
+#[tactic(auto, using(crate::proofs::Proposed::proposed_has_capacity, crate::proofs::Proposed::proposed_grows, crate::proofs::Proposed::order_is_kind))]
 pub fn settle_offer(
     vars: &mut ServerVariables,
-    way: Way,
+    way: ProposalPath,
     id: u8,
     kind: u8,
     has_first: bool,
@@ -110,7 +110,7 @@ pub fn settle_offer(
     requires ordered { is_among vars.old.setup.methods kind ≡ true }
     requires unproposed { is_among vars.old.proposed kind ≡ false }
     requires in_order { AreInOrder vars.old }
-    requires room { has_first ≡ true → HasRoom packet.old }
+    requires room { has_first ≡ true → HasCapacity packet.old }
     ensures step { (views : ServerViews) → offers (before_proposal way) vars.old views id kind (if has_first then Some packet.old else None)
         ≡ answer (step_with result packet.new no_tags) (record { vars = vars.new; views = views }) }
     ensures room { MayWrap result.sends packet.new }
@@ -129,11 +129,11 @@ pub fn settle_offer(
 }
 
 /// The step of a proposal.
-fn proposing(way: Way) -> Step
+fn proposing(way: ProposalPath) -> Step
     ensures { result ≡ record { path = before_proposal way ++ ProposeMethod ∷ MethodRequest ∷ SendRequest ∷ Idle ∷ []; cause = None; sends = true } }
 {
     match way {
-        Way::AfterResponse => Step::sending(&[
+        ProposalPath::AfterResponse => Step::sending(&[
             State::Received,
             State::IntegrityCheck,
             State::MethodResponse,
@@ -143,7 +143,7 @@ fn proposing(way: Way) -> Step
             State::SendRequest,
             State::Idle,
         ]),
-        Way::AfterNak => Step::sending(&[
+        ProposalPath::AfterNak => Step::sending(&[
             State::Received,
             State::Nak,
             State::SelectAction,
@@ -152,7 +152,7 @@ fn proposing(way: Way) -> Step
             State::SendRequest,
             State::Idle,
         ]),
-        Way::FirstIdentity => Step::sending(&[
+        ProposalPath::FirstIdentity => Step::sending(&[
             State::PickUpMethod,
             State::MethodResponse,
             State::SelectAction,
@@ -161,7 +161,7 @@ fn proposing(way: Way) -> Step
             State::SendRequest,
             State::Idle,
         ]),
-        Way::FirstNak => Step::sending(&[
+        ProposalPath::FirstNak => Step::sending(&[
             State::Nak,
             State::SelectAction,
             State::ProposeMethod,
@@ -169,7 +169,7 @@ fn proposing(way: Way) -> Step
             State::SendRequest,
             State::Idle,
         ]),
-        Way::FirstOther => Step::sending(&[
+        ProposalPath::FirstOther => Step::sending(&[
             State::PickUpMethod,
             State::SelectAction,
             State::ProposeMethod,
@@ -192,7 +192,7 @@ fn send_request(vars: &mut ServerVariables, request: &Packet)
 /// INTEGRITY_CHECK, of the turn of the method's object, whose Request is `packet`: a discard writes
 /// nothing, and after the method's end a Success or a Failure takes the place of what was there.
 pub fn settle(vars: &mut ServerVariables, id: u8, turn: ServerAnswer, packet: &mut Packet) -> Step
-    requires room { requests turn ≡ true → HasRoom packet.old }
+    requires room { requests turn ≡ true → HasCapacity packet.old }
     ensures step { (before after : ServerViews) (tags : Tags) → let whole = server_turn_with turn packet.old tags in
         method_answers (record { vars = vars.old; views = before }) id after whole
         ≡ answer (step_with result packet.new (server_tags whole)) (record { vars = vars.new; views = views_after before after whole }) }

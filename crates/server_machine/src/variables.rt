@@ -24,7 +24,7 @@ pub enum Role {
 
 /// The way to SELECT_ACTION (RFC 4137 sections 5.4 and 6.4).
 #[derive(Clone, Copy, PartialEq, Eq, Debug)]
-pub enum Way {
+pub enum ProposalPath {
     /// After a Response of the Identity round or of a method: METHOD_RESPONSE.
     AfterResponse,
     /// After a Nak.

@@ -15,15 +15,15 @@ use Rattle.eap_world.specs.Conversations.{front}
 use Rattle.tag_book.specs.Book.{first_broken, tags_verdict, verdict_on}
 use Rattle.tag_book.specs.declared.book.Entry.{Entry}
 use Rattle.tag_book.specs.declared.book.TagsVerdict.TheVariants.{Honest}
-use Rattle.tag_book.specs.declared.book.Makers.TheVariants.{Other}
+use Rattle.tag_book.specs.declared.book.MadeBy.TheVariants.{Other}
 use Rattle.eap_world.specs.Judgement.{is_success, verdict_of}
 use Rattle.eap_world.specs.World.{WorldNow, Parties, run_after, world_start}
-use Rattle.smooth_laws.specs.Again.{HasJustBegun, IsLoggedInSince, SmoothLoginsSucceedAgain}
+use Rattle.smooth_laws.specs.Again.{HasJustStarted, IsLoggedInSince, SmoothLoginsSucceedAgain}
 use Rattle.smooth_laws.specs.Smooth.{AreInOrder, IsLoggedIn, SucceedsInTime, event_bound, deliveries}
-use Rattle.smooth_laws.proofs.Following.{as_honest, delivers_each, takes_each}
-use Rattle.smooth_laws.specs.Behind.{Follows, RunsGoOnAsTheirOwn, later}
+use Rattle.smooth_laws.proofs.Following.{as_honest, delivers_each, accepts_each}
+use Rattle.smooth_laws.specs.Trailing.{Follows, RunsGoOnAsTheirOwn, later}
 use Rattle.smooth_laws.proofs.Opening.{in_mode}
-use Rattle.smooth_laws.proofs.SmoothRuns.{smooth_logins_succeed, take_deliveries}
+use Rattle.smooth_laws.proofs.SmoothRuns.{smooth_logins_succeed, prefix_deliveries}
 
 -- the start sends one packet, and books and counts nothing
 record HasStarted (v : WorldNow) : Type 0 where
@@ -40,7 +40,7 @@ started_by mode.Through setup = record { one = refl; no_events = refl; no_discar
 has_started : (setup : Setup) → HasStarted (run_of setup [])
 has_started setup = started_by setup.mode setup
 
-begins : (setup : Setup) (w : WorldNow) (begun : HasJustBegun setup w) → Follows w begun.before w (run_of setup [])
+begins : (setup : Setup) (w : WorldNow) (begun : HasJustStarted setup w) → Follows w begun.before w (run_of setup [])
 begins setup w begun =
     let start = has_started setup in
     let no_events = start.no_events in
@@ -57,10 +57,10 @@ begins setup w begun =
 
 pub runs_go_on_as_their_own : RunsGoOnAsTheirOwn
 unfolding run_after
-runs_go_on_as_their_own setup w begun events none = takes_each w begun.before events none w (run_of setup []) (begins setup w begun)
+runs_go_on_as_their_own setup w begun events none = accepts_each w begun.before events none w (run_of setup []) (begins setup w begun)
 
 -- after so many deliveries
-goes_on : (setup : Setup) (w : WorldNow) (begun : HasJustBegun setup w) (count : ℕ)
+goes_on : (setup : Setup) (w : WorldNow) (begun : HasJustStarted setup w) (count : ℕ)
     → Follows w begun.before (run_after w (deliveries (length begun.before + 1) count)) (run_of setup (deliveries 1 count))
 unfolding run_after
 goes_on setup w begun count = delivers_each w begun.before w (run_of setup []) (begins setup w begun) 1 count (omega arith)
@@ -74,7 +74,7 @@ pub first_fresh : (setup : Setup) (events : List Event) → AreInOrder events
     → (run_of setup events).conversations.fresh ≡ not (bytes_eq (front setup.peer.nonce) (front setup.server.nonce))
 unfolding run_after
 first_fresh setup events order =
-    let begun : HasJustBegun setup (run_of setup []) = record { parties = refl; before = []; sent = refl } in
+    let begun : HasJustStarted setup (run_of setup []) = record { parties = refl; before = []; sent = refl } in
     ap (λ (some : List Event). (run_of setup some).conversations.fresh) order
     ∙ (goes_on setup (run_of setup []) begun (length events)).fresh ∙ started_fresh setup
 
@@ -117,9 +117,9 @@ smooth_logins_succeed_again setup w events whole names fit begun order enough =
     let of_own : SucceedsInTime setup (deliveries 1 all) =
     smooth_logins_succeed setup (deliveries 1 all) whole names fit (ap (deliveries 1) (sym size)) (omega arith) in
     let first : (count : ℕ) → count ≤ all → take count events ≡ deliveries (length begun.before + 1) count =
-    λ count few. ap (λ (some : List Event). take count some) order ∙ take_deliveries (length w.sent) count all few
+    λ count few. ap (λ (some : List Event). take count some) order ∙ prefix_deliveries (length w.sent) count all few
     ∙ ap (λ (number : ℕ). deliveries number count) here in
-    let own : (count : ℕ) → count ≤ all → take count (deliveries 1 all) ≡ deliveries 1 count = λ count few. take_deliveries 1 count all few in
+    let own : (count : ℕ) → count ≤ all → take count (deliveries 1 all) ≡ deliveries 1 count = λ count few. prefix_deliveries 1 count all few in
     record {
       not_before =
           ap (λ (some : List Event). is_success (run_after w some).parties.peer.vars.state) (first (most - 1) (omega arith))

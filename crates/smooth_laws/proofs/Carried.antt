@@ -32,13 +32,13 @@ body_as false kind body = body
 body_as true kind body = ietf ++ kind ∷ body
 
 -- the octets of a wrapped packet, where nothing stands past its Length
-behind_length : (code id kind : ℕ) (body : List ℕ)
+trailing_length : (code id kind : ℕ) (body : List ℕ)
     → (let octets = frame_of code id (kind ∷ body) in take (length_of octets - 4) (drop 4 octets) ≡ kind ∷ body)
-behind_length code id kind body = take_all _ (kind ∷ body) (omega arith)
+trailing_length code id kind body = take_all _ (kind ∷ body) (omega arith)
 
 wrapped_framed : (code id kind : ℕ) (body : List ℕ) → expanded_form (frame_of code id (kind ∷ body)) ≡ frame_of code id (expanded_kind ∷ ietf ++ kind ∷ body)
 wrapped_framed code id kind body =
-    ap (λ (tail : List ℕ). code ∷ id ∷ two_octets (length_of (frame_of code id (kind ∷ body)) + 7) ++ expanded_kind ∷ ietf ++ tail) (behind_length code id kind body)
+    ap (λ (tail : List ℕ). code ∷ id ∷ two_octets (length_of (frame_of code id (kind ∷ body)) + 7) ++ expanded_kind ∷ ietf ++ tail) (trailing_length code id kind body)
     ∙ ap (λ (size : ℕ). code ∷ id ∷ two_octets size ++ expanded_kind ∷ ietf ++ kind ∷ body) (omega arith)
 
 pub carried_request : (w : Bool) (id kind : ℕ) (body : List ℕ)
@@ -57,21 +57,21 @@ not_nak : (w : Bool) (kind : ℕ) → kind ≢ 3 → kind_as w kind ≢ 3
 not_nak false kind differs = differs
 not_nak true kind differs = λ e. omega (arith, e)
 
-body_fits : (w : Bool) (kind : ℕ) (body : List ℕ) → length body ≤ 1488 → length (body_as w kind body) ≤ 1495
-body_fits false kind body fits = omega (arith, fits)
-body_fits true kind body fits = omega (arith, fits)
+body_bounded : (w : Bool) (kind : ℕ) (body : List ℕ) → length body ≤ 1488 → length (body_as w kind body) ≤ 1495
+body_bounded false kind body fits = omega (arith, fits)
+body_bounded true kind body fits = omega (arith, fits)
 
 -- it is read as what it has
 pub request_carried : (w : Bool) (id kind : ℕ) (body : List ℕ) → length body ≤ 1488 → kind ≢ 3
     → packet_of (carried w (spelled (request id kind body))) ≡ Ok (request id (kind_as w kind) (body_as w kind body))
 request_carried w id kind body fits differs =
-    ap packet_of (carried_request w id kind body) ∙ request_read id (kind_as w kind) (body_as w kind body) (body_fits w kind body fits) (not_nak w kind differs)
+    ap packet_of (carried_request w id kind body) ∙ request_read id (kind_as w kind) (body_as w kind body) (body_bounded w kind body fits) (not_nak w kind differs)
 
 pub response_carried : (w : Bool) (id kind : ℕ) (body : List ℕ) → length body ≤ 1488 → kind ≢ 3
     → packet_of (carried w (spelled (response id kind body))) ≡ Ok (response id (kind_as w kind) (body_as w kind body))
 response_carried w id kind body fits differs =
     ap packet_of (carried_response w id kind body)
-    ∙ response_read id (kind_as w kind) (body_as w kind body) (body_fits w kind body fits) (λ e. absurd (not_nak w kind differs e))
+    ∙ response_read id (kind_as w kind) (body_as w kind body) (body_bounded w kind body fits) (λ e. absurd (not_nak w kind differs e))
 
 -- nothing stands past its Length
 pub request_carried_whole : (w : Bool) (id kind : ℕ) (body : List ℕ)
@@ -101,8 +101,8 @@ or_none false false e f = refl
 or_none true y e f = absurd cc
 or_none false true e f = absurd cc
 
-pub wrapped_taken : (is_asked : Bool) (kind : ℕ) (body : List ℕ) → IsMethod kind → is_bad_body is_asked (ietf ++ kind ∷ body) ≡ false
-wrapped_taken is_asked kind body is =
+pub wrapped_accepted : (is_asked : Bool) (kind : ℕ) (body : List ℕ) → IsMethod kind → is_bad_body is_asked (ietf ++ kind ∷ body) ≡ false
+wrapped_accepted is_asked kind body is =
     or_none (nat_lt (length (ietf ++ kind ∷ body)) 7) _ (not_under kind body)
     (and_left (is_nak_body (ietf ++ kind ∷ body)) _ (and_right (is_ietf (ietf ++ kind ∷ body)) (kind == 3) is.not_nak))
 

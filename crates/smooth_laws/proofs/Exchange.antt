@@ -12,17 +12,17 @@ use Rattle.eap_method.specs.Steps.{sends}
 use Rattle.eap_method.specs.declared.tags.TagRecord.{TagRecord}
 use Rattle.peer_machine.specs.PeerTable as peers
 use Rattle.peer_machine.specs.PeerTable.{PeerNow}
-use Rattle.peer_machine.specs.Expanded.{peer_hears}
+use Rattle.peer_machine.specs.Expanded.{peer_receives}
 use Rattle.server_machine.specs.ServerTable as servers
 use Rattle.server_machine.specs.ServerTable.{ServerNow}
-use Rattle.server_machine.specs.Expanded.{server_hears}
+use Rattle.server_machine.specs.Expanded.{server_receives}
 use Rattle.pass_through.specs.PassTable.{without_padding}
 use Rattle.pass_through.specs.declared.variables.PassVariables.{PassVariables}
 use Rattle.eap_world.specs.World.{WorldNow}
 use Rattle.tag_book.specs.declared.book.End.TheVariants as end
-use Rattle.smooth_laws.proofs.Moves.{Stage, delivered, packet_to, peer_moves, server_moves, hands_to_server, hands_to_peer}
+use Rattle.smooth_laws.proofs.Moves.{Stage, delivered, packet_to, peer_moves, server_moves, passes_to_server, passes_to_peer}
 use Rattle.smooth_laws.proofs.Packets.{success_whole, success_read}
-use Rattle.smooth_laws.proofs.PassSide.{pass_at, hands_response, hands_request, hands_success}
+use Rattle.smooth_laws.proofs.PassSide.{pass_at, passes_response, passes_request, passes_success}
 
 -- the pass-through, where there is one, waits for the peer's Response to the Request of this Identifier
 pub data AwaitsPeer (id : ℕ) : Mode → PassVariables → Type 0 where
@@ -66,7 +66,7 @@ peer_turns_in : (runs : Mode) (pass : PassVariables) (w : WorldNow) (number id k
     → Stage w runs number p s pass (packet_to port.Peer x) end.Peer accepted
     → (path : List State) (y body : List ℕ) (made : List TagRecord) (after : PeerNow)
     → packet_of y ≡ Ok (response id kind body) → without_padding y ≡ y
-    → peer_hears p x ≡ peers.answer (sends path y (record { accepted = accepted; made = made })) after
+    → peer_receives p x ≡ peers.answer (sends path y (record { accepted = accepted; made = made })) after
     → ToServer (exchanged runs w number) runs (number_after runs number) after s y made
 peer_turns_in runs pass w number id kind p s x accepted (alone v) stage path y body made after read whole takes =
     record { pass = v; awaits = alone v; stage = peer_moves w mode.Alone number p s v x accepted stage path _ made after takes }
@@ -75,16 +75,16 @@ peer_turns_in runs pass w number id kind p s x accepted (in_idle2 first_id max_r
     record {
       pass = pass_at first_id max_retrans state.AaaIdle id last;
       awaits = in_aaa_idle first_id max_retrans id last;
-      stage = hands_to_server (delivered w number) (number + 1) after s was y end.Server made
+      stage = passes_to_server (delivered w number) (number + 1) after s was y end.Server made
           (peer_moves w mode.Through number p s was x accepted stage path _ made after takes) _ _ _
-          (hands_response first_id max_retrans y id kind body last read whole);
+          (passes_response first_id max_retrans y id kind body last read whole);
     }
 
 pub peer_turns : (runs : Mode) (w : WorldNow) (number id kind : ℕ) (p : PeerNow) (s : ServerNow) (x : List ℕ) (accepted : List TagRecord)
     → ToPeer w runs number id p s x accepted
     → (path : List State) (y body : List ℕ) (made : List TagRecord) (after : PeerNow)
     → packet_of y ≡ Ok (response id kind body) → without_padding y ≡ y
-    → peer_hears p x ≡ peers.answer (sends path y (record { accepted = accepted; made = made })) after
+    → peer_receives p x ≡ peers.answer (sends path y (record { accepted = accepted; made = made })) after
     → ToServer (exchanged runs w number) runs (number_after runs number) after s y made
 peer_turns runs w number id kind p s x accepted to path y body made after read whole takes =
     peer_turns_in runs to.pass w number id kind p s x accepted to.awaits to.stage path y body made after read whole takes
@@ -96,7 +96,7 @@ server_turns_in : (runs : Mode) (pass : PassVariables) (w : WorldNow) (number id
     → Stage w runs number p s pass (packet_to port.Server x) end.Server accepted
     → (path : List State) (y body : List ℕ) (made : List TagRecord) (after : ServerNow)
     → packet_of y ≡ Ok (request id kind body) → without_padding y ≡ y
-    → server_hears s x ≡ servers.answer (sends path y (record { accepted = accepted; made = made })) after
+    → server_receives s x ≡ servers.answer (sends path y (record { accepted = accepted; made = made })) after
     → ToPeer (exchanged runs w number) runs (number_after runs number) id p after y made
 server_turns_in runs pass w number id kind p s x accepted (alone v) stage path y body made after read whole takes =
     record { pass = v; awaits = alone v; stage = server_moves w mode.Alone number p s v x accepted stage path _ made after takes }
@@ -105,16 +105,16 @@ server_turns_in runs pass w number id kind p s x accepted (in_aaa_idle first_id 
     record {
       pass = pass_at first_id max_retrans state.Idle2 id y;
       awaits = in_idle2 first_id max_retrans y;
-      stage = hands_to_peer (delivered w number) (number + 1) p after was y end.Peer made
+      stage = passes_to_peer (delivered w number) (number + 1) p after was y end.Peer made
           (server_moves w mode.Through number p s was x accepted stage path _ made after takes) _ _ _
-          (hands_request first_id max_retrans y id kind body was_id last read whole);
+          (passes_request first_id max_retrans y id kind body was_id last read whole);
     }
 
 pub server_turns : (runs : Mode) (w : WorldNow) (number id kind : ℕ) (p : PeerNow) (s : ServerNow) (x : List ℕ) (accepted : List TagRecord)
     → ToServer w runs number p s x accepted
     → (path : List State) (y body : List ℕ) (made : List TagRecord) (after : ServerNow)
     → packet_of y ≡ Ok (request id kind body) → without_padding y ≡ y
-    → server_hears s x ≡ servers.answer (sends path y (record { accepted = accepted; made = made })) after
+    → server_receives s x ≡ servers.answer (sends path y (record { accepted = accepted; made = made })) after
     → ToPeer (exchanged runs w number) runs (number_after runs number) id p after y made
 server_turns runs w number id kind p s x accepted to path y body made after read whole takes =
     server_turns_in runs to.pass w number id kind p s x accepted to.awaits to.stage path y body made after read whole takes
@@ -124,7 +124,7 @@ server_ends_in : (runs : Mode) (pass : PassVariables) (w : WorldNow) (number id 
     → AwaitsServer runs pass
     → Stage w runs number p s pass (packet_to port.Server x) end.Server accepted
     → (path : List State) (made : List TagRecord) (after : ServerNow)
-    → server_hears s x ≡ servers.answer (sends path (spelled (success id)) (record { accepted = accepted; made = made })) after
+    → server_receives s x ≡ servers.answer (sends path (spelled (success id)) (record { accepted = accepted; made = made })) after
     → EndsAtPeer (exchanged runs w number) runs (number_after runs number) p after (spelled (success id)) made
 server_ends_in runs pass w number id p s x accepted (alone v) stage path made after takes =
     record { pass = v; stage = server_moves w mode.Alone number p s v x accepted stage path _ made after takes }
@@ -132,15 +132,15 @@ server_ends_in runs pass w number id p s x accepted (in_aaa_idle first_id max_re
     let was : PassVariables = pass_at first_id max_retrans state.AaaIdle was_id last in
     record {
       pass = pass_at first_id max_retrans state.Success2 was_id last;
-      stage = hands_to_peer (delivered w number) (number + 1) p after was (spelled (success id)) end.Peer made
+      stage = passes_to_peer (delivered w number) (number + 1) p after was (spelled (success id)) end.Peer made
           (server_moves w mode.Through number p s was x accepted stage path _ made after takes) _ _ _
-          (hands_success first_id max_retrans (spelled (success id)) id was_id last (success_read id) (success_whole id));
+          (passes_success first_id max_retrans (spelled (success id)) id was_id last (success_read id) (success_whole id));
     }
 
 pub server_ends : (runs : Mode) (w : WorldNow) (number id : ℕ) (p : PeerNow) (s : ServerNow) (x : List ℕ) (accepted : List TagRecord)
     → ToServer w runs number p s x accepted
     → (path : List State) (made : List TagRecord) (after : ServerNow)
-    → server_hears s x ≡ servers.answer (sends path (spelled (success id)) (record { accepted = accepted; made = made })) after
+    → server_receives s x ≡ servers.answer (sends path (spelled (success id)) (record { accepted = accepted; made = made })) after
     → EndsAtPeer (exchanged runs w number) runs (number_after runs number) p after (spelled (success id)) made
 server_ends runs w number id p s x accepted to path made after takes =
     server_ends_in runs to.pass w number id p s x accepted to.awaits to.stage path made after takes

@@ -18,7 +18,7 @@ use Rattle.eap_world.specs.Conversations.{Conversations}
 use Rattle.eap_world.specs.Sent.{Sent, packet_numbered}
 use Rattle.tag_book.specs.declared.book.End.{End}
 use Rattle.tag_book.specs.declared.book.Entry.{Entry}
-use Rattle.tag_book.specs.declared.book.Makers.TheVariants.{Other}
+use Rattle.tag_book.specs.declared.book.MadeBy.TheVariants.{Other}
 use Rattle.tag_book.specs.declared.book.Use.{Use}
 use Rattle.tag_book.specs.declared.book.Use.TheVariants.{Accepted, Made}
 use Rattle.eap_world.specs.declared.told.Counts.{Counts}
@@ -29,26 +29,26 @@ use Rattle.peer_machine.specs.Inputs as peer_inputs
 use Rattle.server_machine.specs.Inputs as server_inputs
 use Rattle.pass_through.specs.Inputs as pass_inputs
 use Rattle.eap_world.specs.World.{WorldNow, Parties, Acted, Action, Call, Called, Skipped, act, alteration, booked_by, booked_of, call_at, call_with, called_unless}
-use Rattle.eap_world.specs.World.{conversations_after, conversed_by, conversed_unless, counts_after, end_of, first_skip, heard_in, octets_of, one_if, packet_skips, pass_octets, run_after}
+use Rattle.eap_world.specs.World.{conversations_after, conversed_by, conversed_unless, counts_after, end_of, first_skip, delivered_in_call, octets_of, one_if, packet_skips, pass_octets, run_after}
 use Rattle.eap_world.specs.World.{sent_by, skip_table, timer_call, to_pass, to_peer, to_server, world_step}
-use Rattle.world_laws.proofs.Acting.{begins_anew}
+use Rattle.world_laws.proofs.Acting.{starts_anew}
 use Rattle.std.specs.Prelude.{All, take}
 use Rattle.std.proofs.lemmas.List.Elements.{All-head, All-tail, All-nil, All-cons}
-use Rattle.smooth_laws.specs.Behind.{Follows, event_behind, is_restart, later, number_behind}
+use Rattle.smooth_laws.specs.Trailing.{Follows, event_past, is_restart, later, number_behind}
 use Rattle.smooth_laws.specs.Smooth.{deliveries}
 
 -- ---- packets
 
-get_behind : {X : Type 0} (before list : List X) (i : ℕ) → slice_get (before ++ list) (length before + i) ≡ slice_get list i
-get_behind [] list i = let none : 0 + i ≡ i = omega arith in rw none refl
-get_behind (x ∷ rest) list i = let one_more : suc (length rest) + i ≡ suc (length rest + i) = omega arith in rw one_more (get_behind rest list i)
+get_after : {X : Type 0} (before list : List X) (i : ℕ) → slice_get (before ++ list) (length before + i) ≡ slice_get list i
+get_after [] list i = let none : 0 + i ≡ i = omega arith in rw none refl
+get_after (x ∷ rest) list i = let one_more : suc (length rest) + i ≡ suc (length rest + i) = omega arith in rw one_more (get_after rest list i)
 
-numbered_behind : (before sent : List Sent) (n : ℕ) → 1 ≤ n → packet_numbered (before ++ sent) (length before + n) ≡ packet_numbered sent n
-numbered_behind before sent n some =
+numbered_after : (before sent : List Sent) (n : ℕ) → 1 ≤ n → packet_numbered (before ++ sent) (length before + n) ≡ packet_numbered sent n
+numbered_after before sent n some =
     let place : length before + n - 1 ≡ length before + (n - 1) = omega arith in
     cond-false (length before + n == 0) _ _ (ne_eqb (length before + n) 0 (λ e. omega arith))
     ∙ ap (slice_get (before ++ sent)) place
-    ∙ get_behind before sent (n - 1)
+    ∙ get_after before sent (n - 1)
     ∙ sym (cond-false (n == 0) _ _ (ne_eqb n 0 (λ e. omega arith)))
 
 -- ---- the book
@@ -123,30 +123,30 @@ numbered_so : (before sent : List Sent) (n : ℕ) → packet_numbered (before ++
 numbered_so before sent zero = refl
 numbered_so before sent (suc n) =
     ap (packet_numbered (before ++ sent)) (cond-false (suc n == 0) _ _ (ne_eqb (suc n) 0 (λ e. omega arith)))
-    ∙ numbered_behind before sent (suc n) (omega arith)
+    ∙ numbered_after before sent (suc n) (omega arith)
 
 -- it begins no conversation
 record Same (after before : Conversations) : Type 0 where
   begun : after.begun ≡ before.begun
   fresh : after.fresh ≡ before.fresh
 
-heard_same : (all : Conversations) (came : Option (List ℕ)) → Same (heard_in all came) all
-heard_same all None = record { begun = refl; fresh = refl }
-heard_same all (Some octets) = record { begun = refl; fresh = refl }
+received_same : (all : Conversations) (came : Option (List ℕ)) → Same (delivered_in_call all came) all
+received_same all None = record { begun = refl; fresh = refl }
+received_same all (Some octets) = record { begun = refl; fresh = refl }
 
-call_same : (event : ℕ) (all : Conversations) (call : Call) → begins_anew call ≡ false → Same (conversations_after event all call) all
-call_same event all (to_peer (peer_inputs.octets bytes)) stays = heard_same all (Some bytes)
-call_same event all (to_peer peer_inputs.idle) stays = heard_same all None
-call_same event all (to_peer peer_inputs.alt_accept) stays = heard_same all None
-call_same event all (to_peer peer_inputs.alt_reject) stays = heard_same all None
+call_same : (event : ℕ) (all : Conversations) (call : Call) → starts_anew call ≡ false → Same (conversations_after event all call) all
+call_same event all (to_peer (peer_inputs.octets bytes)) stays = received_same all (Some bytes)
+call_same event all (to_peer peer_inputs.idle) stays = received_same all None
+call_same event all (to_peer peer_inputs.alt_accept) stays = received_same all None
+call_same event all (to_peer peer_inputs.alt_reject) stays = received_same all None
 call_same event all (to_peer (peer_inputs.restart nonce)) stays = cc stays
-call_same event all (to_server server_inputs.start) stays = heard_same all None
-call_same event all (to_server server_inputs.timeout) stays = heard_same all None
-call_same event all (to_server (server_inputs.octets bytes)) stays = heard_same all (Some bytes)
+call_same event all (to_server server_inputs.start) stays = received_same all None
+call_same event all (to_server server_inputs.timeout) stays = received_same all None
+call_same event all (to_server (server_inputs.octets bytes)) stays = received_same all (Some bytes)
 call_same event all (to_server (server_inputs.restart nonce)) stays = cc stays
-call_same event all (to_pass input) stays = heard_same all (pass_octets input)
+call_same event all (to_pass input) stays = received_same all (pass_octets input)
 
-unless_same : (event : ℕ) (all : Conversations) (skip : Option Skip) (call : Call) → begins_anew call ≡ false
+unless_same : (event : ℕ) (all : Conversations) (skip : Option Skip) (call : Call) → starts_anew call ≡ false
     → Same (conversed_unless event all skip (Some call)) all
 unless_same event all (Some skip) call stays = record { begun = refl; fresh = refl }
 unless_same event all None call stays = call_same event all call stays
@@ -188,18 +188,18 @@ event_same number p all sent event.AltAccept stays = unless_same number all (fir
 event_same number p all sent event.AltReject stays = unless_same number all (first_skip (skip_table p all sent event.AltReject)) (to_peer peer_inputs.alt_reject) refl
 event_same number p all sent (event.Restart of) stays = cc stays
 
-behind_same : (shift : ℕ) (e : Event) → is_restart e ≡ false → is_restart (event_behind shift e) ≡ false
-behind_same shift (event.Deliver n) stays = refl
-behind_same shift (event.Alter n place mask) stays = refl
-behind_same shift (event.Cut n keep) stays = refl
-behind_same shift (event.Inject to octets) stays = refl
-behind_same shift (event.Timeout of) stays = refl
-behind_same shift event.AaaTimeout stays = refl
-behind_same shift event.AaaNoReq stays = refl
-behind_same shift event.Idle stays = refl
-behind_same shift event.AltAccept stays = refl
-behind_same shift event.AltReject stays = refl
-behind_same shift (event.Restart of) stays = stays
+trailing_same : (shift : ℕ) (e : Event) → is_restart e ≡ false → is_restart (event_past shift e) ≡ false
+trailing_same shift (event.Deliver n) stays = refl
+trailing_same shift (event.Alter n place mask) stays = refl
+trailing_same shift (event.Cut n keep) stays = refl
+trailing_same shift (event.Inject to octets) stays = refl
+trailing_same shift (event.Timeout of) stays = refl
+trailing_same shift event.AaaTimeout stays = refl
+trailing_same shift event.AaaNoReq stays = refl
+trailing_same shift event.Idle stays = refl
+trailing_same shift event.AltAccept stays = refl
+trailing_same shift event.AltReject stays = refl
+trailing_same shift (event.Restart of) stays = stays
 
 module _ (since : WorldNow) (before : List Sent) (w v : WorldNow) (f : Follows since before w v) where
   -- the packet is the same
@@ -212,7 +212,7 @@ module _ (since : WorldNow) (before : List Sent) (w v : WorldNow) (f : Follows s
       called_unless v.parties (first_skip (packet_skips v.parties.mode found is_misplaced)) (call_with found (part (octets_of found)))
 
   same_of : (e : Event) → is_restart e ≡ false
-      → act v.parties w.conversations w.sent (event_behind (length before) e) ≡ act v.parties v.conversations v.sent e
+      → act v.parties w.conversations w.sent (event_past (length before) e) ≡ act v.parties v.conversations v.sent e
   unfolding act
   same_of (event.Deliver n) stays = ap (handed false (λ (octets : List ℕ). octets)) (found_so n)
   same_of (event.Alter n place mask) stays = ap (λ (found : Option Sent). handed (nat_le (length (octets_of found)) place) (λ (octets : List ℕ). alteration octets place mask) found) (found_so n)
@@ -227,23 +227,23 @@ module _ (since : WorldNow) (before : List Sent) (w v : WorldNow) (f : Follows s
   same_of (event.Restart of) stays = cc stays
 
   same_act : (e : Event) → is_restart e ≡ false
-      → act w.parties w.conversations w.sent (event_behind (length before) e) ≡ act v.parties v.conversations v.sent e
-  same_act e stays = ap (λ (p : Parties). act p w.conversations w.sent (event_behind (length before) e)) f.parties ∙ same_of e stays
+      → act w.parties w.conversations w.sent (event_past (length before) e) ≡ act v.parties v.conversations v.sent e
+  same_act e stays = ap (λ (p : Parties). act p w.conversations w.sent (event_past (length before) e)) f.parties ∙ same_of e stays
 
   takes : (e : Event) → is_restart e ≡ false
-      → Follows since before (world_step w (event_behind (length before) e)).after (world_step v e).after
+      → Follows since before (world_step w (event_past (length before) e)).after (world_step v e).after
   takes e stays =
-      let s = event_same (w.counts.events + 1) w.parties w.conversations w.sent (event_behind (length before) e) (behind_same (length before) e stays) in
-      steps since before w v f (event_behind (length before) e) e (same_act e stays) s.begun s.fresh
+      let s = event_same (w.counts.events + 1) w.parties w.conversations w.sent (event_past (length before) e) (trailing_same (length before) e stays) in
+      steps since before w v f (event_past (length before) e) e (same_act e stays) s.begun s.fresh
 
 -- so a whole run does
-pub takes_each : (since : WorldNow) (before : List Sent) (events : List Event) → All (λ (e : Event). is_restart e ≡ false) events
+pub accepts_each : (since : WorldNow) (before : List Sent) (events : List Event) → All (λ (e : Event). is_restart e ≡ false) events
     → (w v : WorldNow) → Follows since before w v
-    → Follows since before (run_after w (map (event_behind (length before)) events)) (run_after v events)
+    → Follows since before (run_after w (map (event_past (length before)) events)) (run_after v events)
 unfolding run_after
-takes_each since before [] none w v f = f
-takes_each since before (e ∷ rest) none w v f =
-    takes_each since before rest (All-tail (λ (e : Event). is_restart e ≡ false) e rest none) (world_step w (event_behind (length before) e)).after (world_step v e).after
+accepts_each since before [] none w v f = f
+accepts_each since before (e ∷ rest) none w v f =
+    accepts_each since before rest (All-tail (λ (e : Event). is_restart e ≡ false) e rest none) (world_step w (event_past (length before) e)).after (world_step v e).after
     (takes since before w v f e (All-head (λ (e : Event). is_restart e ≡ false) e rest none))
 
 -- deliveries in order begin none
@@ -252,27 +252,27 @@ unfolding deliveries
 delivers_none first zero = All-nil (λ (e : Event). is_restart e ≡ false)
 delivers_none first (suc count) = All-cons (λ (e : Event). is_restart e ≡ false) (event.Deliver first) (deliveries (first + 1) count) refl (delivers_none (first + 1) count)
 
-deliveries_behind : (shift first count : ℕ) → 1 ≤ first → map (event_behind shift) (deliveries first count) ≡ deliveries (shift + first) count
+deliveries_after : (shift first count : ℕ) → 1 ≤ first → map (event_past shift) (deliveries first count) ≡ deliveries (shift + first) count
 unfolding deliveries
-deliveries_behind shift first zero some = refl
-deliveries_behind shift first (suc count) some =
+deliveries_after shift first zero some = refl
+deliveries_after shift first (suc count) some =
     let next : shift + first + 1 ≡ shift + (first + 1) = omega arith in
-    ap (λ (n : ℕ). event.Deliver n ∷ map (event_behind shift) (deliveries (first + 1) count)) (cond-false (first == 0) _ _ (ne_eqb first 0 (λ e. omega arith)))
+    ap (λ (n : ℕ). event.Deliver n ∷ map (event_past shift) (deliveries (first + 1) count)) (cond-false (first == 0) _ _ (ne_eqb first 0 (λ e. omega arith)))
     ∙ ap (λ (rest : List Event). event.Deliver (shift + first) ∷ rest)
-    (deliveries_behind shift (first + 1) count (omega arith) ∙ ap (λ (n : ℕ). deliveries n count) (sym next))
+    (deliveries_after shift (first + 1) count (omega arith) ∙ ap (λ (n : ℕ). deliveries n count) (sym next))
 
 pub delivers_each : (since : WorldNow) (before : List Sent) (w v : WorldNow) → Follows since before w v → (first count : ℕ) → 1 ≤ first
     → Follows since before (run_after w (deliveries (length before + first) count)) (run_after v (deliveries first count))
 delivers_each since before w v f first count some =
     subst (λ (events : List Event). Follows since before (run_after w events) (run_after v (deliveries first count)))
-    (deliveries_behind (length before) first count some)
-    (takes_each since before (deliveries first count) (delivers_none first count) w v f)
+    (deliveries_after (length before) first count some)
+    (accepts_each since before (deliveries first count) (delivers_none first count) w v f)
 
 -- ---- honest tags behind others
 
-any_behind : (test : Entry → Bool) (one other : List Entry) → list_any test other ≡ true → list_any test (one ++ other) ≡ true
-any_behind test [] other h = h
-any_behind test (e ∷ rest) other h = or_right (test e) (list_any test (rest ++ other)) (any_behind test rest other h)
+any_after : (test : Entry → Bool) (one other : List Entry) → list_any test other ≡ true → list_any test (one ++ other) ≡ true
+any_after test [] other h = h
+any_after test (e ∷ rest) other h = or_right (test e) (list_any test (rest ++ other)) (any_after test rest other h)
 
 any_later : (shift : ℕ) (e : Entry) (all : List Entry) → list_any (vouches Other e) all ≡ true
     → list_any (vouches Other (later shift e)) (map (later shift) all) ≡ true
@@ -288,7 +288,7 @@ honest_by : (b : Bool) (shift : ℕ) (old earlier : List Entry) (e : Entry)
     → cond b (list_any (vouches Other (later shift e)) (old ++ map (later shift) earlier)) true ≡ true
 honest_by false shift old earlier e h = refl
 honest_by true shift old earlier e h =
-    any_behind (vouches Other (later shift e)) old (map (later shift) earlier) (any_later shift e earlier h)
+    any_after (vouches Other (later shift e)) old (map (later shift) earlier) (any_later shift e earlier h)
 
 honest_later : (shift : ℕ) (old earlier : List Entry) (e : Entry) → is_honest Other earlier e ≡ true
     → is_honest Other (old ++ map (later shift) earlier) (later shift e) ≡ true

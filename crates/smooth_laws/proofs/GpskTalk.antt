@@ -10,18 +10,18 @@ use Rattle.login_setup.specs.Setup.{accepts_name}
 use Rattle.octet_lists.specs.Suite.{ks_of}
 use Rattle.login_setup.specs.Users.{user_of}
 use Rattle.gpsk_messages.specs.Message.{Message, mac_of, spelled}
-use Rattle.gpsk_messages.proofs.Grammar.{spellings_are_sized}
+use Rattle.gpsk_messages.proofs.Grammar.{encodings_are_sized}
 use Rattle.login_keys.proofs.GpskLaws.{ks-le, length_gpsk_tag_of}
 use Rattle.login_policy.specs.Policy.{picked_suite}
 use Rattle.eap_method.specs.GpskPeer as gpsk_peer
 use Rattle.eap_method.specs.GpskServer as gpsk_server
 use Rattle.eap_method.specs.GpskTags.{gpsk_request, gpsk_response, sk_record, suite_list}
-use Rattle.eap_method.specs.Peer.{PeerViews, gpsk_turn, credential_for, key_for, peer_turn, views_begun}
+use Rattle.eap_method.specs.Peer.{PeerViews, gpsk_turn, credential_for, key_for, peer_turn, views_started}
 use Rattle.eap_method.specs.Server as servers
-use Rattle.eap_method.specs.Server.{ServerViews, gpsk_hears, gpsk_offer, server_offer, server_turn, side_of}
+use Rattle.eap_method.specs.Server.{ServerViews, gpsk_receives, gpsk_offer, server_offer, server_turn, side_of}
 use Rattle.eap_method.specs.Turns.{PeerOutcome, ServerOutcome, requested, done}
 use Rattle.eap_method.specs.declared.values.Decision.TheVariants.{CondSucc}
-use Rattle.method_laws.specs.GpskLogin.{Ends, Fit, GoesThrough, peer_login, server_login}
+use Rattle.method_laws.specs.GpskLogin.{Ends, Compatible, IsSuccessful, peer_login, server_login}
 use Rattle.method_laws.proofs.GpskWhole.{gpsk_logins_go_through}
 use Rattle.smooth_laws.proofs.ServerSide.{IsOffer, Made, after_id}
 use Rattle.smooth_laws.proofs.Talk.{IsShort, Talks}
@@ -44,13 +44,13 @@ ends_of peer server user suite = record {
   cred = credential_for peer gpsk_kind;
   nonce = peer.nonce;
   own = side_of server;
-  own_nonce = server.nonce;
+  setup_with_nonce = server.nonce;
   users = server.users;
   user = user;
   suite = suite;
 }
 
-fits : (peer : PeerSetup) (server : ServerSetup) (user : User) (suite : Suite) → Shares peer server user suite → Fit (ends_of peer server user suite)
+fits : (peer : PeerSetup) (server : ServerSetup) (user : User) (suite : Suite) → Shares peer server user suite → Compatible (ends_of peer server user suite)
 unfolding credential_for side_of
 fits peer server user suite shares = let few = shares.short.suites in let some = shares.some_suites in record {
   accepted = shares.accepted;
@@ -78,10 +78,10 @@ unfolding suite_list
 length_suite_list [] = refl
 length_suite_list (suite ∷ suites) = let rest = length_suite_list suites in omega arith
 
-module _ (ends : Ends) (fit : Fit ends) where
-  answers_fit : length ends.own.suites ≤ 2 → length (spelled (gpsk_peer.gpsk2_of (peer_login ends) (suite_list ends.own.suites))) ≤ 1488
-  answers_fit few =
-      let size = spellings_are_sized (gpsk_peer.gpsk2_of (peer_login ends) (suite_list ends.own.suites)) in
+module _ (ends : Ends) (fit : Compatible ends) where
+  answer_bounds : length ends.own.suites ≤ 2 → length (spelled (gpsk_peer.gpsk2_of (peer_login ends) (suite_list ends.own.suites))) ≤ 1488
+  answer_bounds few =
+      let size = encodings_are_sized (gpsk_peer.gpsk2_of (peer_login ends) (suite_list ends.own.suites)) in
       let mac : length (mac_of (gpsk_peer.gpsk2_of (peer_login ends) (suite_list ends.own.suites))) ≡ ks_of ends.suite = length_gpsk_tag_of _ _ _ in
       let list = length_suite_list ends.own.suites in
       let ks = ks-le ends.suite in
@@ -91,9 +91,9 @@ module _ (ends : Ends) (fit : Fit ends) where
       let server_nonce = fit.server_nonce in
       omega arith
 
-  checks_fit : length (spelled (gpsk_server.gpsk3_of (server_login ends))) ≤ 1488
-  checks_fit =
-      let size = spellings_are_sized (gpsk_server.gpsk3_of (server_login ends)) in
+  check_bounds : length (spelled (gpsk_server.gpsk3_of (server_login ends))) ≤ 1488
+  check_bounds =
+      let size = encodings_are_sized (gpsk_server.gpsk3_of (server_login ends)) in
       let mac : length (mac_of (gpsk_server.gpsk3_of (server_login ends))) ≡ ks_of ends.suite = length_gpsk_tag_of _ _ _ in
       let ks = ks-le ends.suite in
       let server_name = fit.server_name in
@@ -101,9 +101,9 @@ module _ (ends : Ends) (fit : Fit ends) where
       let server_nonce = fit.server_nonce in
       omega arith
 
-  confirms_fit : length (spelled (gpsk_peer.gpsk4_of (peer_login ends))) ≤ 1488
-  confirms_fit =
-      let size = spellings_are_sized (gpsk_peer.gpsk4_of (peer_login ends)) in
+  confirm_bounds : length (spelled (gpsk_peer.gpsk4_of (peer_login ends))) ≤ 1488
+  confirm_bounds =
+      let size = encodings_are_sized (gpsk_peer.gpsk4_of (peer_login ends)) in
       let mac : length (mac_of (gpsk_peer.gpsk4_of (peer_login ends))) ≡ ks_of ends.suite = length_gpsk_tag_of _ _ _ in
       let ks = ks-le ends.suite in
       omega arith
@@ -111,10 +111,10 @@ module _ (ends : Ends) (fit : Fit ends) where
 -- ---- the first Request
 
 module _ (made : Made) (short : IsShort made.setup) (id : ℕ) (begun : ServerViews) where
-  pub gpsk_fits : length (spelled (gpsk_server.gpsk1_of (side_of made.setup) made.setup.nonce)) ≤ 1488
+  pub gpsk_bounded : length (spelled (gpsk_server.gpsk1_of (side_of made.setup) made.setup.nonce)) ≤ 1488
   unfolding side_of
-  gpsk_fits =
-      let size = spellings_are_sized (gpsk_server.gpsk1_of (side_of made.setup) made.setup.nonce) in
+  gpsk_bounded =
+      let size = encodings_are_sized (gpsk_server.gpsk1_of (side_of made.setup) made.setup.nonce) in
       let list = length_suite_list made.setup.suites in
       let name = short.name in
       let nonce = short.nonce in
@@ -130,20 +130,20 @@ module _ (made : Made) (short : IsShort made.setup) (id : ℕ) (begun : ServerVi
 -- ---- the turns at both machines
 
 module _ (peer : PeerSetup) (made : Made) (user : User) (suite : Suite) (shares : Shares peer made.setup user suite) (id : ℕ) where
-  goes : GoesThrough (ends_of peer made.setup user suite) id (after_id id) (after_id (after_id id))
+  goes : IsSuccessful (ends_of peer made.setup user suite) id (after_id id) (after_id (after_id id))
   goes = gpsk_logins_go_through (ends_of peer made.setup user suite) id (after_id id) (after_id (after_id id)) (fits peer made.setup user suite shares)
 
   -- the peer's view of the method that it allows is fresh
   answered : (out : PeerOutcome gpsk_peer.View)
       → gpsk_peer.step (gpsk_peer.fresh (credential_for peer gpsk_kind) peer.nonce)
       (gpsk_request id (gpsk_server.gpsk1_of (side_of made.setup) made.setup.nonce)) ≡ out
-      → peer_turn gpsk_kind (views_begun peer) (gpsk_request id (gpsk_server.gpsk1_of (side_of made.setup) made.setup.nonce)) ≡ gpsk_turn (views_begun peer) out
-  unfolding peer_turn views_begun
+      → peer_turn gpsk_kind (views_started peer) (gpsk_request id (gpsk_server.gpsk1_of (side_of made.setup) made.setup.nonce)) ≡ gpsk_turn (views_started peer) out
+  unfolding peer_turn views_started
   answered out is =
-      ap (λ (view : gpsk_peer.View). gpsk_turn (views_begun peer) (gpsk_peer.step view
+      ap (λ (view : gpsk_peer.View). gpsk_turn (views_started peer) (gpsk_peer.step view
       (gpsk_request id (gpsk_server.gpsk1_of (side_of made.setup) made.setup.nonce))))
       (cond-true (is_among peer.methods gpsk_kind) _ _ shares.allowed)
-      ∙ ap (λ (found : PeerOutcome gpsk_peer.View). gpsk_turn (views_begun peer) found) is
+      ∙ ap (λ (found : PeerOutcome gpsk_peer.View). gpsk_turn (views_started peer) found) is
 
   confirmed : (views : PeerViews) (view : gpsk_peer.View) (octets : List ℕ) (out : PeerOutcome gpsk_peer.View) → views.gpsk ≡ view
       → gpsk_peer.step view octets ≡ out
@@ -157,19 +157,19 @@ module _ (peer : PeerSetup) (made : Made) (user : User) (suite : Suite) (shares 
       → server_turn made.setup.users next gpsk_kind views octets ≡ servers.gpsk_turn views out
   unfolding server_turn
   heard next views view octets out at is =
-      ap (λ (found : Option gpsk_server.View). gpsk_hears made.setup.users next views octets found) at
+      ap (λ (found : Option gpsk_server.View). gpsk_receives made.setup.users next views octets found) at
       ∙ ap (λ (found : ServerOutcome gpsk_server.View). servers.gpsk_turn views found) is
 
   -- what the server makes and accepts is under the peer's key
   pub gpsk_talks : (begun : ServerViews) (view : gpsk_server.View) → begun.gpsk ≡ Some view → Talks peer made gpsk_kind id begun
   gpsk_talks begun view is =
       let e : Ends = ends_of peer made.setup user suite in
-      let fit : Fit e = fits peer made.setup user suite shares in
+      let fit : Compatible e = fits peer made.setup user suite shares in
       let psk : List ℕ = (credential_for peer gpsk_kind).psk in
       let gpsk2 : Message = gpsk_peer.gpsk2_of (peer_login e) (suite_list e.own.suites) in
       let gpsk3 : Message = gpsk_server.gpsk3_of (server_login e) in
       let gpsk4 : Message = gpsk_peer.gpsk4_of (peer_login e) in
-      let waits : PeerViews = record (views_begun peer) { gpsk = gpsk_peer.wait (peer_login e) } in
+      let waits : PeerViews = record (views_started peer) { gpsk = gpsk_peer.wait (peer_login e) } in
       let asked : ServerViews = record begun { gpsk = Some (gpsk_server.asked (side_of made.setup) made.setup.nonce) } in
       let checked : ServerViews = record begun { gpsk = Some (gpsk_server.checked (server_login e)) } in
       record {
@@ -178,12 +178,12 @@ module _ (peer : PeerSetup) (made : Made) (user : User) (suite : Suite) (shares 
         answers = spelled gpsk2;
         checks = spelled gpsk3;
         confirms = spelled gpsk4;
-        asks_fits = gpsk_fits made shares.short id begun;
-        answers_fits = answers_fit e fit (own_suites peer made.setup user suite shares);
-        checks_fits = checks_fit e fit;
-        confirms_fits = confirms_fit e fit;
+        asks_bounded = gpsk_bounded made shares.short id begun;
+        answers_bounded = answer_bounds e fit (own_suites peer made.setup user suite shares);
+        checks_bounded = check_bounds e fit;
+        confirms_bounded = confirm_bounds e fit;
         waiting = waits;
-        over = record (views_begun peer) { gpsk = gpsk_peer.over (peer_login e) true };
+        over = record (views_started peer) { gpsk = gpsk_peer.over (peer_login e) true };
         asked = asked;
         checked = checked;
         finished = record begun { gpsk = Some (gpsk_server.over (server_login e) true) };

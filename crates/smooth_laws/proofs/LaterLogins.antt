@@ -8,15 +8,15 @@ use Rattle.server_machine.proofs.Restarting as servers
 use Rattle.eap_world.specs.Run.{run_of}
 use Rattle.world_laws.specs.Agreement.{IsWhole}
 use Rattle.tag_book.specs.Book.{tags_verdict}
-use Rattle.eap_world.specs.World.{WorldNow, run_after, world_made, world_start, world_step}
+use Rattle.eap_world.specs.World.{WorldNow, run_after, initial_world, world_start, world_step}
 use Rattle.eap_world.specs.declared.conversations.Waiting.{Waiting}
 use Rattle.world_laws.proofs.Conversing.{BothConverse, LeftSized, run_converses}
 use Rattle.smooth_laws.specs.Again.{IsLoggedInSince, SucceedsAgain}
-use Rattle.smooth_laws.specs.Restarts.{AreLoggedIn, HasBegunAnew, LoginsAfterRestartsSucceed, LoginsSucceed, are_new, first_login, next_login, with_nonces}
-use Rattle.smooth_laws.specs.Smooth.{EndsFit, HasShortNames}
+use Rattle.smooth_laws.specs.Restarts.{AreLoggedIn, HasRestarted, LoginsAfterRestartsSucceed, LoginsSucceed, are_new, first_login, next_login, with_nonces}
+use Rattle.smooth_laws.specs.Smooth.{EndsCompatible, HasShortNames}
 use Rattle.smooth_laws.proofs.Again.{first_fresh, smooth_logins_succeed_again}
 use Rattle.smooth_laws.proofs.SmoothRuns.{smooth_logins_succeed}
-use Rattle.smooth_laws.proofs.Restarts.{restarts_begin_anew}
+use Rattle.smooth_laws.proofs.Restarts.{restarts_start_anew}
 
 -- settings with other nonces are whole, have short names, and fit
 still_whole : (setup : Setup) (one two : List ℕ) → length one ≡ 32 → length two ≡ 32 → IsWhole setup → IsWhole (with_nonces setup one two)
@@ -33,8 +33,8 @@ still_whole setup one two one_size two_size whole = record {
 still_short : (setup : Setup) (one two : List ℕ) → HasShortNames setup → HasShortNames (with_nonces setup one two)
 still_short setup one two names = record { peer = names.peer; server = names.server }
 
-still_fit : (setup : Setup) (one two : List ℕ) → EndsFit setup → EndsFit (with_nonces setup one two)
-still_fit setup one two fit = record {
+still_compatible : (setup : Setup) (one two : List ℕ) → EndsCompatible setup → EndsCompatible (with_nonces setup one two)
+still_compatible setup one two fit = record {
   kind = fit.kind;
   common = fit.common;
   user = fit.user;
@@ -56,7 +56,7 @@ logins_after_restarts_succeed setup events restarts smooth whole names fit next 
     let two_size = (subst LeftSized next.server_left both.sized.server).0 in
     let again : SucceedsAgain (with_nonces setup one two) (run_after w restarts) smooth =
     smooth_logins_succeed_again (with_nonces setup one two) (run_after w restarts) smooth (still_whole setup one two one_size two_size whole)
-    (still_short setup one two names) (still_fit setup one two fit) (restarts_begin_anew setup events restarts whole next order).begun in_order enough in
+    (still_short setup one two names) (still_compatible setup one two fit) (restarts_start_anew setup events restarts whole next order).begun in_order enough in
     record { not_before = again.not_before; in_time = again.in_time; stays = again.stays }
 
 -- ---- one login after the other
@@ -68,7 +68,7 @@ joined w [] other = refl
 joined w (e ∷ rest) other = joined (world_step w e).after rest other
 
 -- a login after one that was honest, and none of whose deliveries was discarded
-logged_in : (setup : Setup) (one two : Waiting) (was : Bool) (before w after : WorldNow) → AreLoggedIn was before → HasBegunAnew setup one two before w
+logged_in : (setup : Setup) (one two : Waiting) (was : Bool) (before w after : WorldNow) → AreLoggedIn was before → HasRestarted setup one two before w
     → IsLoggedInSince w after → AreLoggedIn (was && are_new before.conversations.begun one two) after
 logged_in setup one two was before w after so anew is = record {
   last = record {
@@ -89,9 +89,9 @@ logins_succeed setup _ events whole names fit (first_login _ in_order enough) = 
 logins_succeed setup _ _ whole names fit (next_login fresh events restarts smooth before next anew in_order enough) =
     let w : WorldNow = run_after (run_of setup events) restarts in
     let all : run_of setup (events ++ (restarts ++ smooth)) ≡ run_after w smooth =
-    joined (world_start (world_made setup)).after events (restarts ++ smooth) ∙ joined (run_of setup events) restarts smooth in
+    joined (world_start (initial_world setup)).after events (restarts ++ smooth) ∙ joined (run_of setup events) restarts smooth in
     subst (AreLoggedIn (fresh && are_new (run_of setup events).conversations.begun next.peer next.server)) (sym all)
     (logged_in setup next.peer next.server fresh (run_of setup events) w (run_after w smooth)
     (logins_succeed setup fresh events whole names fit before)
-    (restarts_begin_anew setup events restarts whole next anew)
+    (restarts_start_anew setup events restarts whole next anew)
     (logins_after_restarts_succeed setup events restarts smooth whole names fit next anew in_order enough).stays)

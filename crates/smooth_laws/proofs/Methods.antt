@@ -18,14 +18,14 @@ use Rattle.eap_method.specs.GpskServer as gpsk_server
 use Rattle.eap_method.specs.Peer.{key_for}
 use Rattle.eap_method.specs.PskServer as psk_server
 use Rattle.eap_method.specs.PskTags.{rand_of}
-use Rattle.eap_method.specs.Server.{ServerViews, side_of, views_begun}
+use Rattle.eap_method.specs.Server.{ServerViews, side_of, views_started}
 use Rattle.world_laws.specs.Agreement.{IsWhole}
 use Rattle.smooth_laws.specs.Smooth.{HasShortNames}
 use Rattle.smooth_laws.proofs.Carried.{IsMethod}
 use Rattle.smooth_laws.proofs.Choosing.{either, few_of, few_suites, some_picked, some_suites}
-use Rattle.smooth_laws.proofs.GpskTalk.{gpsk_fits, gpsk_offered, gpsk_talks}
+use Rattle.smooth_laws.proofs.GpskTalk.{gpsk_bounded, gpsk_offered, gpsk_talks}
 use Rattle.smooth_laws.proofs.Opening.{made_in}
-use Rattle.smooth_laws.proofs.PskTalk.{psk_fits, psk_offered, psk_talks}
+use Rattle.smooth_laws.proofs.PskTalk.{psk_bounded, psk_offered, psk_talks}
 use Rattle.smooth_laws.proofs.ServerSide.{Made, IsOffer}
 use Rattle.smooth_laws.proofs.Talk.{IsShort, Talks}
 
@@ -47,32 +47,32 @@ pub record Offers (made : Made) (kind id : ℕ) (begun : ServerViews) : Type 0 w
   pub keeps : (other : ℕ) → Has begun other → Has asked other
 
 module _ (made : Made) (short : IsShort made.setup) (id : ℕ) (begun : ServerViews) where
-  keeps_gpsk : (left : gpsk_server.View) (other : ℕ) → Has begun other → Has (record begun { gpsk = Some left }) other
-  keeps_gpsk left other (psk view is) = psk view is
-  keeps_gpsk left other (gpsk view is) = gpsk left refl
+  preserves_gpsk : (left : gpsk_server.View) (other : ℕ) → Has begun other → Has (record begun { gpsk = Some left }) other
+  preserves_gpsk left other (psk view is) = psk view is
+  preserves_gpsk left other (gpsk view is) = gpsk left refl
 
-  keeps_psk : (left : psk_server.View) (other : ℕ) → Has begun other → Has (record begun { psk = Some left }) other
-  keeps_psk left other (psk view is) = psk left refl
-  keeps_psk left other (gpsk view is) = gpsk view is
+  preserves_psk : (left : psk_server.View) (other : ℕ) → Has begun other → Has (record begun { psk = Some left }) other
+  preserves_psk left other (psk view is) = psk left refl
+  preserves_psk left other (gpsk view is) = gpsk view is
 
   gpsk_offers : (view : gpsk_server.View) → begun.gpsk ≡ Some view → Offers made gpsk_kind id begun
   gpsk_offers view is = record {
     is_method = record { not_identity = refl; not_notification = refl; not_nak = refl; not_expanded = refl; has_plain = refl };
     asks = gpsk_messages.spelled (gpsk_server.gpsk1_of (side_of made.setup) made.setup.nonce);
-    fits = gpsk_fits made short id begun;
+    fits = gpsk_bounded made short id begun;
     asked = record begun { gpsk = Some (gpsk_server.asked (side_of made.setup) made.setup.nonce) };
     offered = gpsk_offered made short id begun view is;
-    keeps = keeps_gpsk (gpsk_server.asked (side_of made.setup) made.setup.nonce);
+    keeps = preserves_gpsk (gpsk_server.asked (side_of made.setup) made.setup.nonce);
   }
 
   psk_offers : (view : psk_server.View) → begun.psk ≡ Some view → Offers made psk_kind id begun
   psk_offers view is = record {
     is_method = record { not_identity = refl; not_notification = refl; not_nak = refl; not_expanded = refl; has_plain = refl };
     asks = psk_messages.spelled (psk_messages.psk1 (rand_of made.setup.nonce) (side_of made.setup).id_s);
-    fits = psk_fits made short id begun;
+    fits = psk_bounded made short id begun;
     asked = record begun { psk = Some (psk_server.asked (side_of made.setup) made.setup.nonce) };
     offered = psk_offered made short id begun view is;
-    keeps = keeps_psk (psk_server.asked (side_of made.setup) made.setup.nonce);
+    keeps = preserves_psk (psk_server.asked (side_of made.setup) made.setup.nonce);
   }
 
 -- each method of which the server has an object asks first
@@ -81,16 +81,16 @@ offers_of made short kind id begun (psk view is) = psk_offers made short id begu
 offers_of made short kind id begun (gpsk view is) = gpsk_offers made short id begun view is
 
 -- a server that begins has an object of each method of its order
-has_at : (setup : ServerSetup) (kind : ℕ) → (kind ≡ psk_kind) ⊎ (kind ≡ gpsk_kind) → is_among setup.methods kind ≡ true → Has (views_begun setup) kind
-unfolding views_begun
+has_at : (setup : ServerSetup) (kind : ℕ) → (kind ≡ psk_kind) ⊎ (kind ≡ gpsk_kind) → is_among setup.methods kind ≡ true → Has (views_started setup) kind
+unfolding views_started
 has_at setup kind (inl e) among =
-    subst (Has (views_begun setup)) (sym e)
+    subst (Has (views_started setup)) (sym e)
     (psk (psk_server.begun (side_of setup) setup.nonce) (cond-true (is_among setup.methods psk_kind) _ _ (ap (is_among setup.methods) (sym e) ∙ among)))
 has_at setup kind (inr e) among =
-    subst (Has (views_begun setup)) (sym e)
+    subst (Has (views_started setup)) (sym e)
     (gpsk (gpsk_server.begun (side_of setup) setup.nonce) (cond-true (is_among setup.methods gpsk_kind) _ _ (ap (is_among setup.methods) (sym e) ∙ among)))
 
-pub has_each : (setup : ServerSetup) (kind : ℕ) → is_kind kind ≡ true → is_among setup.methods kind ≡ true → Has (views_begun setup) kind
+pub has_each : (setup : ServerSetup) (kind : ℕ) → is_kind kind ≡ true → is_among setup.methods kind ≡ true → Has (views_started setup) kind
 has_each setup kind is among =
     has_at setup kind (either psk_kind gpsk_kind kind is) among
 

@@ -17,10 +17,10 @@ use Rattle.eap_method.specs.Tags.{no_tags}
 use Rattle.eap_method.specs.declared.tags.TagRecord.{TagRecord}
 use Rattle.peer_machine.specs.PeerTable as peers
 use Rattle.peer_machine.specs.PeerTable.{PeerNow, PeerAnswer}
-use Rattle.peer_machine.specs.Expanded.{peer_hears}
+use Rattle.peer_machine.specs.Expanded.{peer_receives}
 use Rattle.server_machine.specs.ServerTable as servers
 use Rattle.server_machine.specs.ServerTable.{ServerNow, ServerAnswer}
-use Rattle.server_machine.specs.Expanded.{server_hears}
+use Rattle.server_machine.specs.Expanded.{server_receives}
 use Rattle.pass_through.specs.Inputs as pass_inputs
 use Rattle.pass_through.specs.PassTable as passes
 use Rattle.pass_through.specs.PassTable.{PassAnswer, pass_from_peer, pass_from_backend}
@@ -30,10 +30,10 @@ use Rattle.eap_world.specs.Conversations.{Conversations}
 use Rattle.eap_world.specs.Judgement.{is_success}
 use Rattle.eap_world.specs.Sent.{Sent, packet_numbered}
 use Rattle.eap_world.specs.World.{WorldNow, Parties, Acted, Called, act_with, act, call_at, call_with, act_of_call, called_unless, did_by, did_pass, first_skip}
-use Rattle.eap_world.specs.World.{WorldOutcome, conversations_after, conversed_by, conversed_unless, goes_to, held_before, is_absent, octets_of, packet_skips, run_after, act_of_skip, world_step}
+use Rattle.eap_world.specs.World.{WorldOutcome, conversations_after, conversed_by, conversed_unless, port_to, reported_before, is_absent, octets_of, packet_skips, run_after, act_of_skip, world_step}
 use Rattle.tag_book.specs.declared.book.End.{End}
 use Rattle.tag_book.specs.declared.book.End.TheVariants as end
-use Rattle.tag_book.specs.declared.book.Makers.TheVariants.{Other}
+use Rattle.tag_book.specs.declared.book.MadeBy.TheVariants.{Other}
 use Rattle.eap_world.specs.declared.told.Skip.{Skip}
 use Rattle.eap_world.specs.declared.told.Skip.TheVariants.{NoParty, Unsent, Place}
 use Rattle.world_laws.proofs.Acting.{counted_acted}
@@ -72,28 +72,28 @@ abbrev pub delivered : WorldNow → ℕ → WorldNow
 delivered w number = (world_step w (Deliver number)).after
 
 -- a delivery begins no conversation
-at_port_begun : (event : ℕ) (all : Conversations) (to : Port) (octets : List ℕ) → (conversations_after event all (call_at to octets)).begun ≡ all.begun
-at_port_begun event all port.Peer octets = refl
-at_port_begun event all port.Server octets = refl
-at_port_begun event all port.PassPeer octets = refl
-at_port_begun event all port.PassServer octets = refl
+at_port_started : (event : ℕ) (all : Conversations) (to : Port) (octets : List ℕ) → (conversations_after event all (call_at to octets)).begun ≡ all.begun
+at_port_started event all port.Peer octets = refl
+at_port_started event all port.Server octets = refl
+at_port_started event all port.PassPeer octets = refl
+at_port_started event all port.PassServer octets = refl
 
-unless_begun : (event : ℕ) (all : Conversations) (skip : Option Skip) (packet : Option Sent) (octets : List ℕ)
+unless_started : (event : ℕ) (all : Conversations) (skip : Option Skip) (packet : Option Sent) (octets : List ℕ)
     → (conversed_unless event all skip (call_with packet octets)).begun ≡ all.begun
-unless_begun event all (Some skip) packet octets = refl
-unless_begun event all None None octets = refl
-unless_begun event all None (Some packet) octets = at_port_begun event all packet.port octets
+unless_started event all (Some skip) packet octets = refl
+unless_started event all None None octets = refl
+unless_started event all None (Some packet) octets = at_port_started event all packet.port octets
 
-delivered_begun : (w : WorldNow) (number : ℕ) → (delivered w number).conversations.begun ≡ w.conversations.begun
+delivered_started : (w : WorldNow) (number : ℕ) → (delivered w number).conversations.begun ≡ w.conversations.begun
 unfolding world_step conversed_by
-delivered_begun w number =
-    unless_begun (w.counts.events + 1) w.conversations (first_skip (packet_skips w.parties.mode (packet_numbered w.sent number) false))
+delivered_started w number =
+    unless_started (w.counts.events + 1) w.conversations (first_skip (packet_skips w.parties.mode (packet_numbered w.sent number) false))
     (packet_numbered w.sent number) (octets_of (packet_numbered w.sent number))
 
-pub all_begun : (w : WorldNow) (first count : ℕ) → (run_after w (deliveries first count)).conversations.begun ≡ w.conversations.begun
+pub all_started : (w : WorldNow) (first count : ℕ) → (run_after w (deliveries first count)).conversations.begun ≡ w.conversations.begun
 unfolding run_after deliveries
-all_begun w first zero = refl
-all_begun w first (suc count) = all_begun (delivered w first) (first + 1) count ∙ delivered_begun w first
+all_started w first zero = refl
+all_started w first (suc count) = all_started (delivered w first) (first + 1) count ∙ delivered_started w first
 
 last_numbered : (before : List Sent) (last : Sent) (number : ℕ) → length before + 1 ≡ number → packet_numbered (before ++ last ∷ []) number ≡ Some last
 last_numbered before last number count =
@@ -113,7 +113,7 @@ called_at w number packet is there =
 -- where the parties have done so
 abbrev delivered_as : WorldNow → ℕ → Acted → WorldOutcome
 delivered_as w number out =
-    counted_acted w (held_before w.held w.parties w.conversations w.sent (Deliver number))
+    counted_acted w (reported_before w.held w.parties w.conversations w.sent (Deliver number))
     (conversed_by (w.counts.events + 1) w.parties w.conversations w.sent (Deliver number)) out
 
 after_is : (w : WorldNow) (number : ℕ) (out : Acted) → act w.parties w.conversations w.sent (Deliver number) ≡ out
@@ -150,15 +150,15 @@ module _ (w : WorldNow) (runs : Mode) (number : ℕ) (p : PeerNow) (s : ServerNo
   -- the peer answers
   pub peer_moves : (x : List ℕ) (accepted : List TagRecord) → Stage w runs number p s v (packet_to port.Peer x) end.Peer accepted
       → (path : List State) (y : List ℕ) (made : List TagRecord) (after : PeerNow)
-      → peer_hears p x ≡ peers.answer (sends path y (record { accepted = accepted; made = made })) after
-      → Stage (delivered w number) runs (number + 1) after s v (packet_to (goes_to party.Peer runs) y) end.Server made
+      → peer_receives p x ≡ peers.answer (sends path y (record { accepted = accepted; made = made })) after
+      → Stage (delivered w number) runs (number + 1) after s v (packet_to (port_to party.Peer runs) y) end.Server made
   peer_moves x accepted stage path y made after takes =
       let step : Step = sends path y (record { accepted = accepted; made = made }) in
       let to : Parties = parties_at runs after s v in
       let out : Acted = act_with (Called (did_by runs party.Peer true step)) to in
       let book = stays_honest (w.counts.events + 1) end.Peer w.book accepted made stage.honest stage.vouched in
       let discards = stage.none_discarded in
-      subst (λ (now : WorldNow). Stage now runs (number + 1) after s v (packet_to (goes_to party.Peer runs) y) end.Server made)
+      subst (λ (now : WorldNow). Stage now runs (number + 1) after s v (packet_to (port_to party.Peer runs) y) end.Server made)
       (sym (handed (packet_to port.Peer x) end.Peer accepted stage (peer_there w.parties.mode) out
       (ap (λ (found : PeerAnswer). act_with (Called (did_by runs party.Peer true found.step)) (parties_at runs found.after s v)) takes)))
       (record {
@@ -174,15 +174,15 @@ module _ (w : WorldNow) (runs : Mode) (number : ℕ) (p : PeerNow) (s : ServerNo
   -- the server answers
   pub server_moves : (x : List ℕ) (accepted : List TagRecord) → Stage w runs number p s v (packet_to port.Server x) end.Server accepted
       → (path : List State) (y : List ℕ) (made : List TagRecord) (after : ServerNow)
-      → server_hears s x ≡ servers.answer (sends path y (record { accepted = accepted; made = made })) after
-      → Stage (delivered w number) runs (number + 1) p after v (packet_to (goes_to party.Server runs) y) end.Peer made
+      → server_receives s x ≡ servers.answer (sends path y (record { accepted = accepted; made = made })) after
+      → Stage (delivered w number) runs (number + 1) p after v (packet_to (port_to party.Server runs) y) end.Peer made
   server_moves x accepted stage path y made after takes =
       let step : Step = sends path y (record { accepted = accepted; made = made }) in
       let to : Parties = parties_at runs p after v in
       let out : Acted = act_with (Called (did_by runs party.Server true step)) to in
       let book = stays_honest (w.counts.events + 1) end.Server w.book accepted made stage.honest stage.vouched in
       let discards = stage.none_discarded in
-      subst (λ (now : WorldNow). Stage now runs (number + 1) p after v (packet_to (goes_to party.Server runs) y) end.Peer made)
+      subst (λ (now : WorldNow). Stage now runs (number + 1) p after v (packet_to (port_to party.Server runs) y) end.Peer made)
       (sym (handed (packet_to port.Server x) end.Server accepted stage (server_there w.parties.mode) out
       (ap (λ (found : ServerAnswer). act_with (Called (did_by runs party.Server true found.step)) (parties_at runs p found.after v)) takes)))
       (record {
@@ -198,7 +198,7 @@ module _ (w : WorldNow) (runs : Mode) (number : ℕ) (p : PeerNow) (s : ServerNo
   -- the peer takes the last packet and sends nothing
   pub peer_ends : (x : List ℕ) (accepted : List TagRecord) → Stage w runs number p s v (packet_to port.Peer x) end.Peer accepted
       → (path : List State) (after : PeerNow)
-      → peer_hears p x ≡ peers.answer (enters path no_tags) after
+      → peer_receives p x ≡ peers.answer (enters path no_tags) after
       → is_success after.vars.state ≡ true → is_success s.vars.state ≡ true
       → BothIn (delivered w number) number
   peer_ends x accepted stage path after takes peer_in server_in =
@@ -224,11 +224,11 @@ module _ (w : WorldNow) (number : ℕ) (p : PeerNow) (s : ServerNow) (v : PassVa
       → is_absent w.parties.mode last.port ≡ false
   through_there last accepts tags stage = ap (λ (parties : Parties). is_absent parties.mode last.port) stage.parties
 
-  pub hands_to_server : (x : List ℕ) (accepts : End) (tags : List TagRecord) → Stage w mode.Through number p s v (packet_to port.PassPeer x) accepts tags
+  pub passes_to_server : (x : List ℕ) (accepts : End) (tags : List TagRecord) → Stage w mode.Through number p s v (packet_to port.PassPeer x) accepts tags
       → (path : List State) (y : List ℕ) (after : PassVariables)
       → pass_from_peer v x ≡ passes.answer (passes.passes_on path y) after
       → Stage (delivered w number) mode.Through (number + 1) p s after (packet_to port.Server y) accepts tags
-  hands_to_server x accepts tags stage path y after takes =
+  passes_to_server x accepts tags stage path y after takes =
       let out : Acted = act_with (Called (did_pass (pass_inputs.from_peer x) (passes.passes_on path y))) (parties_at mode.Through p s after) in
       let discards = stage.none_discarded in
       subst (λ (now : WorldNow). Stage now mode.Through (number + 1) p s after (packet_to port.Server y) accepts tags)
@@ -244,11 +244,11 @@ module _ (w : WorldNow) (number : ℕ) (p : PeerNow) (s : ServerNow) (v : PassVa
         vouched = rw (append-nil w.book) stage.vouched;
       })
 
-  pub hands_to_peer : (x : List ℕ) (accepts : End) (tags : List TagRecord) → Stage w mode.Through number p s v (packet_to port.PassServer x) accepts tags
+  pub passes_to_peer : (x : List ℕ) (accepts : End) (tags : List TagRecord) → Stage w mode.Through number p s v (packet_to port.PassServer x) accepts tags
       → (path : List State) (y : List ℕ) (after : PassVariables)
       → pass_from_backend v x ≡ passes.answer (passes.asks path y) after
       → Stage (delivered w number) mode.Through (number + 1) p s after (packet_to port.Peer y) accepts tags
-  hands_to_peer x accepts tags stage path y after takes =
+  passes_to_peer x accepts tags stage path y after takes =
       let out : Acted = act_with (Called (did_pass (pass_inputs.from_backend x) (passes.asks path y))) (parties_at mode.Through p s after) in
       let discards = stage.none_discarded in
       subst (λ (now : WorldNow). Stage now mode.Through (number + 1) p s after (packet_to port.Peer y) accepts tags)
@@ -268,9 +268,9 @@ module _ (w : WorldNow) (number : ℕ) (p : PeerNow) (s : ServerNow) (v : PassVa
 -- ---- further deliveries
 
 -- a packet that wasn't sent isn't delivered
-kept_unsent : (w : WorldNow) (number later : ℕ) → BothIn w number → number < later → BothIn (delivered w later) number
+preserved_unsent : (w : WorldNow) (number later : ℕ) → BothIn w number → number < later → BothIn (delivered w later) number
 unfolding act
-kept_unsent w number later both past =
+preserved_unsent w number later both past =
     let count = both.count in
     let discards = both.none_discarded in
     let none : packet_numbered w.sent later ≡ None =
@@ -290,4 +290,4 @@ kept_unsent w number later both past =
 pub stay_in : (w : WorldNow) (number first count : ℕ) → BothIn w number → number < first → BothIn (run_after w (deliveries first count)) number
 unfolding run_after deliveries
 stay_in w number first zero both past = both
-stay_in w number first (suc count) both past = stay_in (delivered w first) number (first + 1) count (kept_unsent w number first both past) (omega arith)
+stay_in w number first (suc count) both past = stay_in (delivered w first) number (first + 1) count (preserved_unsent w number first both past) (omega arith)

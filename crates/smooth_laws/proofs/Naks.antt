@@ -90,7 +90,7 @@ nak_whole true id methods = response_whole id expanded_kind (ietf ++ 3 ∷ nak_e
 pub is_nak : (methods : List ℕ) → is_nak_body (nak_body true methods) ≡ true
 is_nak methods = and_from _ _ (of_ietf 3 (nak_entries (nak_of methods))) refl
 
-pub entries_taken : (methods : List ℕ) → ReadsBack methods → is_bad_body false (nak_body true methods) ≡ false
-entries_taken methods is =
+pub entries_consumed : (methods : List ℕ) → ReadsBack methods → is_bad_body false (nak_body true methods) ≡ false
+entries_consumed methods is =
     or_none (nat_lt (length (nak_body true methods)) 7) _ (not_under 3 (nak_entries (nak_of methods)))
     (and_right (is_nak_body (nak_body true methods)) _ (ap not is.entries))

@@ -11,19 +11,19 @@ use Rattle.eap_packet.specs.Packet.{request, response, spelled}
 use Rattle.eap_packet.specs.Fault.{packet_of}
 use Rattle.eap_packet.specs.declared.state.State.TheVariants as state
 use Rattle.login_policy.specs.Policy.{next_kind, nak_of}
-use Rattle.eap_method.specs.Server.{ServerViews, views_begun}
-use Rattle.peer_machine.specs.PeerTable.{PeerNow, peer_made, identity_response}
-use Rattle.server_machine.specs.ServerTable.{ServerNow, server_made, identity_request, server_start}
+use Rattle.eap_method.specs.Server.{ServerViews, views_started}
+use Rattle.peer_machine.specs.PeerTable.{PeerNow, initial_peer, identity_response}
+use Rattle.server_machine.specs.ServerTable.{ServerNow, initial_server, identity_request, server_start}
 use Rattle.server_machine.specs.declared.variables.Progress.TheVariants as progress
 use Rattle.server_machine.specs.declared.variables.Role.TheVariants as role
-use Rattle.pass_through.specs.PassTable.{pass_made, pass_start}
+use Rattle.pass_through.specs.PassTable.{initial_pass, pass_start}
 use Rattle.pass_through.specs.declared.variables.PassVariables.{PassVariables}
 use Rattle.tag_book.specs.Book.{first_broken}
-use Rattle.eap_world.specs.World.{WorldNow, role_in, world_made, world_start}
+use Rattle.eap_world.specs.World.{WorldNow, role_in, initial_world, world_start}
 use Rattle.tag_book.specs.declared.book.End.TheVariants as end
 use Rattle.smooth_laws.proofs.Carried.{IsMethod, carried, kind_as, body_as, asks_read, request_carried_whole}
 use Rattle.smooth_laws.proofs.Exchange.{ToPeer, ToServer, alone, in_idle2, exchanged, number_after, peer_turns, server_turns}
-use Rattle.smooth_laws.proofs.Moves.{Stage, delivered, packet_to, peer_moves, server_moves, hands_to_server, hands_to_peer}
+use Rattle.smooth_laws.proofs.Moves.{Stage, delivered, packet_to, peer_moves, server_moves, passes_to_server, passes_to_peer}
 use Rattle.smooth_laws.proofs.Naks.{ReadsBack, nak_as, nak_kind, nak_body, nak_read, nak_whole}
 use Rattle.smooth_laws.proofs.Packets.{request_read, response_read, response_whole}
 use Rattle.smooth_laws.proofs.PassSide as passes
@@ -42,7 +42,7 @@ made_in runs setup = record { role = role_in runs; setup = setup.server; first_i
 
 -- the world after the start
 abbrev pub started : Mode → Setup → WorldNow
-started runs setup = (world_start (world_made (in_mode runs setup))).after
+started runs setup = (world_start (initial_world (in_mode runs setup))).after
 
 -- the world after the Identity round, and the number of the packet that is then the last
 abbrev pub opened : Mode → WorldNow → WorldNow
@@ -55,14 +55,14 @@ number_opened mode.Through = 5
 
 module _ (setup : Setup) where
   -- the one who asks for the identity has started
-  starts_alone : Stage (started mode.Alone setup) mode.Alone 1 (peer_made setup.peer)
-      (server_at (made_in mode.Alone setup) setup.first_id 1 progress.Continue (identity_request setup.first_id) [] (views_begun setup.server))
-      (pass_made setup.first_id setup.max_retrans) (packet_to port.Peer (identity_request setup.first_id)) end.Peer []
+  starts_alone : Stage (started mode.Alone setup) mode.Alone 1 (initial_peer setup.peer)
+      (server_at (made_in mode.Alone setup) setup.first_id 1 progress.Continue (identity_request setup.first_id) [] (views_started setup.server))
+      (initial_pass setup.first_id setup.max_retrans) (packet_to port.Peer (identity_request setup.first_id)) end.Peer []
   unfolding world_start server_start first_broken
   starts_alone = record { parties = refl; before = []; sent = refl; count = refl; none_discarded = refl; honest = refl; vouched = refl }
 
-  starts_through : Stage (started mode.Through setup) mode.Through 1 (peer_made setup.peer)
-      (server_made role.Backend setup.server setup.first_id setup.max_retrans)
+  starts_through : Stage (started mode.Through setup) mode.Through 1 (initial_peer setup.peer)
+      (initial_server role.Backend setup.server setup.first_id setup.max_retrans)
       (pass_at setup.first_id setup.max_retrans state.Idle setup.first_id (identity_request setup.first_id))
       (packet_to port.Peer (identity_request setup.first_id)) end.Peer []
   unfolding world_start pass_start first_broken
@@ -78,7 +78,7 @@ module _ (setup : Setup) where
   pub opens : (runs : Mode) (form : Bool) → setup.server.expanded ≡ form → (kind : ℕ) (asks : List ℕ) (asked : ServerViews)
       → length setup.peer.name ≤ 253 → IsMethod kind → length asks ≤ 1488
       → next_kind setup.server.methods [] None ≡ Some kind
-      → IsOffer (made_in runs setup) kind (after_id setup.first_id) (views_begun setup.server) (spelled (request (after_id setup.first_id) kind asks)) asked
+      → IsOffer (made_in runs setup) kind (after_id setup.first_id) (views_started setup.server) (spelled (request (after_id setup.first_id) kind asks)) asked
       → ToPeer (opened runs (started runs setup)) runs (number_opened runs) (after_id setup.first_id)
       (peer_unbound setup.peer setup.first_id (identity_response setup.first_id setup.peer.name))
       (server_at (made_in runs setup) (after_id setup.first_id) kind progress.Proposed (carried form (spelled (request (after_id setup.first_id) kind asks)))
@@ -87,18 +87,18 @@ module _ (setup : Setup) where
   opens mode.Alone form writes kind asks asked short m fits chosen offered =
       let w : WorldNow = started mode.Alone setup in
       let id : ℕ = setup.first_id in
-      let pass : PassVariables = pass_made id setup.max_retrans in
+      let pass : PassVariables = initial_pass id setup.max_retrans in
       let name : List ℕ = identity_response id setup.peer.name in
       let p : PeerNow = peer_unbound setup.peer id name in
       let offer : List ℕ = carried form (spelled (request (after_id id) kind asks)) in
-      let s : ServerNow = server_at (made_in mode.Alone setup) id 1 progress.Continue (identity_request id) [] (views_begun setup.server) in
-      let named = peer_moves w mode.Alone 1 (peer_made setup.peer) s pass (identity_request id) [] starts_alone _ name [] p
-      (peers.hears_asked setup.peer (identity_request id) id identity_read) in
+      let s : ServerNow = server_at (made_in mode.Alone setup) id 1 progress.Continue (identity_request id) [] (views_started setup.server) in
+      let named = peer_moves w mode.Alone 1 (initial_peer setup.peer) s pass (identity_request id) [] starts_alone _ name [] p
+      (peers.receives_asked setup.peer (identity_request id) id identity_read) in
       record {
         pass = pass;
         awaits = alone pass;
         stage = server_moves (delivered w 1) mode.Alone 2 p s pass name [] named _ offer [] _
-            (servers.hears_named (made_in mode.Alone setup) form writes name id kind setup.peer.name (identity_request id) (views_begun setup.server) asked asks
+            (servers.receives_named (made_in mode.Alone setup) form writes name id kind setup.peer.name (identity_request id) (views_started setup.server) asked asks
             (name_read short) chosen offered);
       }
   opens mode.Through form writes kind asks asked short m fits chosen offered =
@@ -109,21 +109,21 @@ module _ (setup : Setup) where
       let name : List ℕ = identity_response id setup.peer.name in
       let p : PeerNow = peer_unbound setup.peer id name in
       let offer : List ℕ = carried form (spelled (request (after_id id) kind asks)) in
-      let s_1 : ServerNow = server_made role.Backend setup.server id most in
+      let s_1 : ServerNow = initial_server role.Backend setup.server id most in
       let s_2 : ServerNow = server_at (made_in mode.Through setup) (after_id id) kind progress.Proposed offer (kind ∷ []) asked in
       let v_1 : PassVariables = pass_at id most state.Idle id asked_id in
       let v_2 : PassVariables = pass_at id most state.AaaIdle id asked_id in
-      let named = peer_moves w mode.Through 1 (peer_made setup.peer) s_1 v_1 asked_id [] starts_through _ name [] p
-      (peers.hears_asked setup.peer asked_id id identity_read) in
-      let handed = hands_to_server (delivered w 1) 2 p s_1 v_1 name end.Server [] named _ name v_2
-      (passes.hands_identity id most name id setup.peer.name asked_id (name_read short) (response_whole id 1 setup.peer.name)) in
+      let named = peer_moves w mode.Through 1 (initial_peer setup.peer) s_1 v_1 asked_id [] starts_through _ name [] p
+      (peers.receives_asked setup.peer asked_id id identity_read) in
+      let handed = passes_to_server (delivered w 1) 2 p s_1 v_1 name end.Server [] named _ name v_2
+      (passes.passes_identity id most name id setup.peer.name asked_id (name_read short) (response_whole id 1 setup.peer.name)) in
       let picked = server_moves (delivered (delivered w 1) 2) mode.Through 3 p s_1 v_2 name [] handed _ offer [] s_2
       (servers.picks_up_as form setup.server writes id most name id kind setup.peer.name asked asks (name_read short) chosen offered) in
       record {
         pass = pass_at id most state.Idle2 (after_id id) offer;
         awaits = in_idle2 id most offer;
-        stage = hands_to_peer (delivered (delivered (delivered w 1) 2) 3) 4 p s_2 v_2 offer end.Peer [] picked _ offer _
-            (passes.hands_request id most offer (after_id id) (kind_as form kind) (body_as form kind asks) id asked_id
+        stage = passes_to_peer (delivered (delivered (delivered w 1) 2) 3) 4 p s_2 v_2 offer end.Peer [] picked _ offer _
+            (passes.passes_request id most offer (after_id id) (kind_as form kind) (body_as form kind asks) id asked_id
             (asks_read form (after_id id) kind asks m fits) (request_carried_whole form (after_id id) kind asks));
       }
 
@@ -154,4 +154,4 @@ proposes_next peer made runs form w number id refused kind last asks said next_a
     (peers.refuses_as peer form reads id refused asks last said r fits new barred) in
     server_turns runs (exchanged runs w number) (number_after runs number) (after_id id) (kind_as form kind) p s nak [] heard _ next (body_as form kind next_asks) [] _
     (asks_read form (after_id id) kind next_asks m next_fits) (request_carried_whole form (after_id id) kind next_asks)
-    (servers.hears_nak_as made form writes id refused kind peer.methods asks views asked next_asks back chosen offered)
+    (servers.receives_nak_as made form writes id refused kind peer.methods asks views asked next_asks back chosen offered)

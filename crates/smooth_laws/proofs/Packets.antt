@@ -3,13 +3,13 @@ use Rattle.std.proofs.Common.{◌≡◌, ◌≢◌, ℕ, ◌-◌, ◌<◌, ◌�
 use Rattle.std.proofs.lemmas.List.{take_all}
 use Rattle.eap_packet.specs.Packet.{request, response, success, spelled, frame_of}
 use Rattle.eap_packet.specs.Fault.{length_of, packet_of, fault}
-use Rattle.eap_packet.proofs.Faults.{Begins}
-use Rattle.eap_packet.proofs.Spelling.{read_if_begins}
+use Rattle.eap_packet.proofs.Faults.{StartsAt}
+use Rattle.eap_packet.proofs.IsEncodingOf.{read_if_starts}
 use Rattle.pass_through.specs.PassTable.{without_padding}
 
-begins_typed : (code id kind : ℕ) (body : List ℕ) → 1 ≤ code → code ≤ 2 → length body ≤ 1495 →
-    (code ≡ 1 → kind ≢ 3) → (code ≡ 2 → kind ≡ 3 → 0 < length body) → Begins (frame_of code id (kind ∷ body))
-begins_typed code id kind body low high size no_nak desires =
+starts_typed : (code id kind : ℕ) (body : List ℕ) → 1 ≤ code → code ≤ 2 → length body ≤ 1495 →
+    (code ≡ 1 → kind ≢ 3) → (code ≡ 2 → kind ≡ 3 → 0 < length body) → StartsAt (frame_of code id (kind ∷ body))
+starts_typed code id kind body low high size no_nak desires =
     record {
       four = omega arith;
       low = low;
@@ -30,7 +30,7 @@ body_typed code id kind body = take_all _ body (omega arith)
 pub request_read : (id kind : ℕ) (body : List ℕ) → length body ≤ 1495 → kind ≢ 3 → packet_of (spelled (request id kind body)) ≡ Ok (request id kind body)
 unfolding spelled
 request_read id kind body size no_nak =
-    read_if_begins (frame_of 1 id (kind ∷ body)) (begins_typed 1 id kind body (omega arith) (omega arith) size (λ _. no_nak) (λ h. absurd (omega arith)))
+    read_if_starts (frame_of 1 id (kind ∷ body)) (starts_typed 1 id kind body (omega arith) (omega arith) size (λ _. no_nak) (λ h. absurd (omega arith)))
     ∙ ap (λ octets. Ok (request id kind octets)) (body_typed 1 id kind body)
 
 -- a Response; a Nak desires some method
@@ -38,7 +38,7 @@ pub response_read : (id kind : ℕ) (body : List ℕ) → length body ≤ 1495 �
     → packet_of (spelled (response id kind body)) ≡ Ok (response id kind body)
 unfolding spelled
 response_read id kind body size desires =
-    read_if_begins (frame_of 2 id (kind ∷ body)) (begins_typed 2 id kind body (omega arith) (omega arith) size (λ h. absurd (omega arith)) (λ _. desires))
+    read_if_starts (frame_of 2 id (kind ∷ body)) (starts_typed 2 id kind body (omega arith) (omega arith) size (λ h. absurd (omega arith)) (λ _. desires))
     ∙ ap (λ octets. Ok (response id kind octets)) (body_typed 2 id kind body)
 
 pub success_read : (id : ℕ) → packet_of (spelled (success id)) ≡ Ok (success id)

@@ -10,8 +10,8 @@ use Rattle.eap_method.specs.Tags.{Tags}
 use Rattle.tag_book.specs.Book.{entries_of}
 use Rattle.tag_book.specs.declared.book.End.{End}
 use Rattle.tag_book.specs.declared.book.End.TheVariants as end
-use Rattle.eap_world.specs.declared.conversations.Begun.{Begun}
-use Rattle.world_laws.proofs.ServerKeeps.{server_tags_none}
+use Rattle.eap_world.specs.declared.conversations.ConversationStart.{ConversationStart}
+use Rattle.world_laws.proofs.ServerPreserves.{server_tags_none}
 use Rattle.login_setup.specs.declared.event.Event.{Event}
 use Rattle.login_setup.specs.declared.event.Event.TheVariants.{Restart}
 use Rattle.login_setup.specs.declared.setup.Mode.{Mode}
@@ -24,19 +24,19 @@ use Rattle.login_setup.specs.declared.setup.ServerSetup.{ServerSetup}
 use Rattle.login_setup.specs.declared.setup.Setup.{Setup}
 use Rattle.peer_machine.specs.Inputs as peer_inputs
 use Rattle.peer_machine.specs.PeerTable as peers
-use Rattle.peer_machine.specs.PeerTable.{peer_made, peer_restart}
+use Rattle.peer_machine.specs.PeerTable.{initial_peer, peer_restart}
 use Rattle.server_machine.specs.Inputs as server_inputs
 use Rattle.server_machine.specs.ServerTable as servers
-use Rattle.server_machine.specs.ServerTable.{ServerNow, ServerAnswer, identity_request, is_backend, server_made, server_restart, server_start}
+use Rattle.server_machine.specs.ServerTable.{ServerNow, ServerAnswer, identity_request, is_backend, initial_server, server_restart, server_start}
 use Rattle.server_machine.specs.declared.variables.Role.{Role}
 use Rattle.server_machine.specs.declared.variables.Role.TheVariants as role
 use Rattle.pass_through.specs.Inputs as pass_inputs
-use Rattle.pass_through.specs.PassTable.{pass_made, pass_restart, pass_start}
+use Rattle.pass_through.specs.PassTable.{initial_pass, pass_restart, pass_start}
 use Rattle.pass_through.specs.declared.variables.PassVariables.{PassVariables}
 use Rattle.eap_world.specs.Run.{run_of}
-use Rattle.eap_world.specs.Conversations.{Conversations, begins, beginning, front, is_new, is_used, peer_begins, server_begins}
+use Rattle.eap_world.specs.Conversations.{Conversations, begins, beginning, front, is_new, is_used, peer_initiates, server_initiates}
 use Rattle.eap_world.specs.Sent.{Sent}
-use Rattle.eap_world.specs.World.{Acted, Parties, WorldNow, act, booked_by, called_unless, conversed_by, conversed_unless, first_skip, goes_to, has_none, next_call, run_after}
+use Rattle.eap_world.specs.World.{Acted, Parties, WorldNow, act, booked_by, called_unless, conversed_by, conversed_unless, first_skip, port_to, has_none, next_call, run_after}
 use Rattle.eap_world.specs.World.{counts_after, is_alone, one_if, sent_by, sent_to, to_pass, to_peer, to_server, world_start, world_step}
 use Rattle.eap_world.specs.declared.conversations.Waiting.{Waiting}
 use Rattle.eap_world.specs.declared.told.Skip.{Skip}
@@ -45,12 +45,12 @@ use Rattle.world_laws.proofs.Conversing.{BothConverse, run_converses}
 use Rattle.smooth_laws.proofs.Moves.{packet_to, parties_at}
 use Rattle.smooth_laws.proofs.Opening.{in_mode}
 use Rattle.smooth_laws.proofs.Settings.{AreSet, IsIdle, restart-same, run_is_set, run_is_idle}
-use Rattle.smooth_laws.specs.Restarts.{BeginAnew, HasBegunAnew, RestartsBeginAnew, are_new}
+use Rattle.smooth_laws.specs.Restarts.{StartAnew, HasRestarted, RestartsStartAnew, are_new}
 use Rattle.smooth_laws.specs.Restarts.{peer_server, server_peer, peer_server_pass, peer_pass_server, server_peer_pass, server_pass_peer, pass_peer_server, pass_server_peer}
 
 -- what the restart of each party makes of them
 abbrev peer_anew : List ℕ → Parties → Parties
-peer_anew nonce p = record p { peer = peer_made (peers.own_nonce p.peer.vars.setup nonce) }
+peer_anew nonce p = record p { peer = initial_peer (peers.setup_with_nonce p.peer.vars.setup nonce) }
 
 abbrev server_anew : List ℕ → Parties → Parties
 server_anew nonce p = record p { server = (server_restart p.server nonce).after }
@@ -83,29 +83,29 @@ asks id = packet_to port.Peer (identity_request id) ∷ []
 
 -- ---- one party
 
-peer_begins_keeps : (event : ℕ) (all : Conversations) (left : List Waiting) → (peer_begins event all left).server_left ≡ all.server_left
-peer_begins_keeps event all [] = refl
-peer_begins_keeps event all (one ∷ left) = refl
+peer_starts_preserves : (event : ℕ) (all : Conversations) (left : List Waiting) → (peer_initiates event all left).server_left ≡ all.server_left
+peer_starts_preserves event all [] = refl
+peer_starts_preserves event all (one ∷ left) = refl
 
-server_begins_keeps : (event : ℕ) (all : Conversations) (left : List Waiting) → (server_begins event all left).peer_left ≡ all.peer_left
-server_begins_keeps event all [] = refl
-server_begins_keeps event all (one ∷ left) = refl
+server_starts_preserves : (event : ℕ) (all : Conversations) (left : List Waiting) → (server_initiates event all left).peer_left ≡ all.peer_left
+server_starts_preserves event all [] = refl
+server_starts_preserves event all (one ∷ left) = refl
 
-peer_keeps_by : (event : ℕ) (all : Conversations) (left : List Waiting)
+peer_preserves_by : (event : ℕ) (all : Conversations) (left : List Waiting)
     → (conversed_unless event all (first_skip ((has_none left, NoNonce) ∷ [])) (next_call (λ nonce. to_peer (peer_inputs.restart nonce)) left)).server_left
     ≡ all.server_left
-peer_keeps_by event all [] = refl
-peer_keeps_by event all (one ∷ left) = peer_begins_keeps event all all.peer_left
+peer_preserves_by event all [] = refl
+peer_preserves_by event all (one ∷ left) = peer_starts_preserves event all all.peer_left
 
-server_keeps_by : (event : ℕ) (all : Conversations) (left : List Waiting)
+server_preserves_by : (event : ℕ) (all : Conversations) (left : List Waiting)
     → (conversed_unless event all (first_skip ((has_none left, NoNonce) ∷ [])) (next_call (λ nonce. to_server (server_inputs.restart nonce)) left)).peer_left
     ≡ all.peer_left
-server_keeps_by event all [] = refl
-server_keeps_by event all (one ∷ left) = server_begins_keeps event all all.server_left
+server_preserves_by event all [] = refl
+server_preserves_by event all (one ∷ left) = server_starts_preserves event all all.server_left
 
-pass_keeps_by : (event : ℕ) (all : Conversations) (skip : Option Skip) → conversed_unless event all skip (Some (to_pass pass_inputs.restart)) ≡ all
-pass_keeps_by event all None = refl
-pass_keeps_by event all (Some skip) = refl
+pass_preserves_by : (event : ℕ) (all : Conversations) (skip : Option Skip) → conversed_unless event all skip (Some (to_pass pass_inputs.restart)) ≡ all
+pass_preserves_by event all None = refl
+pass_preserves_by event all (Some skip) = refl
 
 -- a stand-alone server asks for the identity, and a backend sends nothing
 alone_sends : (now : ServerNow) (nonce : List ℕ) (id : ℕ) → now.vars.role ≡ role.StandAlone → now.vars.first_id ≡ id
@@ -143,13 +143,13 @@ module _ (w : WorldNow) where
 
   server_renews : (one : Waiting) (left : List Waiting) (runs : Mode) (sent : Option (List ℕ)) → w.conversations.server_left ≡ one ∷ left
       → w.parties.mode ≡ runs → (server_restart w.parties.server one.nonce).step.sent ≡ sent
-      → Renews w (after w party.Server) (server_anew one.nonce) (sent_to (goes_to party.Server runs) sent)
+      → Renews w (after w party.Server) (server_anew one.nonce) (sent_to (port_to party.Server runs) sent)
   unfolding world_step act
   server_renews one left runs sent is runs_so sends = record {
     parties = ap (λ (all : List Waiting). (server_acts all).after) is;
     sent = ap (λ (all : List Waiting). w.sent ++ sent_by (server_acts all).action) is
-        ∙ ap (λ (m : Mode). w.sent ++ sent_to (goes_to party.Server m) (server_restart w.parties.server one.nonce).step.sent) runs_so
-        ∙ ap (λ (octets : Option (List ℕ)). w.sent ++ sent_to (goes_to party.Server runs) octets) sends;
+        ∙ ap (λ (m : Mode). w.sent ++ sent_to (port_to party.Server m) (server_restart w.parties.server one.nonce).step.sent) runs_so
+        ∙ ap (λ (octets : Option (List ℕ)). w.sent ++ sent_to (port_to party.Server runs) octets) sends;
     book = ap (λ (all : List Waiting). w.book ++ booked_by (w.counts.events + 1) (server_acts all).action) is
         ∙ ap (λ (tags : Tags). w.book ++ entries_of (w.counts.events + 1) end.Server tags) (server_tags_none w.parties.server one.nonce)
         ∙ append-nil w.book;
@@ -167,17 +167,17 @@ module _ (w : WorldNow) where
     discards = ap (λ (m : Mode). (counts_after w.counts (pass_acts m).action).discards) runs_so ∙ (omega arith);
   }
 
-  peer_keeps : (after w party.Peer).conversations.server_left ≡ w.conversations.server_left
+  peer_preserves : (after w party.Peer).conversations.server_left ≡ w.conversations.server_left
   unfolding world_step conversed_by
-  peer_keeps = peer_keeps_by (w.counts.events + 1) w.conversations w.conversations.peer_left
+  peer_preserves = peer_preserves_by (w.counts.events + 1) w.conversations w.conversations.peer_left
 
-  server_keeps : (after w party.Server).conversations.peer_left ≡ w.conversations.peer_left
+  server_preserves : (after w party.Server).conversations.peer_left ≡ w.conversations.peer_left
   unfolding world_step conversed_by
-  server_keeps = server_keeps_by (w.counts.events + 1) w.conversations w.conversations.server_left
+  server_preserves = server_preserves_by (w.counts.events + 1) w.conversations w.conversations.server_left
 
-  pass_keeps : (after w party.Pass).conversations ≡ w.conversations
+  pass_preserves : (after w party.Pass).conversations ≡ w.conversations
   unfolding world_step conversed_by
-  pass_keeps = pass_keeps_by (w.counts.events + 1) w.conversations (first_skip ((is_alone w.parties.mode, NoParty) ∷ []))
+  pass_preserves = pass_preserves_by (w.counts.events + 1) w.conversations (first_skip ((is_alone w.parties.mode, NoParty) ∷ []))
 
 -- ---- what it makes of freshness
 
@@ -192,26 +192,26 @@ record IsServers (before after : Conversations) (one : Waiting) : Type 0 where
   left : List Waiting
   is : after ≡ begins event end.Server one (record before { server_left = left })
 
-peers_begin : (w : WorldNow) (one : Waiting) (left : List Waiting) → w.conversations.peer_left ≡ one ∷ left
+peers_start : (w : WorldNow) (one : Waiting) (left : List Waiting) → w.conversations.peer_left ≡ one ∷ left
     → IsPeers w.conversations (after w party.Peer).conversations one
 unfolding world_step conversed_by
-peers_begin w one left is = record {
+peers_start w one left is = record {
   event = w.counts.events + 1;
   left = left;
   is = ap (λ (all : List Waiting). conversed_unless (w.counts.events + 1) w.conversations (first_skip ((has_none all, NoNonce) ∷ []))
       (next_call (λ nonce. to_peer (peer_inputs.restart nonce)) all)) is
-      ∙ ap (λ (all : List Waiting). peer_begins (w.counts.events + 1) w.conversations all) is;
+      ∙ ap (λ (all : List Waiting). peer_initiates (w.counts.events + 1) w.conversations all) is;
 }
 
-servers_begin : (w : WorldNow) (one : Waiting) (left : List Waiting) → w.conversations.server_left ≡ one ∷ left
+servers_start : (w : WorldNow) (one : Waiting) (left : List Waiting) → w.conversations.server_left ≡ one ∷ left
     → IsServers w.conversations (after w party.Server).conversations one
 unfolding world_step conversed_by
-servers_begin w one left is = record {
+servers_start w one left is = record {
   event = w.counts.events + 1;
   left = left;
   is = ap (λ (all : List Waiting). conversed_unless (w.counts.events + 1) w.conversations (first_skip ((has_none all, NoNonce) ∷ []))
       (next_call (λ nonce. to_server (server_inputs.restart nonce)) all)) is
-      ∙ ap (λ (all : List Waiting). server_begins (w.counts.events + 1) w.conversations all) is;
+      ∙ ap (λ (all : List Waiting). server_initiates (w.counts.events + 1) w.conversations all) is;
 }
 
 -- the first of two nonces is new, and the second is new after it
@@ -247,7 +247,7 @@ new_after : (event : ℕ) (of : End) (all : Conversations) (left : Bool) (one tw
     ≡ (left && (not two.heard && not (is_used all.begun two.nonce || (bytes_eq (front one.nonce) (front two.nonce) || false))))
 new_after event of all left one two =
     ap (λ (b : Bool). left && (not two.heard && not b))
-    (list_any-append (λ (b : Begun). bytes_eq (front b.nonce) (front two.nonce)) all.begun (beginning event of one.nonce ∷ []))
+    (list_any-append (λ (b : ConversationStart). bytes_eq (front b.nonce) (front two.nonce)) all.begun (beginning event of one.nonce ∷ []))
 
 peer_then_server : (a b c : Conversations) (one two : Waiting) → IsPeers a b one → IsServers b c two → c.fresh ≡ (a.fresh && are_new a.begun one two)
 peer_then_server a b c one two p s =
@@ -282,16 +282,16 @@ record Fits (w : WorldNow) (runs : Mode) (of : Role) (id : ℕ) : Type 0 where
   pass_first_id : w.parties.pass.first_id ≡ id
 
 module _ (w a : WorldNow) (runs : Mode) (of : Role) (id : ℕ) (h : Fits w runs of id) (more : List Sent) where
-  peer_fits : (nonce : List ℕ) → Renews w a (peer_anew nonce) more → Fits a runs of id
-  peer_fits nonce r = record {
+  peer_call_matches : (nonce : List ℕ) → Renews w a (peer_anew nonce) more → Fits a runs of id
+  peer_call_matches nonce r = record {
     is_mode = ap (λ (p : Parties). p.mode) r.parties ∙ h.is_mode;
     role = ap (λ (p : Parties). p.server.vars.role) r.parties ∙ h.role;
     first_id = ap (λ (p : Parties). p.server.vars.first_id) r.parties ∙ h.first_id;
     pass_first_id = ap (λ (p : Parties). p.pass.first_id) r.parties ∙ h.pass_first_id;
   }
 
-  server_fits : (nonce : List ℕ) → Renews w a (server_anew nonce) more → Fits a runs of id
-  server_fits nonce r =
+  server_matches : (nonce : List ℕ) → Renews w a (server_anew nonce) more → Fits a runs of id
+  server_matches nonce r =
       let same = restart-same w.parties.server nonce in
       record {
         is_mode = ap (λ (p : Parties). p.mode) r.parties ∙ h.is_mode;
@@ -300,9 +300,9 @@ module _ (w a : WorldNow) (runs : Mode) (of : Role) (id : ℕ) (h : Fits w runs 
         pass_first_id = ap (λ (p : Parties). p.pass.first_id) r.parties ∙ h.pass_first_id;
       }
 
-  pass_fits : Renews w a pass_anew more → Fits a runs of id
+  pass_matches : Renews w a pass_anew more → Fits a runs of id
   unfolding pass_restart pass_start
-  pass_fits r = record {
+  pass_matches r = record {
     is_mode = ap (λ (p : Parties). p.mode) r.parties ∙ h.is_mode;
     role = ap (λ (p : Parties). p.server.vars.role) r.parties ∙ h.role;
     first_id = ap (λ (p : Parties). p.server.vars.first_id) r.parties ∙ h.first_id;
@@ -324,26 +324,26 @@ module _ (w : WorldNow) (id : ℕ) (h : Fits w mode.Alone role.StandAlone id) (o
   by_peer_server =
       let a : WorldNow = after w party.Peer in
       let r = peer_renews w one ps peer_left in
-      let f = peer_fits w a mode.Alone role.StandAlone id h [] one.nonce r in
-      let left = peer_keeps w ∙ server_left in
+      let f = peer_call_matches w a mode.Alone role.StandAlone id h [] one.nonce r in
+      let left = peer_preserves w ∙ server_left in
       record {
         renews = chain w a (after a party.Server) (peer_anew one.nonce) (server_anew two.nonce) [] (asks id) r
             (server_renews a two ss mode.Alone (Some (identity_request id)) left f.is_mode (alone_sends a.parties.server two.nonce id f.role f.first_id));
-        fresh = peer_then_server w.conversations a.conversations (after a party.Server).conversations one two (peers_begin w one ps peer_left)
-            (servers_begin a two ss left);
+        fresh = peer_then_server w.conversations a.conversations (after a party.Server).conversations one two (peers_start w one ps peer_left)
+            (servers_start a two ss left);
       }
 
   by_server_peer : Renewed w (after (after w party.Server) party.Peer) (ends_anew one.nonce two.nonce) (asks id) one two
   by_server_peer =
       let a : WorldNow = after w party.Server in
-      let left = server_keeps w ∙ peer_left in
+      let left = server_preserves w ∙ peer_left in
       record {
         renews = chain w a (after a party.Peer) (server_anew two.nonce) (peer_anew one.nonce) (asks id) []
             (server_renews w two ss mode.Alone (Some (identity_request id)) server_left h.is_mode
             (alone_sends w.parties.server two.nonce id h.role h.first_id))
             (peer_renews a one ps left);
-        fresh = server_then_peer w.conversations a.conversations (after a party.Peer).conversations one two (servers_begin w two ss server_left)
-            (peers_begin a one ps left);
+        fresh = server_then_peer w.conversations a.conversations (after a party.Peer).conversations one two (servers_start w two ss server_left)
+            (peers_start a one ps left);
       }
 
 -- with the pass-through, in any order
@@ -360,22 +360,22 @@ module _ (w : WorldNow) (id : ℕ) (h : Fits w mode.Through role.Backend id) (on
   asks_again : (a : WorldNow) → Fits a mode.Through role.Backend id → Renews a (after a party.Pass) pass_anew (asks id)
   asks_again a f = pass_renews a id f.is_mode f.pass_first_id
 
-  fits_peer : (a : WorldNow) → Fits a mode.Through role.Backend id → a.conversations.peer_left ≡ one ∷ ps
+  matches_peer : (a : WorldNow) → Fits a mode.Through role.Backend id → a.conversations.peer_left ≡ one ∷ ps
       → Fits (after a party.Peer) mode.Through role.Backend id
-  fits_peer a f left = peer_fits a (after a party.Peer) mode.Through role.Backend id f [] one.nonce (peer_renews a one ps left)
+  matches_peer a f left = peer_call_matches a (after a party.Peer) mode.Through role.Backend id f [] one.nonce (peer_renews a one ps left)
 
-  fits_server : (a : WorldNow) → Fits a mode.Through role.Backend id → a.conversations.server_left ≡ two ∷ ss
+  matches_server : (a : WorldNow) → Fits a mode.Through role.Backend id → a.conversations.server_left ≡ two ∷ ss
       → Fits (after a party.Server) mode.Through role.Backend id
-  fits_server a f left = server_fits a (after a party.Server) mode.Through role.Backend id f [] two.nonce (backend_renews a f left)
+  matches_server a f left = server_matches a (after a party.Server) mode.Through role.Backend id f [] two.nonce (backend_renews a f left)
 
-  fits_pass : (a : WorldNow) → Fits a mode.Through role.Backend id → Fits (after a party.Pass) mode.Through role.Backend id
-  fits_pass a f = pass_fits a (after a party.Pass) mode.Through role.Backend id f (asks id) (asks_again a f)
+  matches_pass : (a : WorldNow) → Fits a mode.Through role.Backend id → Fits (after a party.Pass) mode.Through role.Backend id
+  matches_pass a f = pass_matches a (after a party.Pass) mode.Through role.Backend id f (asks id) (asks_again a f)
 
   pass_peer_left : (a : WorldNow) → a.conversations.peer_left ≡ one ∷ ps → (after a party.Pass).conversations.peer_left ≡ one ∷ ps
-  pass_peer_left a left = ap (λ (all : Conversations). all.peer_left) (pass_keeps a) ∙ left
+  pass_peer_left a left = ap (λ (all : Conversations). all.peer_left) (pass_preserves a) ∙ left
 
   pass_server_left : (a : WorldNow) → a.conversations.server_left ≡ two ∷ ss → (after a party.Pass).conversations.server_left ≡ two ∷ ss
-  pass_server_left a left = ap (λ (all : Conversations). all.server_left) (pass_keeps a) ∙ left
+  pass_server_left a left = ap (λ (all : Conversations). all.server_left) (pass_preserves a) ∙ left
 
   -- three restarts
   third : (a b c : WorldNow) (f g k : Parties → Parties) (x y z : List Sent) → Renews w a f x → Renews a b g y → Renews b c k z
@@ -385,134 +385,134 @@ module _ (w : WorldNow) (id : ℕ) (h : Fits w mode.Through role.Backend id) (on
   abbrev AllAnew : WorldNow → Type 0
   AllAnew c = Renewed w c (all_anew one.nonce two.nonce) (asks id) one two
 
-  by_order : (restarts : List Event) → BeginAnew mode.Through restarts → AllAnew (run_after w restarts)
+  by_order : (restarts : List Event) → StartAnew mode.Through restarts → AllAnew (run_after w restarts)
   unfolding run_after
   by_order _ peer_server_pass =
       let a : WorldNow = after w party.Peer in
       let b : WorldNow = after a party.Server in
-      let f = fits_peer w h peer_left in
-      let left = peer_keeps w ∙ server_left in
+      let f = matches_peer w h peer_left in
+      let left = peer_preserves w ∙ server_left in
       record {
         renews = third a b (after b party.Pass) (peer_anew one.nonce) (server_anew two.nonce) pass_anew [] [] (asks id)
-            (peer_renews w one ps peer_left) (backend_renews a f left) (asks_again b (fits_server a f left));
-        fresh = ap (λ (all : Conversations). all.fresh) (pass_keeps b)
-            ∙ peer_then_server w.conversations a.conversations b.conversations one two (peers_begin w one ps peer_left) (servers_begin a two ss left);
+            (peer_renews w one ps peer_left) (backend_renews a f left) (asks_again b (matches_server a f left));
+        fresh = ap (λ (all : Conversations). all.fresh) (pass_preserves b)
+            ∙ peer_then_server w.conversations a.conversations b.conversations one two (peers_start w one ps peer_left) (servers_start a two ss left);
       }
   by_order _ peer_pass_server =
       let a : WorldNow = after w party.Peer in
       let b : WorldNow = after a party.Pass in
       let c : WorldNow = after b party.Server in
-      let f = fits_peer w h peer_left in
-      let left = pass_server_left a (peer_keeps w ∙ server_left) in
+      let f = matches_peer w h peer_left in
+      let left = pass_server_left a (peer_preserves w ∙ server_left) in
       record {
         renews = third a b c (peer_anew one.nonce) pass_anew (server_anew two.nonce) [] (asks id) []
-            (peer_renews w one ps peer_left) (asks_again a f) (backend_renews b (fits_pass a f) left);
-        fresh = peer_then_server w.conversations a.conversations c.conversations one two (peers_begin w one ps peer_left)
-            (servers_again a.conversations b.conversations c.conversations two (pass_keeps a) (servers_begin b two ss left));
+            (peer_renews w one ps peer_left) (asks_again a f) (backend_renews b (matches_pass a f) left);
+        fresh = peer_then_server w.conversations a.conversations c.conversations one two (peers_start w one ps peer_left)
+            (servers_again a.conversations b.conversations c.conversations two (pass_preserves a) (servers_start b two ss left));
       }
   by_order _ server_peer_pass =
       let a : WorldNow = after w party.Server in
       let b : WorldNow = after a party.Peer in
-      let f = fits_server w h server_left in
-      let left = server_keeps w ∙ peer_left in
+      let f = matches_server w h server_left in
+      let left = server_preserves w ∙ peer_left in
       record {
         renews = third a b (after b party.Pass) (server_anew two.nonce) (peer_anew one.nonce) pass_anew [] [] (asks id)
-            (backend_renews w h server_left) (peer_renews a one ps left) (asks_again b (fits_peer a f left));
-        fresh = ap (λ (all : Conversations). all.fresh) (pass_keeps b)
-            ∙ server_then_peer w.conversations a.conversations b.conversations one two (servers_begin w two ss server_left) (peers_begin a one ps left);
+            (backend_renews w h server_left) (peer_renews a one ps left) (asks_again b (matches_peer a f left));
+        fresh = ap (λ (all : Conversations). all.fresh) (pass_preserves b)
+            ∙ server_then_peer w.conversations a.conversations b.conversations one two (servers_start w two ss server_left) (peers_start a one ps left);
       }
   by_order _ server_pass_peer =
       let a : WorldNow = after w party.Server in
       let b : WorldNow = after a party.Pass in
       let c : WorldNow = after b party.Peer in
-      let f = fits_server w h server_left in
-      let left = pass_peer_left a (server_keeps w ∙ peer_left) in
+      let f = matches_server w h server_left in
+      let left = pass_peer_left a (server_preserves w ∙ peer_left) in
       record {
         renews = third a b c (server_anew two.nonce) pass_anew (peer_anew one.nonce) [] (asks id) []
             (backend_renews w h server_left) (asks_again a f) (peer_renews b one ps left);
-        fresh = server_then_peer w.conversations a.conversations c.conversations one two (servers_begin w two ss server_left)
-            (peers_again a.conversations b.conversations c.conversations one (pass_keeps a) (peers_begin b one ps left));
+        fresh = server_then_peer w.conversations a.conversations c.conversations one two (servers_start w two ss server_left)
+            (peers_again a.conversations b.conversations c.conversations one (pass_preserves a) (peers_start b one ps left));
       }
   by_order _ pass_peer_server =
       let a : WorldNow = after w party.Pass in
       let b : WorldNow = after a party.Peer in
       let c : WorldNow = after b party.Server in
-      let f = fits_pass w h in
+      let f = matches_pass w h in
       let left = pass_peer_left w peer_left in
-      let others = peer_keeps a ∙ pass_server_left w server_left in
+      let others = peer_preserves a ∙ pass_server_left w server_left in
       record {
         renews = third a b c pass_anew (peer_anew one.nonce) (server_anew two.nonce) (asks id) [] []
-            (asks_again w h) (peer_renews a one ps left) (backend_renews b (fits_peer a f left) others);
+            (asks_again w h) (peer_renews a one ps left) (backend_renews b (matches_peer a f left) others);
         fresh = peer_then_server w.conversations b.conversations c.conversations one two
-            (peers_again w.conversations a.conversations b.conversations one (pass_keeps w) (peers_begin a one ps left)) (servers_begin b two ss others);
+            (peers_again w.conversations a.conversations b.conversations one (pass_preserves w) (peers_start a one ps left)) (servers_start b two ss others);
       }
   by_order _ pass_server_peer =
       let a : WorldNow = after w party.Pass in
       let b : WorldNow = after a party.Server in
       let c : WorldNow = after b party.Peer in
-      let f = fits_pass w h in
+      let f = matches_pass w h in
       let left = pass_server_left w server_left in
-      let others = server_keeps a ∙ pass_peer_left w peer_left in
+      let others = server_preserves a ∙ pass_peer_left w peer_left in
       record {
         renews = third a b c pass_anew (server_anew two.nonce) (peer_anew one.nonce) (asks id) [] []
             (asks_again w h) (backend_renews a f left) (peer_renews b one ps others);
         fresh = server_then_peer w.conversations b.conversations c.conversations one two
-            (servers_again w.conversations a.conversations b.conversations two (pass_keeps w) (servers_begin a two ss left)) (peers_begin b one ps others);
+            (servers_again w.conversations a.conversations b.conversations two (pass_preserves w) (servers_start a two ss left)) (peers_start b one ps others);
       }
 
 -- ---- the parties have just begun
 
 -- where these are the settings, a restarted server stands as one that was made and has started, and a backend as one
 -- that was made
-alone_begun : (now : ServerNow) (nonce : List ℕ) (setup : ServerSetup) (id most : ℕ) → now.vars.role ≡ role.StandAlone
-    → servers.own_nonce now.vars.setup nonce ≡ setup → now.vars.first_id ≡ id → now.vars.max_retrans ≡ most
-    → (server_restart now nonce).after ≡ (server_start (server_made role.StandAlone setup id most)).after
+alone_started : (now : ServerNow) (nonce : List ℕ) (setup : ServerSetup) (id most : ℕ) → now.vars.role ≡ role.StandAlone
+    → servers.setup_with_nonce now.vars.setup nonce ≡ setup → now.vars.first_id ≡ id → now.vars.max_retrans ≡ most
+    → (server_restart now nonce).after ≡ (server_start (initial_server role.StandAlone setup id most)).after
 unfolding server_restart
-alone_begun now nonce setup id most is own first last =
+alone_started now nonce setup id most is own first last =
     ap (λ (of : Role). (server_restart (record now { vars = record now.vars { role = of } }) nonce).after) is
-    ∙ ap (λ (s : ServerSetup). (server_start (server_made role.StandAlone s now.vars.first_id now.vars.max_retrans)).after) own
-    ∙ ap (λ (n : ℕ). (server_start (server_made role.StandAlone setup n now.vars.max_retrans)).after) first
-    ∙ ap (λ (n : ℕ). (server_start (server_made role.StandAlone setup id n)).after) last
+    ∙ ap (λ (s : ServerSetup). (server_start (initial_server role.StandAlone s now.vars.first_id now.vars.max_retrans)).after) own
+    ∙ ap (λ (n : ℕ). (server_start (initial_server role.StandAlone setup n now.vars.max_retrans)).after) first
+    ∙ ap (λ (n : ℕ). (server_start (initial_server role.StandAlone setup id n)).after) last
 
-backend_begun : (now : ServerNow) (nonce : List ℕ) (setup : ServerSetup) (id most : ℕ) → now.vars.role ≡ role.Backend
-    → servers.own_nonce now.vars.setup nonce ≡ setup → now.vars.first_id ≡ id → now.vars.max_retrans ≡ most
-    → (server_restart now nonce).after ≡ server_made role.Backend setup id most
+backend_started : (now : ServerNow) (nonce : List ℕ) (setup : ServerSetup) (id most : ℕ) → now.vars.role ≡ role.Backend
+    → servers.setup_with_nonce now.vars.setup nonce ≡ setup → now.vars.first_id ≡ id → now.vars.max_retrans ≡ most
+    → (server_restart now nonce).after ≡ initial_server role.Backend setup id most
 unfolding server_restart
-backend_begun now nonce setup id most is own first last =
+backend_started now nonce setup id most is own first last =
     ap (λ (of : Role). (server_restart (record now { vars = record now.vars { role = of } }) nonce).after) is
-    ∙ ap (λ (s : ServerSetup). server_made role.Backend s now.vars.first_id now.vars.max_retrans) own
-    ∙ ap (λ (n : ℕ). server_made role.Backend setup n now.vars.max_retrans) first
-    ∙ ap (λ (n : ℕ). server_made role.Backend setup id n) last
+    ∙ ap (λ (s : ServerSetup). initial_server role.Backend s now.vars.first_id now.vars.max_retrans) own
+    ∙ ap (λ (n : ℕ). initial_server role.Backend setup n now.vars.max_retrans) first
+    ∙ ap (λ (n : ℕ). initial_server role.Backend setup id n) last
 
 -- the start asks for the identity
 alone_asks : (id most : ℕ) (setup : ServerSetup)
-    → asks id ≡ sent_to port.Peer (server_start (server_made role.StandAlone setup id most)).step.sent
+    → asks id ≡ sent_to port.Peer (server_start (initial_server role.StandAlone setup id most)).step.sent
 unfolding server_start
 alone_asks id most setup = refl
 
-through_asks : (id most : ℕ) → asks id ≡ sent_to port.Peer (pass_start (pass_made id most)).step.sent
+through_asks : (id most : ℕ) → asks id ≡ sent_to port.Peer (pass_start (initial_pass id most)).step.sent
 unfolding pass_start
 through_asks id most = refl
 
 module _ (setup : Setup) (w : WorldNow) (one two : Waiting)
-    (own_peer : peers.own_nonce w.parties.peer.vars.setup one.nonce ≡ peers.own_nonce setup.peer one.nonce)
-    (own_server : servers.own_nonce w.parties.server.vars.setup two.nonce ≡ servers.own_nonce setup.server two.nonce) where
-  begun_alone : (b : WorldNow) → AreSet (in_mode mode.Alone setup) w.parties → IsIdle (pass_made setup.first_id setup.max_retrans) w.parties
+    (own_peer : peers.setup_with_nonce w.parties.peer.vars.setup one.nonce ≡ peers.setup_with_nonce setup.peer one.nonce)
+    (own_server : servers.setup_with_nonce w.parties.server.vars.setup two.nonce ≡ servers.setup_with_nonce setup.server two.nonce) where
+  started_alone : (b : WorldNow) → AreSet (in_mode mode.Alone setup) w.parties → IsIdle (initial_pass setup.first_id setup.max_retrans) w.parties
       → Renewed w b (ends_anew one.nonce two.nonce) (asks setup.first_id) one two
-      → HasBegunAnew (in_mode mode.Alone setup) one two w b
+      → HasRestarted (in_mode mode.Alone setup) one two w b
   unfolding run_after world_start
-  begun_alone b set idle renewed =
+  started_alone b set idle renewed =
       let r = renewed.renews in
-      let server = servers.own_nonce setup.server two.nonce in
+      let server = servers.setup_with_nonce setup.server two.nonce in
       record {
         begun = record {
           parties = r.parties
-              ∙ ap (λ (m : Mode). parties_at m (peer_made (peers.own_nonce w.parties.peer.vars.setup one.nonce)) (server_restart w.parties.server two.nonce).after w.parties.pass) set.mode
-              ∙ ap (λ (s : PeerSetup). parties_at mode.Alone (peer_made s) (server_restart w.parties.server two.nonce).after w.parties.pass) own_peer
-              ∙ ap (λ (s : ServerNow). parties_at mode.Alone (peer_made (peers.own_nonce setup.peer one.nonce)) s w.parties.pass)
-              (alone_begun w.parties.server two.nonce server setup.first_id setup.max_retrans set.role own_server set.first_id set.max_retrans)
-              ∙ ap (λ (v : PassVariables). parties_at mode.Alone (peer_made (peers.own_nonce setup.peer one.nonce))
-              (server_start (server_made role.StandAlone server setup.first_id setup.max_retrans)).after v) idle.pass;
+              ∙ ap (λ (m : Mode). parties_at m (initial_peer (peers.setup_with_nonce w.parties.peer.vars.setup one.nonce)) (server_restart w.parties.server two.nonce).after w.parties.pass) set.mode
+              ∙ ap (λ (s : PeerSetup). parties_at mode.Alone (initial_peer s) (server_restart w.parties.server two.nonce).after w.parties.pass) own_peer
+              ∙ ap (λ (s : ServerNow). parties_at mode.Alone (initial_peer (peers.setup_with_nonce setup.peer one.nonce)) s w.parties.pass)
+              (alone_started w.parties.server two.nonce server setup.first_id setup.max_retrans set.role own_server set.first_id set.max_retrans)
+              ∙ ap (λ (v : PassVariables). parties_at mode.Alone (initial_peer (peers.setup_with_nonce setup.peer one.nonce))
+              (server_start (initial_server role.StandAlone server setup.first_id setup.max_retrans)).after v) idle.pass;
           before = w.sent;
           sent = r.sent ∙ ap (λ (more : List Sent). w.sent ++ more) (alone_asks setup.first_id setup.max_retrans server);
         };
@@ -521,24 +521,24 @@ module _ (setup : Setup) (w : WorldNow) (one two : Waiting)
         fresh = renewed.fresh;
       }
 
-  begun_through : (b : WorldNow) → AreSet (in_mode mode.Through setup) w.parties → Renewed w b (all_anew one.nonce two.nonce) (asks setup.first_id) one two
-      → HasBegunAnew (in_mode mode.Through setup) one two w b
+  started_through : (b : WorldNow) → AreSet (in_mode mode.Through setup) w.parties → Renewed w b (all_anew one.nonce two.nonce) (asks setup.first_id) one two
+      → HasRestarted (in_mode mode.Through setup) one two w b
   unfolding run_after world_start pass_restart pass_start
-  begun_through b set renewed =
+  started_through b set renewed =
       let r = renewed.renews in
-      let server = servers.own_nonce setup.server two.nonce in
+      let server = servers.setup_with_nonce setup.server two.nonce in
       record {
         begun = record {
           parties = r.parties
-              ∙ ap (λ (m : Mode). parties_at m (peer_made (peers.own_nonce w.parties.peer.vars.setup one.nonce)) (server_restart w.parties.server two.nonce).after
+              ∙ ap (λ (m : Mode). parties_at m (initial_peer (peers.setup_with_nonce w.parties.peer.vars.setup one.nonce)) (server_restart w.parties.server two.nonce).after
               (pass_restart w.parties.pass).after) set.mode
-              ∙ ap (λ (s : PeerSetup). parties_at mode.Through (peer_made s) (server_restart w.parties.server two.nonce).after (pass_restart w.parties.pass).after) own_peer
-              ∙ ap (λ (s : ServerNow). parties_at mode.Through (peer_made (peers.own_nonce setup.peer one.nonce)) s (pass_restart w.parties.pass).after)
-              (backend_begun w.parties.server two.nonce server setup.first_id setup.max_retrans set.role own_server set.first_id set.max_retrans)
-              ∙ ap (λ (n : ℕ). parties_at mode.Through (peer_made (peers.own_nonce setup.peer one.nonce))
-              (server_made role.Backend server setup.first_id setup.max_retrans) (pass_start (pass_made n w.parties.pass.max_retrans)).after) set.pass_first_id
-              ∙ ap (λ (n : ℕ). parties_at mode.Through (peer_made (peers.own_nonce setup.peer one.nonce))
-              (server_made role.Backend server setup.first_id setup.max_retrans) (pass_start (pass_made setup.first_id n)).after) set.pass_max_retrans;
+              ∙ ap (λ (s : PeerSetup). parties_at mode.Through (initial_peer s) (server_restart w.parties.server two.nonce).after (pass_restart w.parties.pass).after) own_peer
+              ∙ ap (λ (s : ServerNow). parties_at mode.Through (initial_peer (peers.setup_with_nonce setup.peer one.nonce)) s (pass_restart w.parties.pass).after)
+              (backend_started w.parties.server two.nonce server setup.first_id setup.max_retrans set.role own_server set.first_id set.max_retrans)
+              ∙ ap (λ (n : ℕ). parties_at mode.Through (initial_peer (peers.setup_with_nonce setup.peer one.nonce))
+              (initial_server role.Backend server setup.first_id setup.max_retrans) (pass_start (initial_pass n w.parties.pass.max_retrans)).after) set.pass_first_id
+              ∙ ap (λ (n : ℕ). parties_at mode.Through (initial_peer (peers.setup_with_nonce setup.peer one.nonce))
+              (initial_server role.Backend server setup.first_id setup.max_retrans) (pass_start (initial_pass setup.first_id n)).after) set.pass_max_retrans;
           before = w.sent;
           sent = r.sent ∙ ap (λ (more : List Sent). w.sent ++ more) (through_asks setup.first_id setup.max_retrans);
         };
@@ -547,35 +547,35 @@ module _ (setup : Setup) (w : WorldNow) (one two : Waiting)
         fresh = renewed.fresh;
       }
 
-begin_by : (runs : Mode) (setup : Setup) (w : WorldNow) (one two : Waiting) (ps ss : List Waiting) (restarts : List Event)
-    → peers.own_nonce w.parties.peer.vars.setup one.nonce ≡ peers.own_nonce setup.peer one.nonce
-    → servers.own_nonce w.parties.server.vars.setup two.nonce ≡ servers.own_nonce setup.server two.nonce
+start_by : (runs : Mode) (setup : Setup) (w : WorldNow) (one two : Waiting) (ps ss : List Waiting) (restarts : List Event)
+    → peers.setup_with_nonce w.parties.peer.vars.setup one.nonce ≡ peers.setup_with_nonce setup.peer one.nonce
+    → servers.setup_with_nonce w.parties.server.vars.setup two.nonce ≡ servers.setup_with_nonce setup.server two.nonce
     → AreSet (in_mode runs setup) w.parties
-    → (runs ≡ mode.Alone → IsIdle (pass_made setup.first_id setup.max_retrans) w.parties)
-    → w.conversations.peer_left ≡ one ∷ ps → w.conversations.server_left ≡ two ∷ ss → BeginAnew runs restarts
-    → HasBegunAnew (in_mode runs setup) one two w (run_after w restarts)
+    → (runs ≡ mode.Alone → IsIdle (initial_pass setup.first_id setup.max_retrans) w.parties)
+    → w.conversations.peer_left ≡ one ∷ ps → w.conversations.server_left ≡ two ∷ ss → StartAnew runs restarts
+    → HasRestarted (in_mode runs setup) one two w (run_after w restarts)
 unfolding run_after
-begin_by mode.Alone setup w one two ps ss _ own_peer own_server set idle peer_left server_left peer_server =
+start_by mode.Alone setup w one two ps ss _ own_peer own_server set idle peer_left server_left peer_server =
     let h : Fits w mode.Alone role.StandAlone setup.first_id =
     record { is_mode = set.mode; role = set.role; first_id = set.first_id; pass_first_id = set.pass_first_id } in
-    begun_alone setup w one two own_peer own_server (after (after w party.Peer) party.Server) set (idle refl)
+    started_alone setup w one two own_peer own_server (after (after w party.Peer) party.Server) set (idle refl)
     (by_peer_server w setup.first_id h one two ps ss peer_left server_left)
-begin_by mode.Alone setup w one two ps ss _ own_peer own_server set idle peer_left server_left server_peer =
+start_by mode.Alone setup w one two ps ss _ own_peer own_server set idle peer_left server_left server_peer =
     let h : Fits w mode.Alone role.StandAlone setup.first_id =
     record { is_mode = set.mode; role = set.role; first_id = set.first_id; pass_first_id = set.pass_first_id } in
-    begun_alone setup w one two own_peer own_server (after (after w party.Server) party.Peer) set (idle refl)
+    started_alone setup w one two own_peer own_server (after (after w party.Server) party.Peer) set (idle refl)
     (by_server_peer w setup.first_id h one two ps ss peer_left server_left)
-begin_by mode.Through setup w one two ps ss restarts own_peer own_server set idle peer_left server_left order =
+start_by mode.Through setup w one two ps ss restarts own_peer own_server set idle peer_left server_left order =
     let h : Fits w mode.Through role.Backend setup.first_id =
     record { is_mode = set.mode; role = set.role; first_id = set.first_id; pass_first_id = set.pass_first_id } in
-    begun_through setup w one two own_peer own_server (run_after w restarts) set
+    started_through setup w one two own_peer own_server (run_after w restarts) set
     (by_order w setup.first_id h one two ps ss peer_left server_left restarts order)
 
-pub restarts_begin_anew : RestartsBeginAnew
-restarts_begin_anew setup events restarts whole next order =
+pub restarts_start_anew : RestartsStartAnew
+restarts_start_anew setup events restarts whole next order =
     let w : WorldNow = run_of setup events in
     let both : BothConverse setup w = run_converses setup events whole in
-    begin_by setup.mode setup w next.peer next.server next.peer_more next.server_more restarts
-    (ap (λ (s : PeerSetup). peers.own_nonce s next.peer.nonce) both.peer.now.stands.own)
-    (ap (λ (s : ServerSetup). servers.own_nonce s next.server.nonce) both.server.now.stands.own)
+    start_by setup.mode setup w next.peer next.server next.peer_more next.server_more restarts
+    (ap (λ (s : PeerSetup). peers.setup_with_nonce s next.peer.nonce) both.peer.now.stands.own)
+    (ap (λ (s : ServerSetup). servers.setup_with_nonce s next.server.nonce) both.server.now.stands.own)
     (run_is_set setup events) (run_is_idle setup events) next.peer_left next.server_left order

@@ -11,12 +11,12 @@ use Rattle.eap_packet.specs.declared.state.State.{State}
 use Rattle.eap_packet.specs.declared.state.State.TheVariants as state
 use Rattle.login_policy.specs.Policy.{next_kind, nak_of}
 use Rattle.eap_method.specs.Tags.{Tags, no_tags}
-use Rattle.eap_method.specs.Server.{ServerViews, Offer, server_offer, server_turn, side_of, views_begun}
+use Rattle.eap_method.specs.Server.{ServerViews, Offer, server_offer, server_turn, side_of, views_started}
 use Rattle.eap_method.specs.ServerTurn as turn
 use Rattle.eap_method.specs.Steps.{sends, is_end}
 use Rattle.eap_method.specs.Turns.{ServerOutcome}
-use Rattle.server_machine.specs.Expanded.{takes_nak, response_octets, wraps, server_reads, server_hears}
-use Rattle.server_machine.specs.ServerTable.{ServerNow, ServerAnswer, answer, server_made, vars_made, success_packet, select_action}
+use Rattle.server_machine.specs.Expanded.{accepts_nak, response_octets, wraps, server_reads, server_receives}
+use Rattle.server_machine.specs.ServerTable.{ServerNow, ServerAnswer, answer, initial_server, initial_vars_of, success_packet, select_action}
 use Rattle.server_machine.specs.ServerTable.{proposes, offers, server_row, server_deliver, server_method, method_answers, pick_up}
 use Rattle.server_machine.specs.ServerTable.{before_proposal, is_backend, awaits_first}
 use Rattle.server_machine.specs.declared.variables.Progress.{Progress}
@@ -24,9 +24,9 @@ use Rattle.server_machine.specs.declared.variables.Progress.TheVariants as progr
 use Rattle.server_machine.specs.declared.variables.Role.{Role}
 use Rattle.server_machine.specs.declared.variables.Role.TheVariants as role
 use Rattle.server_machine.specs.declared.variables.ServerVariables.{ServerVariables}
-use Rattle.server_machine.specs.declared.variables.Way.TheVariants as way
-use Rattle.smooth_laws.proofs.Carried.{IsMethod, carried, answers_read, wrapped_plain, wrapped_taken}
-use Rattle.smooth_laws.proofs.Naks.{ReadsBack, nak_as, nak_body, nak_read, is_nak, entries_taken}
+use Rattle.server_machine.specs.declared.variables.ProposalPath.TheVariants as way
+use Rattle.smooth_laws.proofs.Carried.{IsMethod, carried, answers_read, wrapped_plain, wrapped_accepted}
+use Rattle.smooth_laws.proofs.Naks.{ReadsBack, nak_as, nak_body, nak_read, is_nak, entries_consumed}
 
 -- the Identifier of the Request after this one
 abbrev pub after_id : ℕ → ℕ
@@ -41,7 +41,7 @@ pub record Made : Type 0 where
 
 -- a server that has not ended and waits for the Response to a Request
 abbrev pub server_vars : Made → ℕ → ℕ → Progress → List ℕ → List ℕ → ServerVariables
-server_vars made id kind at last proposed = record (vars_made made.role made.setup made.first_id made.max_retrans) {
+server_vars made id kind at last proposed = record (initial_vars_of made.role made.setup made.first_id made.max_retrans) {
   state = state.Idle;
   current_id = Some id;
   current = Some kind;
@@ -69,7 +69,7 @@ pub record IsOffer (made : Made) (kind id : ℕ) (before : ServerViews) (packet 
 
 module _ (made : Made) where
   -- the Identity Response at a server
-  pub hears_identity : (octets : List ℕ) (id kind : ℕ) (name last : List ℕ) (views after : ServerViews) (packet : List ℕ)
+  pub receives_identity : (octets : List ℕ) (id kind : ℕ) (name last : List ℕ) (views after : ServerViews) (packet : List ℕ)
       → packet_of octets ≡ Ok (response id 1 name)
       → next_kind made.setup.methods [] None ≡ Some kind
       → IsOffer made kind (after_id id) views packet after
@@ -77,7 +77,7 @@ module _ (made : Made) where
       ≡ replies (before_proposal way.AfterResponse ++ state.ProposeMethod ∷ state.MethodRequest ∷ state.SendRequest ∷ state.Idle ∷ []) packet no_tags
       (server_at made (after_id id) kind progress.Proposed packet (kind ∷ []) after)
   unfolding server_deliver select_action
-  hears_identity octets id kind name last views after packet read chosen offered =
+  receives_identity octets id kind name last views after packet read chosen offered =
       let now : ServerNow = server_at made id 1 progress.Continue last [] views in
       let vars : ServerVariables = record now.vars { progress = progress.End } in
       cond-false (awaits_first now.vars) _ _ (and_right (is_backend now.vars) false refl)
@@ -87,7 +87,7 @@ module _ (made : Made) where
       ∙ ap (λ (offer : Offer). offers (before_proposal way.AfterResponse) vars offer.after id kind offer.packet) offered.is
 
   -- a Nak, while the method that it refuses is proposed
-  pub hears_nak : (octets : List ℕ) (id refused kind : ℕ) (desired last : List ℕ) (views after : ServerViews) (packet : List ℕ)
+  pub receives_nak : (octets : List ℕ) (id refused kind : ℕ) (desired last : List ℕ) (views after : ServerViews) (packet : List ℕ)
       → packet_of octets ≡ Ok (response id 3 desired)
       → next_kind made.setup.methods (refused ∷ []) (Some desired) ≡ Some kind
       → IsOffer made kind (after_id id) views packet after
@@ -95,7 +95,7 @@ module _ (made : Made) where
       ≡ replies (before_proposal way.AfterNak ++ state.ProposeMethod ∷ state.MethodRequest ∷ state.SendRequest ∷ state.Idle ∷ []) packet no_tags
       (server_at made (after_id id) kind progress.Proposed packet (refused ∷ kind ∷ []) after)
   unfolding server_deliver select_action
-  hears_nak octets id refused kind desired last views after packet read chosen offered =
+  receives_nak octets id refused kind desired last views after packet read chosen offered =
       let now : ServerNow = server_at made id refused progress.Proposed last (refused ∷ []) views in
       cond-false (awaits_first now.vars) _ _ (and_right (is_backend now.vars) false refl)
       ∙ ap (λ found. server_row now found) read
@@ -156,13 +156,13 @@ pub picks_up : (setup : ServerSetup) (first_id max_retrans : ℕ)
     (octets : List ℕ) (id kind : ℕ) (name : List ℕ) (after : ServerViews) (packet : List ℕ)
     → packet_of octets ≡ Ok (response id 1 name)
     → next_kind setup.methods [] None ≡ Some kind
-    → IsOffer (backend setup first_id max_retrans) kind (after_id id) (views_begun setup) packet after
-    → server_deliver (server_made role.Backend setup first_id max_retrans) octets
+    → IsOffer (backend setup first_id max_retrans) kind (after_id id) (views_started setup) packet after
+    → server_deliver (initial_server role.Backend setup first_id max_retrans) octets
     ≡ replies (before_proposal way.FirstIdentity ++ state.ProposeMethod ∷ state.MethodRequest ∷ state.SendRequest ∷ state.Idle ∷ []) packet no_tags
     (server_at (backend setup first_id max_retrans) (after_id id) kind progress.Proposed packet (kind ∷ []) after)
 unfolding server_deliver select_action
 picks_up setup first_id max_retrans octets id kind name after packet read chosen offered =
-    let now : ServerNow = server_made role.Backend setup first_id max_retrans in
+    let now : ServerNow = initial_server role.Backend setup first_id max_retrans in
     let vars : ServerVariables = record now.vars { state = state.Idle; current_id = Some id; progress = progress.End } in
     ap (λ found. pick_up now found) read
     ∙ ap (λ found. proposes (before_proposal way.FirstIdentity) vars now.views id found) chosen
@@ -171,15 +171,15 @@ picks_up setup first_id max_retrans octets id kind name after packet read chosen
 -- ---- a server that reads Expanded Types, and wraps its methods' Requests
 
 -- a server that doesn't is its table
-reads_none : (now : ServerNow) (octets : List ℕ) → now.vars.setup.expanded ≡ false → server_hears now octets ≡ server_deliver now octets
-unfolding server_hears
+reads_none : (now : ServerNow) (octets : List ℕ) → now.vars.setup.expanded ≡ false → server_receives now octets ≡ server_deliver now octets
+unfolding server_receives
 reads_none now octets none = cond-false (now.vars.setup.expanded && not (is_end now.vars.state)) _ _ (and_left now.vars.setup.expanded _ none)
 
 -- a Response to one that has not ended
 reads_all : (now : ServerNow) (octets : List ℕ) (id kind : ℕ) (body : List ℕ) → now.vars.setup.expanded ≡ true → is_end now.vars.state ≡ false
     → packet_of octets ≡ Ok (response id kind body) → is_bad_expanded (response id kind body) ≡ false
-    → server_hears now octets ≡ wraps (server_deliver now (response_octets now.vars octets id kind body))
-unfolding server_hears
+    → server_receives now octets ≡ wraps (server_deliver now (response_octets now.vars octets id kind body))
+unfolding server_receives
 reads_all now octets id kind body reads going read good =
     cond-true (now.vars.setup.expanded && not (is_end now.vars.state)) _ _ (and_from _ _ reads (ap not going))
     ∙ ap (λ found. server_reads now octets found) read
@@ -187,32 +187,32 @@ reads_all now octets id kind body reads going read good =
 
 -- an identity in the plain form
 reads_identity : (now : ServerNow) (octets : List ℕ) (id : ℕ) (name : List ℕ) → now.vars.setup.expanded ≡ true → is_end now.vars.state ≡ false
-    → packet_of octets ≡ Ok (response id 1 name) → server_hears now octets ≡ wraps (server_deliver now octets)
+    → packet_of octets ≡ Ok (response id 1 name) → server_receives now octets ≡ wraps (server_deliver now octets)
 reads_identity now octets id name reads going read = reads_all now octets id 1 name reads going read refl
 
 -- a wrapped Response of a method
 reads_wrapped : (now : ServerNow) (id kind : ℕ) (body : List ℕ) → now.vars.setup.expanded ≡ true → is_end now.vars.state ≡ false
     → IsMethod kind → length body ≤ 1488
-    → server_hears now (expanded_form (spelled (response id kind body))) ≡ wraps (server_deliver now (spelled (response id kind body)))
+    → server_receives now (expanded_form (spelled (response id kind body))) ≡ wraps (server_deliver now (spelled (response id kind body)))
 reads_wrapped now id kind body reads going is fits =
     let octets : List ℕ = expanded_form (spelled (response id kind body)) in
     let inside : List ℕ = ietf ++ kind ∷ body in
     reads_all now octets id expanded_kind inside reads going (answers_read true id kind body is fits)
-    (wrapped_taken false kind body is)
+    (wrapped_accepted false kind body is)
     ∙ ap (λ (found : List ℕ). wraps (server_deliver now found))
-    (cond-false (is_nak_body inside && takes_nak now.vars) _ _ (and_left (is_nak_body inside) _ (and_right (is_ietf inside) (kind == 3) is.not_nak))
+    (cond-false (is_nak_body inside && accepts_nak now.vars) _ _ (and_left (is_nak_body inside) _ (and_right (is_ietf inside) (kind == 3) is.not_nak))
     ∙ cond-true (has_plain_form (response id expanded_kind inside)) _ _ (wrapped_plain kind body is)
     ∙ ap spelled (cond-true (has_plain_form (response id expanded_kind inside)) _ _ (wrapped_plain kind body is)))
 
 -- an Expanded Nak, where the Request that was sent last is wrapped
 reads_nak : (now : ServerNow) (id : ℕ) (methods : List ℕ) → now.vars.setup.expanded ≡ true → is_end now.vars.state ≡ false
     → (type_of now.vars.last_request == expanded_kind) ≡ true → ReadsBack methods
-    → server_hears now (nak_as true id methods) ≡ wraps (server_deliver now (nak_as false id methods))
+    → server_receives now (nak_as true id methods) ≡ wraps (server_deliver now (nak_as false id methods))
 reads_nak now id methods reads going asked is =
     let inside : List ℕ = nak_body true methods in
-    reads_all now (nak_as true id methods) id expanded_kind inside reads going (nak_read true id methods is) (entries_taken methods is)
+    reads_all now (nak_as true id methods) id expanded_kind inside reads going (nak_read true id methods is) (entries_consumed methods is)
     ∙ ap (λ (found : List ℕ). wraps (server_deliver now found))
-    (cond-true (is_nak_body inside && takes_nak now.vars) _ _ (and_from _ _ (is_nak methods) (or_right (awaits_first now.vars) _ asked))
+    (cond-true (is_nak_body inside && accepts_nak now.vars) _ _ (and_from _ _ (is_nak methods) (or_right (awaits_first now.vars) _ asked))
     ∙ ap (λ (kinds : List ℕ). spelled (response id 3 kinds)) is.back)
 
 -- a Request of a method is wrapped, and kept so
@@ -229,55 +229,55 @@ wraps_success path id tags after = refl
 
 module _ (made : Made) where
   -- the Identity Response at a server
-  pub hears_named : (form : Bool) → made.setup.expanded ≡ form → (octets : List ℕ) (id kind : ℕ) (name last : List ℕ) (views after : ServerViews) (asks : List ℕ)
+  pub receives_named : (form : Bool) → made.setup.expanded ≡ form → (octets : List ℕ) (id kind : ℕ) (name last : List ℕ) (views after : ServerViews) (asks : List ℕ)
       → packet_of octets ≡ Ok (response id 1 name)
       → next_kind made.setup.methods [] None ≡ Some kind
       → IsOffer made kind (after_id id) views (spelled (request (after_id id) kind asks)) after
-      → (let packet = carried form (spelled (request (after_id id) kind asks)) in server_hears (server_at made id 1 progress.Continue last [] views) octets
+      → (let packet = carried form (spelled (request (after_id id) kind asks)) in server_receives (server_at made id 1 progress.Continue last [] views) octets
       ≡ replies (before_proposal way.AfterResponse ++ state.ProposeMethod ∷ state.MethodRequest ∷ state.SendRequest ∷ state.Idle ∷ []) packet no_tags
       (server_at made (after_id id) kind progress.Proposed packet (kind ∷ []) after))
-  hears_named false is octets id kind name last views after asks read chosen offered =
-      reads_none (server_at made id 1 progress.Continue last [] views) octets is ∙ hears_identity made octets id kind name last views after _ read chosen offered
-  hears_named true is octets id kind name last views after asks read chosen offered =
+  receives_named false is octets id kind name last views after asks read chosen offered =
+      reads_none (server_at made id 1 progress.Continue last [] views) octets is ∙ receives_identity made octets id kind name last views after _ read chosen offered
+  receives_named true is octets id kind name last views after asks read chosen offered =
       reads_identity (server_at made id 1 progress.Continue last [] views) octets id name is refl read
-      ∙ ap wraps (hears_identity made octets id kind name last views after _ read chosen offered)
+      ∙ ap wraps (receives_identity made octets id kind name last views after _ read chosen offered)
       ∙ wraps_request made (before_proposal way.AfterResponse ++ state.ProposeMethod ∷ state.MethodRequest ∷ state.SendRequest ∷ state.Idle ∷ [])
       (after_id id) kind asks no_tags (after_id id) progress.Proposed (kind ∷ []) after
 
   -- a Nak, while the method that it refuses is proposed
-  pub hears_nak_as : (form : Bool) → made.setup.expanded ≡ form → (id refused kind : ℕ) (methods asked_body : List ℕ) (views after : ServerViews) (asks : List ℕ)
+  pub receives_nak_as : (form : Bool) → made.setup.expanded ≡ form → (id refused kind : ℕ) (methods asked_body : List ℕ) (views after : ServerViews) (asks : List ℕ)
       → ReadsBack methods
       → next_kind made.setup.methods (refused ∷ []) (Some (nak_of methods)) ≡ Some kind
       → IsOffer made kind (after_id id) views (spelled (request (after_id id) kind asks)) after
       → (let packet = carried form (spelled (request (after_id id) kind asks)) in
       let last = carried form (spelled (request id refused asked_body)) in
-      server_hears (server_at made id refused progress.Proposed last (refused ∷ []) views) (nak_as form id methods)
+      server_receives (server_at made id refused progress.Proposed last (refused ∷ []) views) (nak_as form id methods)
       ≡ replies (before_proposal way.AfterNak ++ state.ProposeMethod ∷ state.MethodRequest ∷ state.SendRequest ∷ state.Idle ∷ []) packet no_tags
       (server_at made (after_id id) kind progress.Proposed packet (refused ∷ kind ∷ []) after))
-  hears_nak_as false is id refused kind methods asked_body views after asks back chosen offered =
+  receives_nak_as false is id refused kind methods asked_body views after asks back chosen offered =
       reads_none _ (nak_as false id methods) is
-      ∙ hears_nak made (nak_as false id methods) id refused kind (nak_of methods) _ views after _ (nak_read false id methods back) chosen offered
-  hears_nak_as true is id refused kind methods asked_body views after asks back chosen offered =
+      ∙ receives_nak made (nak_as false id methods) id refused kind (nak_of methods) _ views after _ (nak_read false id methods back) chosen offered
+  receives_nak_as true is id refused kind methods asked_body views after asks back chosen offered =
       reads_nak (server_at made id refused progress.Proposed (expanded_form (spelled (request id refused asked_body))) (refused ∷ []) views) id methods is refl refl back
-      ∙ ap wraps (hears_nak made (nak_as false id methods) id refused kind (nak_of methods) _ views after _ (nak_read false id methods back) chosen offered)
+      ∙ ap wraps (receives_nak made (nak_as false id methods) id refused kind (nak_of methods) _ views after _ (nak_read false id methods back) chosen offered)
       ∙ wraps_request made (before_proposal way.AfterNak ++ state.ProposeMethod ∷ state.MethodRequest ∷ state.SendRequest ∷ state.Idle ∷ [])
       (after_id id) kind asks no_tags (after_id id) progress.Proposed (refused ∷ kind ∷ []) after
 
   -- a Response of the current method, which asks again
-  pub goes_on_as : (form : Bool) → made.setup.expanded ≡ form → (id kind : ℕ) (body last : List ℕ) (at : Progress) (proposed : List ℕ) (views after : ServerViews)
+  pub continues_as : (form : Bool) → made.setup.expanded ≡ form → (id kind : ℕ) (body last : List ℕ) (at : Progress) (proposed : List ℕ) (views after : ServerViews)
       (checks : List ℕ) (tags : Tags)
       → IsMethod kind → length body ≤ 1488
       → server_turn made.setup.users (after_id id) kind views (spelled (response id kind body))
       ≡ record { turn = turn.Request (spelled (request (after_id id) kind checks)) tags; after = after }
       → (let packet = carried form (spelled (request (after_id id) kind checks)) in
-      server_hears (server_at made id kind at last proposed views) (carried form (spelled (response id kind body)))
+      server_receives (server_at made id kind at last proposed views) (carried form (spelled (response id kind body)))
       ≡ replies (state.Received ∷ state.IntegrityCheck ∷ state.MethodResponse ∷ state.MethodRequest ∷ state.SendRequest ∷ state.Idle ∷ []) packet tags
       (server_at made (after_id id) kind progress.Continue packet proposed after))
-  goes_on_as false is id kind body last at proposed views after checks tags method fits turned =
+  continues_as false is id kind body last at proposed views after checks tags method fits turned =
       reads_none _ _ is
       ∙ goes_on made _ id kind body last at proposed views after _ tags (answers_read false id kind body method fits)
       method.not_nak method.not_identity turned
-  goes_on_as true is id kind body last at proposed views after checks tags method fits turned =
+  continues_as true is id kind body last at proposed views after checks tags method fits turned =
       reads_wrapped (server_at made id kind at last proposed views) id kind body is refl method fits
       ∙ ap wraps (goes_on made _ id kind body last at proposed views after _ tags (answers_read false id kind body method fits)
       method.not_nak method.not_identity turned)
@@ -289,7 +289,7 @@ module _ (made : Made) where
       (tags : Tags)
       → IsMethod kind → length body ≤ 1488
       → server_turn made.setup.users (after_id id) kind views (spelled (response id kind body)) ≡ record { turn = turn.Done true tags; after = after }
-      → server_hears (server_at made id kind at last proposed views) (carried form (spelled (response id kind body)))
+      → server_receives (server_at made id kind at last proposed views) (carried form (spelled (response id kind body)))
       ≡ replies (before_proposal way.AfterResponse ++ state.Success ∷ []) (success_packet id) tags (server_done made id kind last proposed after)
   finishes_as false is id kind body last at proposed views after tags method fits turned =
       reads_none _ _ is
@@ -306,15 +306,15 @@ pub picks_up_as : (form : Bool) (setup : ServerSetup) → setup.expanded ≡ for
     (octets : List ℕ) (id kind : ℕ) (name : List ℕ) (after : ServerViews) (asks : List ℕ)
     → packet_of octets ≡ Ok (response id 1 name)
     → next_kind setup.methods [] None ≡ Some kind
-    → IsOffer (backend setup first_id max_retrans) kind (after_id id) (views_begun setup) (spelled (request (after_id id) kind asks)) after
-    → (let packet = carried form (spelled (request (after_id id) kind asks)) in server_hears (server_made role.Backend setup first_id max_retrans) octets
+    → IsOffer (backend setup first_id max_retrans) kind (after_id id) (views_started setup) (spelled (request (after_id id) kind asks)) after
+    → (let packet = carried form (spelled (request (after_id id) kind asks)) in server_receives (initial_server role.Backend setup first_id max_retrans) octets
     ≡ replies (before_proposal way.FirstIdentity ++ state.ProposeMethod ∷ state.MethodRequest ∷ state.SendRequest ∷ state.Idle ∷ []) packet no_tags
     (server_at (backend setup first_id max_retrans) (after_id id) kind progress.Proposed packet (kind ∷ []) after))
 picks_up_as false setup is first_id max_retrans octets id kind name after asks read chosen offered =
-    reads_none (server_made role.Backend setup first_id max_retrans) octets is
+    reads_none (initial_server role.Backend setup first_id max_retrans) octets is
     ∙ picks_up setup first_id max_retrans octets id kind name after _ read chosen offered
 picks_up_as true setup is first_id max_retrans octets id kind name after asks read chosen offered =
-    reads_identity (server_made role.Backend setup first_id max_retrans) octets id name is refl read
+    reads_identity (initial_server role.Backend setup first_id max_retrans) octets id name is refl read
     ∙ ap wraps (picks_up setup first_id max_retrans octets id kind name after _ read chosen offered)
     ∙ wraps_request (backend setup first_id max_retrans)
     (before_proposal way.FirstIdentity ++ state.ProposeMethod ∷ state.MethodRequest ∷ state.SendRequest ∷ state.Idle ∷ [])

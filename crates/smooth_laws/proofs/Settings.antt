@@ -17,17 +17,17 @@ use Rattle.eap_packet.specs.declared.state.State.{State}
 use Rattle.peer_machine.specs.Inputs as peer_inputs
 use Rattle.peer_machine.specs.PeerTable.{PeerNow}
 use Rattle.server_machine.specs.Expanded.{response_octets, discards_bad, wraps_sent}
-use Rattle.server_machine.specs.Inputs.{ServerInput, server_answers, server_takes}
+use Rattle.server_machine.specs.Inputs.{ServerInput, server_answers, server_accepts}
 use Rattle.server_machine.specs.Inputs as inputs
 use Rattle.server_machine.specs.Rows.{Selects, after_identity, after_nak, first_identity, first_nak, first_other, ServerRow, ended, rests}
 use Rattle.server_machine.specs.Rows.{goes_on, drops, starts, resends, times_out, proposes, proposes_without, proposes_none, requests, begins}
 use Rattle.server_machine.specs.Rows.{succeeds, method_fails}
 use Rattle.server_machine.specs.ServerTable.{ServerNow, ServerAnswer, awaits_first, is_backend, server_deliver, server_restart, server_start}
 use Rattle.server_machine.specs.declared.variables.ServerVariables.{ServerVariables}
-use Rattle.server_machine.proofs.Hearing.{ServerHearing, as_it_is, bad, wrapping, server_hears_so}
+use Rattle.server_machine.proofs.Receiving.{ServerReceiving, as_it_is, bad, wrapping, server_receives_so}
 use Rattle.server_machine.proofs.ServerRows.{server_answers_are_rows}
 use Rattle.pass_through.specs.Inputs.{PassInput}
-use Rattle.pass_through.specs.PassTable.{PassAnswer, pass_made, pass_restart, pass_start}
+use Rattle.pass_through.specs.PassTable.{PassAnswer, initial_pass, pass_restart, pass_start}
 use Rattle.pass_through.specs.Rows as rows
 use Rattle.pass_through.specs.Rows.{PassRow}
 use Rattle.pass_through.specs.declared.variables.PassVariables.{PassVariables}
@@ -36,11 +36,11 @@ use Rattle.eap_world.specs.Run.{run_of}
 use Rattle.eap_world.specs.Conversations.{Conversations}
 use Rattle.eap_world.specs.Sent.{Sent, packet_numbered}
 use Rattle.eap_world.specs.World.{Acted, Call, Parties, WorldNow, WorldOutcome, act, alteration, call_at, call_with, act_of_call, called_unless, first_skip, has_none}
-use Rattle.eap_world.specs.World.{is_absent, next_call, octets_of, packet_skips, role_in, run_after, timer_skips, to_pass, to_peer, to_server, world_made, world_start, world_step}
+use Rattle.eap_world.specs.World.{is_absent, next_call, octets_of, packet_skips, role_in, run_after, timer_skips, to_pass, to_peer, to_server, initial_world, world_start, world_step}
 use Rattle.eap_world.specs.declared.conversations.Waiting.{Waiting}
 use Rattle.eap_world.specs.declared.told.Skip.{Skip}
 use Rattle.eap_world.specs.declared.told.Skip.TheVariants.{Ended, NoNonce, NoParty, Place, Unsent}
-use Rattle.world_laws.proofs.Acting.{Steps, calls, peer_restarts, run_keeps, server_restarts, skips}
+use Rattle.world_laws.proofs.Acting.{Steps, calls, peer_restarts, run_preserves, server_restarts, skips}
 use Rattle.smooth_laws.proofs.Moves.{parties_at}
 
 -- ---- the server
@@ -70,7 +70,7 @@ restart-same now nonce =
 row-same : (now : ServerNow) (input : ServerInput) (out : ServerAnswer) → ServerRow now input out → SameServer now.vars out.after.vars
 row-same now _ _ (ended bytes over) = same_server now.vars
 row-same now _ _ (rests over) = same_server now.vars
-row-same now _ _ (goes_on is_begun) = same_server now.vars
+row-same now _ _ (goes_on is_initiated) = same_server now.vars
 row-same now _ _ (drops bytes path c going why) = same_server now.vars
 row-same now _ _ (starts unstarted) = record { role = refl; first_id = refl; max_retrans = refl }
 row-same now _ _ (resends going in_time) = record { role = refl; first_id = refl; max_retrans = refl }
@@ -99,17 +99,17 @@ bad-same : (now : ServerNow) → SameServer now.vars (discards_bad now).after.va
 bad-same now =
     cond_both (awaits_first now.vars) _ _ (λ (next : ServerAnswer). SameServer now.vars next.after.vars) (λ _. same_server now.vars) (λ _. same_server now.vars)
 
-hearing-same : (now : ServerNow) (bytes : List ℕ) (out : ServerAnswer) → ServerHearing now bytes out → SameServer now.vars out.after.vars
-hearing-same now bytes _ as_it_is = input-same now (inputs.octets bytes)
-hearing-same now bytes _ (bad id kind body answers is_bad) = bad-same now
-hearing-same now bytes _ (wrapping id kind body answers good) =
+receiving-same : (now : ServerNow) (bytes : List ℕ) (out : ServerAnswer) → ServerReceiving now bytes out → SameServer now.vars out.after.vars
+receiving-same now bytes _ as_it_is = input-same now (inputs.octets bytes)
+receiving-same now bytes _ (bad id kind body answers is_bad) = bad-same now
+receiving-same now bytes _ (wrapping id kind body answers good) =
     let plain = response_octets now.vars bytes id kind body in
     wraps-same now.vars (server_deliver now plain) (server_deliver now plain).step.sent (input-same now (inputs.octets plain))
 
-server-same : (now : ServerNow) (input : ServerInput) → SameServer now.vars (server_takes now input).after.vars
+server-same : (now : ServerNow) (input : ServerInput) → SameServer now.vars (server_accepts now input).after.vars
 server-same now inputs.start = input-same now inputs.start
 server-same now inputs.timeout = input-same now inputs.timeout
-server-same now (inputs.octets bytes) = hearing-same now bytes _ (server_hears_so now bytes)
+server-same now (inputs.octets bytes) = receiving-same now bytes _ (server_receives_so now bytes)
 server-same now (inputs.restart nonce) = restart-same now nonce
 
 -- ---- the pass-through
@@ -129,11 +129,11 @@ pass-row-same vars _ _ (rows.resends entered stay over place in_time) = record {
 pass-row-same vars _ _ (rows.times_out entered stay over place late) = record { first_id = refl; max_retrans = refl }
 pass-row-same vars _ _ (rows.loses_server stands) = record { first_id = refl; max_retrans = refl }
 pass-row-same vars _ _ (rows.asks_nothing stands) = record { first_id = refl; max_retrans = refl }
-pass-row-same vars _ _ (rows.hands_identity octets id body stands is_packet is_id) = record { first_id = refl; max_retrans = refl }
-pass-row-same vars _ _ (rows.hands_response octets id kind body stands is_packet is_id) = record { first_id = refl; max_retrans = refl }
-pass-row-same vars _ _ (rows.hands_request octets id kind body stands is_packet) = record { first_id = refl; max_retrans = refl }
-pass-row-same vars _ _ (rows.hands_success octets id stands is_packet) = record { first_id = refl; max_retrans = refl }
-pass-row-same vars _ _ (rows.hands_failure octets id stands is_packet) = record { first_id = refl; max_retrans = refl }
+pass-row-same vars _ _ (rows.passes_identity octets id body stands is_packet is_id) = record { first_id = refl; max_retrans = refl }
+pass-row-same vars _ _ (rows.passes_response octets id kind body stands is_packet is_id) = record { first_id = refl; max_retrans = refl }
+pass-row-same vars _ _ (rows.passes_request octets id kind body stands is_packet) = record { first_id = refl; max_retrans = refl }
+pass-row-same vars _ _ (rows.passes_success octets id stands is_packet) = record { first_id = refl; max_retrans = refl }
+pass-row-same vars _ _ (rows.passes_failure octets id stands is_packet) = record { first_id = refl; max_retrans = refl }
 
 -- ---- all parties
 
@@ -182,14 +182,14 @@ module _ (setup : Setup) where
   step-set w _ (peer_restarts one left next) h = call-set w.parties (to_peer (peer_inputs.restart one.nonce)) h
   step-set w _ (server_restarts one left next) h = call-set w.parties (to_server (inputs.restart one.nonce)) h
 
-start-set : (runs : Mode) (setup : Setup) → AreSet (record setup { mode = runs }) (world_start (world_made (record setup { mode = runs }))).after.parties
+start-set : (runs : Mode) (setup : Setup) → AreSet (record setup { mode = runs }) (world_start (initial_world (record setup { mode = runs }))).after.parties
 unfolding world_start server_start pass_start
 start-set mode.Alone setup = record { mode = refl; role = refl; first_id = refl; max_retrans = refl; pass_first_id = refl; pass_max_retrans = refl }
 start-set mode.Through setup = record { mode = refl; role = refl; first_id = refl; max_retrans = refl; pass_first_id = refl; pass_max_retrans = refl }
 
 pub run_is_set : (setup : Setup) (events : List Event) → AreSet setup (run_of setup events).parties
 run_is_set setup events =
-    run_keeps (λ (w : WorldNow). AreSet setup w.parties) (step-set setup) (world_start (world_made setup)).after events (start-set setup.mode setup)
+    run_preserves (λ (w : WorldNow). AreSet setup w.parties) (step-set setup) (world_start (initial_world setup)).after events (start-set setup.mode setup)
 
 -- ---- alone the pass-through stands as it was made
 
@@ -198,41 +198,41 @@ module _ (peer : PeerNow) (server : ServerNow) (vars : PassVariables) where
   P = parties_at mode.Alone peer server vars
 
   -- it does what it will, and the pass-through and the mode are the same
-  record Keeps (out : Acted) : Type 0 where
+  record Preserves (out : Acted) : Type 0 where
     mode : out.after.mode ≡ mode.Alone
     pass : out.after.pass ≡ vars
 
-  to-peer-keeps : (skip : Option Skip) (input : peer_inputs.PeerInput) → Keeps (called_unless P skip (Some (to_peer input)))
+  to-peer-keeps : (skip : Option Skip) (input : peer_inputs.PeerInput) → Preserves (called_unless P skip (Some (to_peer input)))
   to-peer-keeps None input = record { mode = refl; pass = refl }
   to-peer-keeps (Some skip) input = record { mode = refl; pass = refl }
 
-  to-server-keeps : (skip : Option Skip) (input : ServerInput) → Keeps (called_unless P skip (Some (to_server input)))
+  to-server-keeps : (skip : Option Skip) (input : ServerInput) → Preserves (called_unless P skip (Some (to_server input)))
   to-server-keeps None input = record { mode = refl; pass = refl }
   to-server-keeps (Some skip) input = record { mode = refl; pass = refl }
 
   at-port-keeps : (to : Port) (more : List (Bool × Skip)) (octets : List ℕ)
-      → Keeps (called_unless P (first_skip ((is_absent mode.Alone to, NoParty) ∷ more)) (Some (call_at to octets)))
+      → Preserves (called_unless P (first_skip ((is_absent mode.Alone to, NoParty) ∷ more)) (Some (call_at to octets)))
   at-port-keeps port.Peer more octets = to-peer-keeps (first_skip more) (peer_inputs.octets octets)
   at-port-keeps port.Server more octets = to-server-keeps (first_skip more) (inputs.octets octets)
   at-port-keeps port.PassPeer more octets = record { mode = refl; pass = refl }
   at-port-keeps port.PassServer more octets = record { mode = refl; pass = refl }
 
   handed-keeps : (packet : Option Sent) (is_misplaced : Bool) (octets : List ℕ)
-      → Keeps (called_unless P (first_skip (packet_skips mode.Alone packet is_misplaced)) (call_with packet octets))
+      → Preserves (called_unless P (first_skip (packet_skips mode.Alone packet is_misplaced)) (call_with packet octets))
   handed-keeps None is_misplaced octets = record { mode = refl; pass = refl }
   handed-keeps (Some packet) is_misplaced octets = at-port-keeps packet.port ((false, Unsent) ∷ (is_misplaced, Place) ∷ []) octets
 
   peer-left-keeps : (left : List Waiting)
-      → Keeps (called_unless P (first_skip ((has_none left, NoNonce) ∷ [])) (next_call (λ nonce. to_peer (peer_inputs.restart nonce)) left))
+      → Preserves (called_unless P (first_skip ((has_none left, NoNonce) ∷ [])) (next_call (λ nonce. to_peer (peer_inputs.restart nonce)) left))
   peer-left-keeps [] = record { mode = refl; pass = refl }
   peer-left-keeps (one ∷ left) = record { mode = refl; pass = refl }
 
   server-left-keeps : (left : List Waiting)
-      → Keeps (called_unless P (first_skip ((has_none left, NoNonce) ∷ [])) (next_call (λ nonce. to_server (inputs.restart nonce)) left))
+      → Preserves (called_unless P (first_skip ((has_none left, NoNonce) ∷ [])) (next_call (λ nonce. to_server (inputs.restart nonce)) left))
   server-left-keeps [] = record { mode = refl; pass = refl }
   server-left-keeps (one ∷ left) = record { mode = refl; pass = refl }
 
-  event-keeps : (all : Conversations) (sent : List Sent) (e : Event) → Keeps (act P all sent e)
+  event-keeps : (all : Conversations) (sent : List Sent) (e : Event) → Preserves (act P all sent e)
   unfolding act
   event-keeps all sent (event.Deliver n) = handed-keeps (packet_numbered sent n) false (octets_of (packet_numbered sent n))
   event-keeps all sent (event.Alter n place mask) =
@@ -274,12 +274,12 @@ stays-idle vars w [] h = h
 stays-idle vars w (e ∷ rest) h = stays-idle vars (world_step w e).after rest (step-idle vars w e h)
 
 starts-idle : (runs : Mode) (setup : Setup) → runs ≡ mode.Alone
-    → IsIdle (pass_made setup.first_id setup.max_retrans) (world_start (world_made (record setup { mode = runs }))).after.parties
+    → IsIdle (initial_pass setup.first_id setup.max_retrans) (world_start (initial_world (record setup { mode = runs }))).after.parties
 unfolding world_start server_start
 starts-idle mode.Alone setup is = record { mode = refl; pass = refl }
 starts-idle mode.Through setup is = cc is
 
 pub run_is_idle : (setup : Setup) (events : List Event) → setup.mode ≡ mode.Alone
-    → IsIdle (pass_made setup.first_id setup.max_retrans) (run_of setup events).parties
+    → IsIdle (initial_pass setup.first_id setup.max_retrans) (run_of setup events).parties
 run_is_idle setup events alone =
-    stays-idle (pass_made setup.first_id setup.max_retrans) (world_start (world_made setup)).after events (starts-idle setup.mode setup alone)
+    stays-idle (initial_pass setup.first_id setup.max_retrans) (world_start (initial_world setup)).after events (starts-idle setup.mode setup alone)

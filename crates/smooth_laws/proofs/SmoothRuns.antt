@@ -11,15 +11,15 @@ use Rattle.login_setup.specs.declared.setup.Mode.TheVariants as mode
 use Rattle.login_setup.specs.declared.setup.Setup.{Setup}
 use Rattle.octet_lists.specs.Among.{is_among, is_kind, are_distinct}
 use Rattle.login_policy.specs.Policy.{next_kind, nak_of}
-use Rattle.eap_method.specs.Server.{ServerViews, views_begun}
+use Rattle.eap_method.specs.Server.{ServerViews, views_started}
 use Rattle.eap_world.specs.Run.{run_of}
 use Rattle.world_laws.specs.Agreement.{IsWhole}
 use Rattle.tag_book.specs.Book.{verdict_on, tags_verdict}
 use Rattle.tag_book.specs.declared.book.TagsVerdict.TheVariants.{Honest}
 use Rattle.eap_world.specs.Judgement.{is_success}
-use Rattle.eap_world.specs.World.{WorldNow, run_after, world_made, world_start}
+use Rattle.eap_world.specs.World.{WorldNow, run_after, initial_world, world_start}
 use Rattle.world_laws.proofs.HonestRuns.{honest_ends_agree}
-use Rattle.smooth_laws.specs.Smooth.{EndsFit, HasShortNames, IsLoggedIn, SmoothLoginsSucceed, event_bound, bound_in, deliveries, takes_first}
+use Rattle.smooth_laws.specs.Smooth.{EndsCompatible, HasShortNames, IsLoggedIn, SmoothLoginsSucceed, event_bound, bound_in, deliveries, takes_first}
 use Rattle.smooth_laws.proofs.Choosing.{found_passes, found_among, found_as_all, first_is_next, allowed_is_common, common_is_next}
 use Rattle.smooth_laws.proofs.Exchange.{exchanged, number_after}
 use Rattle.smooth_laws.proofs.Methods.{Has, few_kinds, has_each, offers_of, short, talks_of}
@@ -27,21 +27,21 @@ use Rattle.smooth_laws.proofs.Naks.{reads_back}
 use Rattle.smooth_laws.proofs.Opening.{in_mode, made_in, number_opened, opened, opens, proposes_next, started}
 use Rattle.smooth_laws.proofs.ServerSide.{after_id}
 use Rattle.smooth_laws.proofs.Talk.{EndsWell, Talks, ids_differ, last_number, talked, talks_through}
-use Rattle.smooth_laws.proofs.Moves.{BothIn, all_begun, delivered, stay_in}
+use Rattle.smooth_laws.proofs.Moves.{BothIn, all_started, delivered, stay_in}
 
 -- both ends have succeeded after so many deliveries, and the peer not before
 abbrev SucceedsAt : Setup → ℕ → Type 0
 SucceedsAt setup number = EndsWell (run_of setup (deliveries 1 (number - 1))) (run_of setup (deliveries 1 number)) number
 
 -- the first deliveries of more
-pub take_deliveries : (first count more : ℕ) → count ≤ more → take count (deliveries first more) ≡ deliveries first count
+pub prefix_deliveries : (first count more : ℕ) → count ≤ more → take count (deliveries first more) ≡ deliveries first count
 unfolding deliveries
-take_deliveries first zero more few = refl
-take_deliveries first (suc count) zero few = absurd (omega arith)
-take_deliveries first (suc count) (suc more) few = ap (λ (rest : List Event). Deliver first ∷ rest) (take_deliveries (first + 1) count more (omega arith))
+prefix_deliveries first zero more few = refl
+prefix_deliveries first (suc count) zero few = absurd (omega arith)
+prefix_deliveries first (suc count) (suc more) few = ap (λ (rest : List Event). Deliver first ∷ rest) (prefix_deliveries (first + 1) count more (omega arith))
 
 module _ (setup : Setup) (whole : IsWhole setup) (names : HasShortNames setup) where
-  module _ (fit : EndsFit setup) where
+  module _ (fit : EndsCompatible setup) where
     -- how a method's packets travel
     abbrev form : Bool
     form = setup.server.expanded
@@ -55,7 +55,7 @@ module _ (setup : Setup) (whole : IsWhole setup) (names : HasShortNames setup) w
     talks : (runs : Mode) (id : ℕ) (begun : ServerViews) → Has begun fit.kind → Talks setup.peer (made_in runs setup) fit.kind id begun
     talks runs id begun has = talks_of setup whole names runs fit.kind id fit.user allowed fit.known fit.not_barred fit.one_key fit.accepted fit.suite begun has
 
-    begins : Has (views_begun setup.server) fit.kind
+    begins : Has (views_started setup.server) fit.kind
     begins = has_each setup.server fit.kind (found_as_all (is_among setup.peer.methods) is_kind setup.server.methods fit.kind fit.common kinds)
         (found_among (is_among setup.peer.methods) setup.server.methods fit.kind fit.common)
 
@@ -72,11 +72,11 @@ module _ (setup : Setup) (whole : IsWhole setup) (names : HasShortNames setup) w
         EndsWell w (delivered w (last_number runs n)) (last_number runs n))
     logs_in_alike runs first rest order takes =
         let id : ℕ = after_id setup.first_id in
-        let talk = talks runs id (views_begun setup.server) begins in
+        let talk = talks runs id (views_started setup.server) begins in
         let same = allowed_is_common setup.peer.methods first fit.kind rest takes (common_in first rest order) in
-        talks_through setup.peer (made_in runs setup) fit.kind id (views_begun setup.server) talk runs form (opened runs (started runs setup))
+        talks_through setup.peer (made_in runs setup) fit.kind id (views_started setup.server) talk runs form (opened runs (started runs setup))
         (number_opened runs) setup.first_id _ _ (fit.kind ∷ []) fit.reads refl (ids_differ setup.first_id) allowed
-        (opens setup runs form refl fit.kind talk.asks talk.asked names.peer talk.is_method talk.asks_fits
+        (opens setup runs form refl fit.kind talk.asks talk.asked names.peer talk.is_method talk.asks_bounded
         (first_chosen first rest order ∙ ap (λ (kind : ℕ). Some kind) same) talk.offered)
 
     -- the peer refuses it
@@ -89,7 +89,7 @@ module _ (setup : Setup) (whole : IsWhole setup) (names : HasShortNames setup) w
         let w : WorldNow = opened runs (started runs setup) in
         let id : ℕ = after_id setup.first_id in
         let is_first = and_parts (is_kind first) (list_all is_kind rest) (ap (list_all is_kind) (sym order) ∙ kinds) in
-        let offer = offers_of (made_in runs setup) (short setup whole names) first id (views_begun setup.server)
+        let offer = offers_of (made_in runs setup) (short setup whole names) first id (views_started setup.server)
         (has_each setup.server first is_first.0 (ap (λ (methods : List ℕ). is_among methods first) order ∙ or_left (first == first) (is_among rest first)
         (eq-eqb first first refl))) in
         let talk = talks runs (after_id id) offer.asked (offer.keeps fit.kind begins) in
@@ -99,7 +99,7 @@ module _ (setup : Setup) (whole : IsWhole setup) (names : HasShortNames setup) w
         (exchanged runs (exchanged runs w n) (number_after runs n)) (number_after runs (number_after runs n))
         id _ _ (first ∷ fit.kind ∷ []) fit.reads refl (ids_differ id) allowed
         (proposes_next setup.peer (made_in runs setup) runs form w n id first fit.kind setup.first_id offer.asks _ talk.asks offer.asked talk.asked
-        fit.reads refl offer.is_method talk.is_method offer.fits talk.asks_fits
+        fit.reads refl offer.is_method talk.is_method offer.fits talk.asks_bounded
         (reads_back setup.peer.methods whole.peer.methods (few_kinds setup.peer.methods whole.peer.methods)) (ids_differ setup.first_id)
         refuses next talk.offered
         (opens setup runs form refl first offer.asks offer.asked names.peer offer.is_method offer.fits (first_chosen first rest order) offer.offered))
@@ -121,9 +121,9 @@ module _ (setup : Setup) (whole : IsWhole setup) (names : HasShortNames setup) w
     logs_in = logs_in_at setup.mode setup.server.methods refl
 
 -- deliveries alone begin no second conversation
-begun_once : (setup : Setup) (count : ℕ) → length (run_of setup (deliveries 1 count)).conversations.begun ≡ 2
+started_once : (setup : Setup) (count : ℕ) → length (run_of setup (deliveries 1 count)).conversations.begun ≡ 2
 unfolding world_start
-begun_once setup count = ap length (all_begun (world_start (world_made setup)).after 1 count)
+started_once setup count = ap length (all_started (world_start (initial_world setup)).after 1 count)
 
 -- both ends in SUCCESS over an honest book agree
 is_logged_in : (setup : Setup) (events : List Event) (number : ℕ) → IsWhole setup → length (run_of setup events).conversations.begun ≡ 2
@@ -156,18 +156,18 @@ smooth_logins_succeed setup events whole names fit order enough =
     let most : ℕ = event_bound setup in
     let succeeds : SucceedsAt setup most = logs_in setup whole names fit in
     let first : (count : ℕ) → count ≤ length events → take count events ≡ deliveries 1 count =
-    λ count few. ap (λ (all : List Event). take count all) order ∙ take_deliveries 1 count (length events) few in
+    λ count few. ap (λ (all : List Event). take count all) order ∙ prefix_deliveries 1 count (length events) few in
     let parts : most + (length events - most) ≡ length events = omega arith in
     let all : run_of setup events ≡ run_after (run_of setup (deliveries 1 most)) (deliveries (1 + most) (length events - most)) =
-    ap (run_of setup) (order ∙ ap (deliveries 1) (sym parts)) ∙ run_parted (world_start (world_made setup)).after 1 most (length events - most) in
+    ap (run_of setup) (order ∙ ap (deliveries 1) (sym parts)) ∙ run_parted (world_start (initial_world setup)).after 1 most (length events - most) in
     let stays : BothIn (run_of setup events) most =
     subst (λ (w : WorldNow). BothIn w most) (sym all)
     (stay_in (run_of setup (deliveries 1 most)) most (1 + most) (length events - most) succeeds.both (omega arith)) in
     let once : length (run_of setup events).conversations.begun ≡ 2 =
-    subst (λ (some : List Event). length (run_of setup some).conversations.begun ≡ 2) (sym order) (begun_once setup (length events)) in
+    subst (λ (some : List Event). length (run_of setup some).conversations.begun ≡ 2) (sym order) (started_once setup (length events)) in
     record {
       not_before = ap (λ (some : List Event). is_success (run_of setup some).parties.peer.vars.state) (first (most - 1) (omega arith)) ∙ succeeds.waits;
       in_time = subst (λ (some : List Event). IsLoggedIn (run_of setup some)) (sym (first most enough))
-          (is_logged_in setup (deliveries 1 most) most whole (begun_once setup most) succeeds.both);
+          (is_logged_in setup (deliveries 1 most) most whole (started_once setup most) succeeds.both);
       stays = is_logged_in setup events most whole once stays;
     }

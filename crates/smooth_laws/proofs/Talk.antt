@@ -7,7 +7,7 @@ use Rattle.login_setup.specs.declared.setup.PeerSetup.{PeerSetup}
 use Rattle.login_setup.specs.declared.setup.ServerSetup.{ServerSetup}
 use Rattle.octet_lists.specs.Among.{is_among}
 use Rattle.eap_packet.specs.Packet.{request, response, success, spelled}
-use Rattle.eap_method.specs.Peer.{PeerViews, peer_turn, views_begun}
+use Rattle.eap_method.specs.Peer.{PeerViews, peer_turn, views_started}
 use Rattle.eap_method.specs.PeerTurn.{Reply}
 use Rattle.eap_method.specs.Server.{ServerViews, server_turn}
 use Rattle.eap_method.specs.ServerTurn.{Request, Done}
@@ -47,10 +47,10 @@ pub record Talks (peer : PeerSetup) (made : Made) (kind id : ℕ) (begun : Serve
   pub answers : List ℕ
   pub checks : List ℕ
   pub confirms : List ℕ
-  pub asks_fits : length asks ≤ 1488
-  pub answers_fits : length answers ≤ 1488
-  pub checks_fits : length checks ≤ 1488
-  pub confirms_fits : length confirms ≤ 1488
+  pub asks_bounded : length asks ≤ 1488
+  pub answers_bounded : length answers ≤ 1488
+  pub checks_bounded : length checks ≤ 1488
+  pub confirms_bounded : length confirms ≤ 1488
   pub waiting : PeerViews
   pub over : PeerViews
   pub asked : ServerViews
@@ -62,7 +62,7 @@ pub record Talks (peer : PeerSetup) (made : Made) (kind id : ℕ) (begun : Serve
   pub check_tags : List TagRecord
   pub confirm_tags : List TagRecord
   pub offered : IsOffer made kind id begun (spelled (request id kind asks)) asked
-  pub answered : peer_turn kind (views_begun peer) (spelled (request id kind asks))
+  pub answered : peer_turn kind (views_started peer) (spelled (request id kind asks))
       ≡ record { turn = Reply (spelled (response id kind answers)) method.Cont decision.Fail (tags_of [] answer_tags); after = waiting }
   pub was_checked : server_turn made.setup.users (after_id id) kind asked (spelled (response id kind answers))
       ≡ record { turn = Request (spelled (request (after_id id) kind checks)) (tags_of answer_tags check_tags); after = checked }
@@ -123,23 +123,23 @@ talks_through peer made kind id begun talk runs form w number last said was prop
     let s_3 : ServerNow = server_done made next kind third proposed talk.finished in
     let answered : ToServer w_2 runs n_2 p_2 s_1 second talk.answer_tags =
     peer_turns runs w number id (kind_as form kind) p_1 s_1 first [] to _ second (body_as form kind talk.answers) talk.answer_tags p_2
-    (answers_read form id kind talk.answers m talk.answers_fits) (response_carried_whole form id kind talk.answers)
-    (peers.begins_as peer form reads id kind talk.asks last said talk.answers method.Cont decision.Fail _ talk.waiting
-    m talk.asks_fits new allowed talk.answered refl) in
+    (answers_read form id kind talk.answers m talk.answers_bounded) (response_carried_whole form id kind talk.answers)
+    (peers.starts_as peer form reads id kind talk.asks last said talk.answers method.Cont decision.Fail _ talk.waiting
+    m talk.asks_bounded new allowed talk.answered refl) in
     let checked : ToPeer w_3 runs n_3 next p_2 s_2 third talk.check_tags =
     server_turns runs w_2 n_2 next (kind_as form kind) p_2 s_1 second talk.answer_tags answered _ third (body_as form kind talk.checks) talk.check_tags s_2
-    (asks_read form next kind talk.checks m talk.checks_fits) (request_carried_whole form next kind talk.checks)
-    (servers.goes_on_as made form writes id kind talk.answers was progress.Proposed proposed talk.asked talk.checked talk.checks _
-    m talk.answers_fits talk.was_checked) in
+    (asks_read form next kind talk.checks m talk.checks_bounded) (request_carried_whole form next kind talk.checks)
+    (servers.continues_as made form writes id kind talk.answers was progress.Proposed proposed talk.asked talk.checked talk.checks _
+    m talk.answers_bounded talk.was_checked) in
     let confirmed : ToServer w_4 runs n_4 p_3 s_2 fourth talk.confirm_tags =
     peer_turns runs w_3 n_3 next (kind_as form kind) p_2 s_2 third talk.check_tags checked _ fourth (body_as form kind talk.confirms) talk.confirm_tags p_3
-    (answers_read form next kind talk.confirms m talk.confirms_fits) (response_carried_whole form next kind talk.confirms)
-    (peers.goes_on_as peer form reads next kind talk.checks id second method.Cont decision.Fail talk.waiting talk.confirms method.Done talk.decided _
-    talk.over m talk.checks_fits (ids_differ id) refl talk.confirmed talk.sure) in
+    (answers_read form next kind talk.confirms m talk.confirms_bounded) (response_carried_whole form next kind talk.confirms)
+    (peers.continues_as peer form reads next kind talk.checks id second method.Cont decision.Fail talk.waiting talk.confirms method.Done talk.decided _
+    talk.over m talk.checks_bounded (ids_differ id) refl talk.confirmed talk.sure) in
     let ended : EndsAtPeer w_5 runs n_5 p_3 s_3 (spelled (success next)) [] =
     server_ends runs w_4 n_4 next p_3 s_2 fourth talk.confirm_tags confirmed _ [] s_3
     (servers.finishes_as made form writes next kind talk.confirms third progress.Continue proposed talk.checked talk.finished _
-    m talk.confirms_fits talk.was_finished) in
+    m talk.confirms_bounded talk.was_finished) in
     record {
       waits = ap (λ (all : Parties). is_success all.peer.vars.state) ended.stage.parties;
       both = peer_ends w_5 runs n_5 p_3 s_3 ended.pass (spelled (success next)) [] ended.stage _ _

@@ -10,7 +10,7 @@ use Rattle.tag_book.specs.declared.book.End.{End}
 use Rattle.tag_book.specs.declared.book.End.TheVariants.{Peer, Server}
 use Rattle.tag_book.specs.declared.book.Use.TheVariants.{Accepted, Made}
 use Rattle.tag_book.specs.declared.book.Entry.{Entry}
-use Rattle.tag_book.specs.declared.book.Makers.TheVariants.{Other}
+use Rattle.tag_book.specs.declared.book.MadeBy.TheVariants.{Other}
 use Rattle.tag_book.proofs.FirstBroken.{passed}
 use Rattle.world_laws.proofs.TagsOfEnds.{unbroken}
 
@@ -57,14 +57,14 @@ makes event Peer tag = same_tag_same tag
 makes event Server tag = same_tag_same tag
 
 -- what an end makes is vouched for at the other
-made_vouched : (event : ℕ) (end : End) (book : List Entry) (tags : List TagRecord)
+created_vouched : (event : ℕ) (end : End) (book : List Entry) (tags : List TagRecord)
     → are_vouched (book ++ map (entry event end Made) tags) (other_end end) tags ≡ true
-made_vouched event end book [] = refl
-made_vouched event end book (tag ∷ rest) =
+created_vouched event end book [] = refl
+created_vouched event end book (tag ∷ rest) =
     let made : List Entry = map (entry event end Made) rest in
     and_from _ _ (any_there (vouches Other (entry 0 (other_end end) Accepted tag)) book (entry event end Made tag) made (makes event end tag))
     (ap (λ (all : List Entry). are_vouched all (other_end end) rest) (sym (append_assoc book (entry event end Made tag ∷ []) made))
-    ∙ made_vouched event end (book ++ entry event end Made tag ∷ []) rest)
+    ∙ created_vouched event end (book ++ entry event end Made tag ∷ []) rest)
 
 broken_append : (earlier one other : List Entry) → first_broken Other earlier one ≡ None
     → first_broken Other earlier (one ++ other) ≡ first_broken Other (earlier ++ one) other
@@ -75,10 +75,10 @@ broken_append earlier (e ∷ rest) other none =
     ∙ broken_append (earlier ++ e ∷ []) rest other u.behind
     ∙ ap (λ (all : List Entry). first_broken Other all other) (append_assoc earlier (e ∷ []) rest)
 
-made_passed : (event : ℕ) (end : End) (earlier : List Entry) (tags : List TagRecord) → first_broken Other earlier (map (entry event end Made) tags) ≡ None
+created_passed : (event : ℕ) (end : End) (earlier : List Entry) (tags : List TagRecord) → first_broken Other earlier (map (entry event end Made) tags) ≡ None
 unfolding first_broken
-made_passed event end earlier [] = refl
-made_passed event end earlier (tag ∷ rest) = made_passed event end (earlier ++ entry event end Made tag ∷ []) rest
+created_passed event end earlier [] = refl
+created_passed event end earlier (tag ∷ rest) = created_passed event end (earlier ++ entry event end Made tag ∷ []) rest
 
 accepted_passed : (event : ℕ) (end : End) (earlier : List Entry) (tags : List TagRecord) (rest : List Entry) → are_vouched earlier end tags ≡ true
     → first_broken Other earlier (map (entry event end Accepted) tags ++ rest) ≡ first_broken Other (earlier ++ map (entry event end Accepted) tags) rest
@@ -105,8 +105,8 @@ stays_honest event end book accepted made none h =
       honest =
           broken_append [] book (took ++ gave) none
           ∙ accepted_passed event end book accepted gave h
-          ∙ made_passed event end (book ++ took) made;
+          ∙ created_passed event end (book ++ took) made;
       vouched =
           ap (λ (all : List Entry). are_vouched all (other_end end) made) (sym (append_assoc book took gave))
-          ∙ made_vouched event end (book ++ took) made;
+          ∙ created_vouched event end (book ++ took) made;
     }

@@ -9,9 +9,9 @@ use Rattle.login_setup.specs.declared.setup.Mode.TheVariants.{Alone, Through}
 use Rattle.login_setup.specs.declared.setup.Setup.{Setup}
 use Rattle.login_setup.specs.declared.users.User.{User}
 use Rattle.octet_lists.specs.Among.{is_kind}
-use Rattle.login_setup.specs.Setup.{fits_kind, no_later}
+use Rattle.login_setup.specs.Setup.{is_valid_for, no_later}
 use Rattle.world_laws.specs.Agreement.{IsWhole}
-use Rattle.smooth_laws.specs.Smooth.{EndsFit, HasShortNames, event_bound, common_kind, deliveries}
+use Rattle.smooth_laws.specs.Smooth.{EndsCompatible, HasShortNames, event_bound, common_kind, deliveries}
 
 user_of_kind : ℕ → List ℕ → User
 user_of_kind kind key = record { name = codes "alice"; kind = kind; psk = key; barred = false }
@@ -79,9 +79,9 @@ unfolding deliveries
 three_deliveries = refl
 
 -- these ends fit by EAP-GPSK, and after a Nak by EAP-PSK
-fit_at_once : EndsFit (example_setup Alone both both)
+compatible_at_once : EndsCompatible (example_setup Alone both both)
 unfolding example_setup both user_of_kind
-fit_at_once = record {
+compatible_at_once = record {
   kind = 51;
   common = refl;
   user = user_of_kind 51 (replicate 32 81);
@@ -93,9 +93,9 @@ fit_at_once = record {
   reads = λ is. is;
 }
 
-fit_after_nak : EndsFit (example_setup Through (47 ∷ []) both)
+compatible_after_nak : EndsCompatible (example_setup Through (47 ∷ []) both)
 unfolding example_setup both user_of_kind
-fit_after_nak = record {
+compatible_after_nak = record {
   kind = 47;
   common = refl;
   user = user_of_kind 47 (replicate 16 71);
@@ -117,7 +117,7 @@ whole_at_once = record {
     methods = refl;
     suites = refl;
     kinds = All-from_recursion (λ (user : User). IsTrue (is_kind user.kind)) (example_setup Alone both both).server.users (refl, (refl, tt));
-    keys = All-from_recursion (λ (user : User). IsTrue (fits_kind user.kind user.psk)) (example_setup Alone both both).server.users (refl, (refl, tt));
+    keys = All-from_recursion (λ (user : User). IsTrue (is_valid_for user.kind user.psk)) (example_setup Alone both both).server.users (refl, (refl, tt));
   };
   peer_nonce = refl;
   server_nonce = refl;

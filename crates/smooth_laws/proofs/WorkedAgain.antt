@@ -8,13 +8,13 @@ use Rattle.login_setup.specs.declared.setup.Party.TheVariants.{Peer, Pass, Serve
 use Rattle.login_setup.specs.declared.setup.Setup.{Setup}
 use Rattle.eap_world.specs.Run.{run_of}
 use Rattle.eap_world.specs.World.{run_after, world_start}
-use Rattle.smooth_laws.specs.Again.{HasJustBegun}
-use Rattle.smooth_laws.specs.Restarts.{BeginAnew, HaveNext, peer_server, pass_server_peer}
+use Rattle.smooth_laws.specs.Again.{HasJustStarted}
+use Rattle.smooth_laws.specs.Restarts.{StartAnew, HaveNext, peer_server, pass_server_peer}
 use Rattle.smooth_laws.proofs.Worked.{both, example_setup}
 
 -- after its start each world has just begun, so that the law of the first login is one of these
-first_begins : (setup : Setup) → HasJustBegun setup (run_of setup [])
-first_begins setup = record { parties = refl; before = []; sent = refl }
+first_starts : (setup : Setup) → HasJustStarted setup (run_of setup [])
+first_starts setup = record { parties = refl; before = []; sent = refl }
 
 -- each end has one nonce left
 again_setup : Mode → Setup
@@ -33,8 +33,8 @@ have_next runs = record {
   server_left = refl;
 }
 
-alone_anew : BeginAnew Alone (Restart Peer ∷ Restart Server ∷ [])
+alone_anew : StartAnew Alone (Restart Peer ∷ Restart Server ∷ [])
 alone_anew = peer_server
 
-through_anew : BeginAnew Through (Restart Pass ∷ Restart Server ∷ Restart Peer ∷ [])
+through_anew : StartAnew Through (Restart Pass ∷ Restart Server ∷ Restart Peer ∷ [])
 through_anew = pass_server_peer

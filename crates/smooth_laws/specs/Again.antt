@@ -10,11 +10,11 @@ use Rattle.eap_world.specs.declared.verdict.Verdict.TheVariants.{Agree}
 use Rattle.eap_world.specs.Judgement.{is_success, verdict_of}
 use Rattle.eap_world.specs.Sent.{Sent}
 use Rattle.eap_world.specs.World.{WorldNow, run_after}
-use Rattle.smooth_laws.specs.Smooth.{EndsFit, HasShortNames, event_bound, deliveries}
+use Rattle.smooth_laws.specs.Smooth.{EndsCompatible, HasShortNames, event_bound, deliveries}
 
 -- the parties are as after the start of a run of these settings, whose nonces are those of the present
 -- conversations, and what was sent last asks for the identity; whatever else the world has
-pub record HasJustBegun (setup : Setup) (w : WorldNow) : Type 0 where
+pub record HasJustStarted (setup : Setup) (w : WorldNow) : Type 0 where
   pub parties : w.parties ≡ (run_of setup []).parties
   pub before : List Sent
   pub sent : w.sent ≡ before ++ (run_of setup []).sent
@@ -43,5 +43,5 @@ AreNextInOrder w events = events ≡ deliveries (length w.sent) (length events)
 -- from any world whose parties have just begun a smooth login of at least `bound` deliveries succeeds
 abbrev pub SmoothLoginsSucceedAgain : Type 0
 SmoothLoginsSucceedAgain =
-    (setup : Setup) (w : WorldNow) (events : List Event) → IsWhole setup → HasShortNames setup → EndsFit setup → HasJustBegun setup w →
+    (setup : Setup) (w : WorldNow) (events : List Event) → IsWhole setup → HasShortNames setup → EndsCompatible setup → HasJustStarted setup w →
     AreNextInOrder w events → event_bound setup ≤ length events → SucceedsAgain setup w events

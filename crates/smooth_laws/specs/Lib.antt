@@ -1,4 +1,4 @@
 pub mod Smooth
 pub mod Again
-pub mod Behind
+pub mod Trailing
 pub mod Restarts

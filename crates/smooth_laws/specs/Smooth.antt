@@ -30,7 +30,7 @@ common_kind peer server = find (is_among peer.methods) server.methods
 -- the ends fit: there is a first common method; by it the server knows the peer, under the key that the peer
 -- has for it, and doesn't bar it; the peer accepts the server's name; by EAP-GPSK it allows some suite that the
 -- server offers; and if the server reads Expanded Types, so does the peer (RFC 3748 section 5.7)
-pub record EndsFit (setup : Setup) : Type 0 where
+pub record EndsCompatible (setup : Setup) : Type 0 where
   pub kind : ℕ
   pub common : common_kind setup.peer setup.server ≡ Some kind
   pub user : User
@@ -90,5 +90,5 @@ pub record SucceedsInTime (setup : Setup) (events : List Event) : Type 0 where
 -- a smooth login of at least `bound` deliveries succeeds
 abbrev pub SmoothLoginsSucceed : Type 0
 SmoothLoginsSucceed =
-    (setup : Setup) (events : List Event) → IsWhole setup → HasShortNames setup → EndsFit setup → AreInOrder events →
+    (setup : Setup) (events : List Event) → IsWhole setup → HasShortNames setup → EndsCompatible setup → AreInOrder events →
     event_bound setup ≤ length events → SucceedsInTime setup events

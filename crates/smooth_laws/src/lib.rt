@@ -4,8 +4,8 @@
 #![tactic(auto)]
 
 ghost use Rattle.smooth_laws.specs.Again.{SmoothLoginsSucceedAgain};
-ghost use Rattle.smooth_laws.specs.Behind.{RunsGoOnAsTheirOwn};
-ghost use Rattle.smooth_laws.specs.Restarts.{RestartsBeginAnew, LoginsAfterRestartsSucceed, LoginsSucceed};
+ghost use Rattle.smooth_laws.specs.Trailing.{RunsGoOnAsTheirOwn};
+ghost use Rattle.smooth_laws.specs.Restarts.{RestartsStartAnew, LoginsAfterRestartsSucceed, LoginsSucceed};
 ghost use Rattle.smooth_laws.specs.Smooth.{SmoothLoginsSucceed};
 
 /// A login between two ends that fit, each of whose packets is delivered once and in order, succeeds: after 7
@@ -36,8 +36,8 @@ pub fn smooth_logins_succeed_again()
 /// If each end has a nonce left, the restart of every party, in any order, leads to such a world, whatever the states
 /// of the parties and whatever was delivered, altered or injected before. Nothing is booked or discarded by it; and
 /// nonces are fresh afterwards exactly if they were, each of the two is new, and their first 16 octets differ.
-pub fn restarts_begin_anew()
-    ensures { RestartsBeginAnew }
+pub fn restarts_start_anew()
+    ensures { RestartsStartAnew }
 {}
 
 /// So after any run and the restarts of all parties a smooth login between two ends that fit succeeds, in as many

@@ -4,7 +4,7 @@ ghost use Rattle.std.specs.Prelude.{◌≡◌, ◌≤◌, ◌+◌, ◌++◌, ◌
 ghost use Rattle.std.specs.List.{list_any};
 ghost use Rattle.tag_book.specs.Book.{entry, entries_of, first_broken, verdict_on, is_honest, may_make, vouches, same_tag};
 
-use eap_method::{Kept, TagList, TagRecord, Tags};
+use eap_method::{TagList, TagRecord, Tags, TwoRecords};
 
 /// One of the two ends of a login.
 #[derive(Clone, Copy, PartialEq, Eq, Debug, Default)]
@@ -35,7 +35,7 @@ pub struct Entry {
 
 /// Whose record vouches for an accepted tag.
 #[derive(Clone, Copy, PartialEq, Eq, Debug)]
-pub enum Makers {
+pub enum MadeBy {
     /// That of the other end.
     Other,
     /// That of either end, the one that accepted the tag among them.
@@ -52,7 +52,7 @@ pub enum TagsVerdict {
 }
 
 /// Writes the tags of an event into the book, the accepted ones before those made. There is room.
-pub fn book_tags(book: &mut Vec<Entry>, event: u32, end: End, tags: &Tags<Kept>)
+pub fn book_tags(book: &mut Vec<Entry>, event: u32, end: End, tags: &Tags<TwoRecords>)
     requires { vec_len book.old + 4 ≤ vec_capacity book.old }
     ensures items { book.new.items ≡ book.old.items ++ entries_of event end tags.now }
     ensures few { vec_len book.new ≤ vec_len book.old + 4 }
@@ -62,7 +62,7 @@ pub fn book_tags(book: &mut Vec<Entry>, event: u32, end: End, tags: &Tags<Kept>)
 }
 
 /// Writes these tags into the book. There is room.
-fn book_each(book: &mut Vec<Entry>, event: u32, end: End, used: Use, tags: &TagList<Kept>)
+fn book_each(book: &mut Vec<Entry>, event: u32, end: End, used: Use, tags: &TagList<TwoRecords>)
     requires { vec_len book.old + 2 ≤ vec_capacity book.old }
     ensures items { book.new.items ≡ book.old.items ++ map (entry event end used) tags.now }
     ensures few { vec_len book.new ≤ vec_len book.old + 2 }
@@ -90,7 +90,7 @@ fn book_one(book: &mut Vec<Entry>, event: u32, end: End, used: Use, tag: &TagRec
 
 /// Whether each accepted tag of a book was made earlier by such an end.
 #[tactic(auto, using(crate::proofs::FirstBroken::broken_more, crate::proofs::FirstBroken::broken_here, crate::proofs::FirstBroken::broken_all))]
-pub fn judge_tags(book: &[Entry], makers: Makers) -> TagsVerdict
+pub fn judge_tags(book: &[Entry], makers: MadeBy) -> TagsVerdict
     ensures { result ≡ verdict_on (first_broken makers [] book.now) }
 {
     for place in 0..book.len() {
@@ -102,7 +102,7 @@ pub fn judge_tags(book: &[Entry], makers: Makers) -> TagsVerdict
 }
 
 /// Whether an entry is no accepted tag, or one that such an end made earlier.
-fn is_honest(earlier: &[Entry], entry: &Entry, makers: Makers) -> bool
+fn is_honest(earlier: &[Entry], entry: &Entry, makers: MadeBy) -> bool
     ensures { result ≡ is_honest makers earlier.now entry.now }
 {
     match entry.used {
@@ -112,14 +112,14 @@ fn is_honest(earlier: &[Entry], entry: &Entry, makers: Makers) -> bool
 }
 
 /// Whether such an end made this tag earlier.
-fn is_vouched(earlier: &[Entry], accepted: &Entry, makers: Makers) -> bool
+fn is_vouched(earlier: &[Entry], accepted: &Entry, makers: MadeBy) -> bool
     ensures { result ≡ list_any (vouches makers accepted.now) earlier.now }
 {
     earlier.iter().any(|made| vouches(accepted, made, makers))
 }
 
 /// Whether an entry is that of the same tag, made by such an end.
-fn vouches(accepted: &Entry, made: &Entry, makers: Makers) -> bool
+fn vouches(accepted: &Entry, made: &Entry, makers: MadeBy) -> bool
     ensures { result ≡ vouches makers accepted.now made.now }
 {
     made.used == Use::Made
@@ -128,12 +128,12 @@ fn vouches(accepted: &Entry, made: &Entry, makers: Makers) -> bool
 }
 
 /// Whether a tag that the one end made vouches for one that the other accepted.
-fn may_make(makers: Makers, made: End, accepted: End) -> bool
+fn may_make(makers: MadeBy, made: End, accepted: End) -> bool
     ensures { result ≡ may_make makers made accepted }
 {
     match makers {
-        Makers::Other => made != accepted,
-        Makers::Either => true,
+        MadeBy::Other => made != accepted,
+        MadeBy::Either => true,
     }
 }
 

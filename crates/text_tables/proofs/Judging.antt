@@ -10,10 +10,10 @@ use Rattle.text_tables.specs.Rows.{Row, faults, unless, fault_of_words, keyword_
 use Rattle.text_tables.specs.Laws.{IsFirstOf, Judges}
 use Rattle.text_tables.specs.declared.fault.LineFault.{LineFault}
 use Rattle.text_tables.specs.declared.fault.LineFault.TheVariants as fault
-use Rattle.text_tables.proofs.Fitting.{no_fault, none-found}
+use Rattle.text_tables.proofs.Bounded.{no_fault, none-found}
 
 -- a printable line that begins with a keyword
-pub record Begins {K : Type 0} (row : K → Row) (keywords : List K) (line : List ℕ) (k : K) : Type 0 where
+pub record StartsAt {K : Type 0} (row : K → Row) (keywords : List K) (line : List ℕ) (k : K) : Type 0 where
   pub printable : is_printable line ≡ true
   pub found : keyword_in row keywords (words line) ≡ Some k
 
@@ -31,7 +31,7 @@ found-none None f e h = (refl, cc)
 found-none (Some b) f e h = absurd cc
 
 module _ {K : Type 0} (row : K → Row) (keywords : List K) (line : List ℕ) where
-  pub begins : (k : K) → first_word row keywords line ≡ Ok k → Begins row keywords line k
+  pub begins : (k : K) → first_word row keywords line ≡ Ok k → StartsAt row keywords line k
   unfolding first_word
   begins k e =
       elim (cases_Bool (is_printable line)) [
@@ -98,12 +98,12 @@ module _ {K A : Type 0} (row : K → Row) (keywords : List K) (line : List ℕ) 
   body-fault f e = let b = bad_word row keywords line f e in rw b.is (body-bad b.bad)
 
   -- else its words, and then its place
-  body-known : (k : K) → Begins row keywords line k →
+  body-known : (k : K) → StartsAt row keywords line k →
       find has faults ≡ cond (place fault.BadCount) (Some fault.BadCount) (option_or (fault_of_words (row k).least (row k).fields (words line)) (placed place))
   unfolding line_has fault_of_words
   body-known k b = rw (b.printable, b.found, o.0, o.1, o.2, o.3, o.4, o.5) (join _ _ _ _ _ _ _ _ _ _)
 
-  pub body-words : {B : Type 0} (k : K) → Begins row keywords line k → (told : B) (f : B → Result A LineFault) → f told ≡ unless (placed place) value →
+  pub body-words : {B : Type 0} (k : K) → StartsAt row keywords line k → (told : B) (f : B → Result A LineFault) → f told ≡ unless (placed place) value →
       body ≡ cond (place fault.BadCount) (Err fault.BadCount) (unless (fault_of_words (row k).least (row k).fields (words line)) told >>= f)
   body-words k b told f e =
       rw (n, body-known k b) (unless-either (place fault.BadCount) (fault_of_words (row k).least (row k).fields (words line)) (placed place) told value f e)

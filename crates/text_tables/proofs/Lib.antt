@@ -5,7 +5,7 @@ mod Earliest
 -- What one more digit, or one more pair of hex digits, adds.
 mod FieldLemmas
 -- The first of a list of faults, and what the words of a line without one are.
-pub mod Fitting
+pub mod Bounded
 -- A line is refused with the first fault that it has, by its keyword, its words and its place, and taken where it has
 -- none.
 pub mod Judging

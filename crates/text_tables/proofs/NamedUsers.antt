@@ -3,7 +3,7 @@ use Rattle.std.proofs.Common.{◌≡◌, List, [], ◌∷◌, ◌++◌, length, 
 use Rattle.std.proofs.lemmas.Bool.{and_parts}
 use Rattle.std.proofs.lemmas.List.Elements.{All-nil, All-push}
 use Rattle.std.proofs.lemmas.Option.{same_Some}
-use Rattle.login_setup.specs.Setup.{fits_kind}
+use Rattle.login_setup.specs.Setup.{is_valid_for}
 use Rattle.login_setup.specs.Users.{user_of}
 use Rattle.login_setup.specs.declared.users.User.{User}
 use Rattle.text_tables.specs.Fields.{octets_of, spells_kind, spells_octets, kind_of}
@@ -13,7 +13,7 @@ use Rattle.text_tables.specs.UserWords.{is_visible, is_name, is_key, user_named,
 -- what holds of a user that words name
 pub record IsNamed (user : User) : Type 0 where
   pub visible : is_visible user.name ≡ true
-  pub key : IsTrue (fits_kind user.kind user.psk)
+  pub key : IsTrue (is_valid_for user.kind user.psk)
 
 -- an option's value, if there is one, holds
 record Holds {A : Type 0} (P : A → Type 0) (o : Option A) : Type 0 where
@@ -25,9 +25,9 @@ some_holds P x h = record { each = λ y e. subst P (same_Some x y e) h }
 none_holds : {A : Type 0} (P : A → Type 0) → Holds P None
 none_holds P = record { each = λ y e. absurd cc }
 
-holds_if : {A : Type 0} (P : A → Type 0) (b : Bool) (x : A) → (b ≡ true → P x) → Holds P (cond b (Some x) None)
-holds_if P true x h = some_holds P x (h refl)
-holds_if P false x h = none_holds P
+satisfies_if : {A : Type 0} (P : A → Type 0) (b : Bool) (x : A) → (b ≡ true → P x) → Holds P (cond b (Some x) None)
+satisfies_if P true x h = some_holds P x (h refl)
+satisfies_if P false x h = none_holds P
 
 is_named : (name kind key : List ℕ) → (is_name name && (spells_kind kind && is_key (kind_of kind) key)) ≡ true
     → IsNamed (record { name = name; kind = kind_of kind; psk = octets_of key; barred = false })
@@ -37,17 +37,17 @@ is_named name kind key h =
     let keyed = and_parts (spells_kind kind) (is_key (kind_of kind) key) both.1 in
     record {
       visible = (and_parts (is_visible name) (is_within (length name) 1 253) both.0).0;
-      key = (and_parts (spells_octets key) (fits_kind (kind_of kind) (octets_of key)) keyed.1).1;
+      key = (and_parts (spells_octets key) (is_valid_for (kind_of kind) (octets_of key)) keyed.1).1;
     }
 
 one_named : (name kind key : List ℕ) → Holds IsNamed (user_named name kind key)
 unfolding user_named
-one_named name kind key = holds_if IsNamed (is_name name && (spells_kind kind && is_key (kind_of kind) key)) _ (is_named name kind key)
+one_named name kind key = satisfies_if IsNamed (is_name name && (spells_kind kind && is_key (kind_of kind) key)) _ (is_named name kind key)
 
 one_more : (users : List User) (named : Option User) → All IsNamed users → Holds IsNamed named → Holds (All IsNamed) (with_named users named)
 one_more users None h k = none_holds (All IsNamed)
 one_more users (Some user) h k =
-    holds_if (All IsNamed) (nat_lt (length users) 16 && not (is_some (user_of users user.name user.kind))) (users ++ user ∷ [])
+    satisfies_if (All IsNamed) (nat_lt (length users) 16 && not (is_some (user_of users user.name user.kind))) (users ++ user ∷ [])
     (λ t. All-push IsNamed users user h (k.each user refl))
 
 named_from : (users : Option (List User)) (words : List (List ℕ)) → Holds (All IsNamed) users → Holds (All IsNamed) (users_named users words)

@@ -1,15 +1,15 @@
 -- A line of a text, step by step: it is the header, or passed over, or its keyword, its words and its place decide.
 use Rattle.std.proofs.Common.{◌≡◌, ℕ, Bool, true, false, cond, not, ◌||◌, List, Option, Some, None, is_some, unwrap_or, find, Ok, Err, inl, inr, refl, sym, ap, ap₂, subst}
 use Rattle.std.proofs.lemmas.Bool.{cases_Bool, or_parts, not-false}
-use Rattle.text_tables.specs.Phases.{may_stand}
+use Rattle.text_tables.specs.Phases.{may_occur}
 use Rattle.text_tables.specs.Rows.{Row, faults, unless, first_word, line_has}
-use Rattle.text_tables.specs.Texts.{AreJudged, ReadLine, Table, body_has, entry_in, has_at, place_has, read_at, read_begin, read_body, read_line, read_words, line_of, says_at, take, word_of}
+use Rattle.text_tables.specs.Texts.{AreJudged, ReadLine, Table, body_has, entry_in, has_at, place_has, read_at, read_first_line, read_body, read_line, read_words, line_of, says_at, take, word_of}
 use Rattle.text_tables.specs.Words.{words, is_passed_over}
 use Rattle.text_tables.specs.declared.fault.LineFault.{LineFault}
 use Rattle.text_tables.specs.declared.fault.LineFault.TheVariants as fault
 use Rattle.text_tables.specs.declared.phase.Phase.{Phase}
 use Rattle.text_tables.specs.declared.phase.Phase.TheVariants as phase
-use Rattle.text_tables.proofs.Fitting.{no_fault, none-found, unless-ok}
+use Rattle.text_tables.proofs.Bounded.{no_fault, none-found, unless-ok}
 use Rattle.text_tables.proofs.Judging.{begins, body-fault, body-words, body-judged, judges}
 
 -- what stands where it may has no Order
@@ -21,7 +21,7 @@ stands-or before missing false = refl
 
 module _ {K E S I : Type 0} (row : K → Row) (t : Table K E S I) where
   -- the header of a text, or none
-  header-judged : (s : S) (begun : Option S) → read_begin row t begun
+  header-judged : (s : S) (begun : Option S) → read_first_line row t begun
       ≡ unless (cond (not (is_some begun)) (Some fault.NoHeader) None) (line_of t.nothing (unwrap_or begun s))
   header-judged s None = refl
   header-judged s (Some after) = refl
@@ -54,7 +54,7 @@ module _ {K E S I : Type 0} (row : K → Row) (t : Table K E S I) where
         same
         (body-words row (t.keywords s) line (place_has row t s k told) (refl, refl, refl, refl, refl, refl) (is_passed_over line) not_passed _
         (t.taken s told) k b told (take row t s)
-        (ap (λ first. unless first (t.taken s told)) (stands-or (t.came_before s told) (t.is_missing s told) (may_stand (t.phase s) (t.part told)))))
+        (ap (λ first. unless first (t.taken s told)) (stands-or (t.occurred_before s told) (t.is_missing s told) (may_occur (t.phase s) (t.part told)))))
 
     at-judged : (p : Phase) → read_at row t p s line ≡ unless (find (has_at row t p s line) faults) (says_at row t p s line)
     unfolding read_body
@@ -62,27 +62,27 @@ module _ {K E S I : Type 0} (row : K → Row) (t : Table K E S I) where
     at-judged other = body-judged (is_passed_over line) (body_has row t s line) (line_of t.nothing s) (t.taken s (entry_in row t s line))
 
     -- nothing keeps a line from standing where it does
-    pub record MayStand : Type 0 where
+    pub record MayOccur : Type 0 where
       pub few : t.is_crowded s (word_of row t s line) ≡ false
-      pub fresh : t.came_before s (entry_in row t s line) ≡ false
+      pub fresh : t.occurred_before s (entry_in row t s line) ≡ false
       pub whole : t.is_missing s (entry_in row t s line) ≡ false
-      pub stands : may_stand (t.phase s) (t.part (entry_in row t s line)) ≡ true
+      pub stands : may_occur (t.phase s) (t.part (entry_in row t s line)) ≡ true
 
     -- a line after the first that is read is passed over, or has no fault and is taken
     pub data Stepped : ReadLine I S → Type 0 where
       Passed : is_passed_over line ≡ true → Stepped (line_of t.nothing s)
-      Entered : is_passed_over line ≡ false → ((f : LineFault) → line_has row (t.keywords s) line f ≡ false) → MayStand
+      Entered : is_passed_over line ≡ false → ((f : LineFault) → line_has row (t.keywords s) line f ≡ false) → MayOccur
           → Stepped (t.taken s (entry_in row t s line))
 
-    may-stand : ((f : LineFault) → place_has row t s (word_of row t s line) (entry_in row t s line) f ≡ false) → MayStand
+    may-stand : ((f : LineFault) → place_has row t s (word_of row t s line) (entry_in row t s line) f ≡ false) → MayOccur
     may-stand none = record {
       few = none fault.BadCount;
       fresh = none fault.Repeated;
       whole = none fault.Missing;
-      stands = not-false (may_stand (t.phase s) (t.part (entry_in row t s line))) (none fault.Order);
+      stands = not-false (may_occur (t.phase s) (t.part (entry_in row t s line))) (none fault.Order);
     }
 
-    no-place : MayStand → (f : LineFault) → place_has row t s (word_of row t s line) (entry_in row t s line) f ≡ false
+    no-place : MayOccur → (f : LineFault) → place_has row t s (word_of row t s line) (entry_in row t s line) f ≡ false
     no-place m fault.BadCount = m.few
     no-place m fault.Repeated = m.fresh
     no-place m fault.Missing = m.whole
@@ -106,7 +106,7 @@ module _ {K E S I : Type 0} (row : K → Row) (t : Table K E S I) where
         ]
 
     -- and what has no fault is taken
-    pub enters : is_passed_over line ≡ false → ((f : LineFault) → line_has row (t.keywords s) line f ≡ false) → MayStand
+    pub enters : is_passed_over line ≡ false → ((f : LineFault) → line_has row (t.keywords s) line f ≡ false) → MayOccur
         → read_body row t s line ≡ Ok (t.taken s (entry_in row t s line))
     unfolding read_body body_has
     enters k own m =

@@ -1,6 +1,6 @@
 pub mod Fields
 pub mod Firsts
-pub mod Fits
+pub mod IsValidRow
 pub mod Laws
 pub mod Phases
 pub mod Rows

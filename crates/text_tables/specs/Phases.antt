@@ -8,12 +8,12 @@ use Rattle.text_tables.specs.declared.phase.Phase.{Phase}
 use Rattle.text_tables.specs.declared.phase.Phase.TheVariants as phase
 
 -- settings come before the line that opens the events, events and the line `end` after it
-abbrev pub may_stand : Phase → Part → Bool
-may_stand phase.Settings part.Setting = true
-may_stand phase.Settings part.Opening = true
-may_stand phase.Events part.Event = true
-may_stand phase.Events part.End = true
-may_stand p other = false
+abbrev pub may_occur : Phase → Part → Bool
+may_occur phase.Settings part.Setting = true
+may_occur phase.Settings part.Opening = true
+may_occur phase.Events part.Event = true
+may_occur phase.Events part.End = true
+may_occur p other = false
 
 -- the end of the input: nothing was read, or the line `end` was not
 abbrev pub finish_of : Phase → Result (Unit {0}) LineFault

@@ -3,7 +3,7 @@ use Rattle.std.specs.Prelude.{ℕ, ◌+◌, ◌-◌, List, [], ◌∷◌, length
 use Rattle.std.specs.List.{list_any}
 use Rattle.std.specs.Str.{bytes_eq}
 use Rattle.octet_lists.specs.Sizes.{max_name}
-use Rattle.login_setup.specs.Setup.{fits_kind}
+use Rattle.login_setup.specs.Setup.{is_valid_for}
 use Rattle.text_tables.specs.Words.{words, is_printable}
 use Rattle.text_tables.specs.Fields.{word_in, is_dash, spells_number, spells_octets, octets_of, spells_kind, kind_of, spells_suite}
 use Rattle.text_tables.specs.declared.fault.LineFault.{LineFault}
@@ -71,21 +71,21 @@ has_bad_hex other place ws = false
 abbrev pub has_bad_size : Field → ℕ → List (List ℕ) → Bool
 has_bad_size field.Name place ws = not (is_within (length (word_in ws place)) 1 max_name)
 has_bad_size (field.Hex low high) place ws = not (is_within (length (octets_of (word_in ws place))) low high)
-has_bad_size (field.Key p) place ws = not (fits_kind (kind_of (word_in ws p)) (octets_of (word_in ws place)))
+has_bad_size (field.Key p) place ws = not (is_valid_for (kind_of (word_in ws p)) (octets_of (word_in ws place)))
 has_bad_size other place ws = false
 
 -- Repeated: the method or the ciphersuite of another word again
-abbrev pub comes_twice : Field → ℕ → List (List ℕ) → Bool
-comes_twice (field.OtherKind p) place ws = bytes_eq (word_in ws place) (word_in ws p)
-comes_twice (field.OtherSuite p) place ws = bytes_eq (word_in ws place) (word_in ws p)
-comes_twice other place ws = false
+abbrev pub occurs_twice : Field → ℕ → List (List ℕ) → Bool
+occurs_twice (field.OtherKind p) place ws = bytes_eq (word_in ws place) (word_in ws p)
+occurs_twice (field.OtherSuite p) place ws = bytes_eq (word_in ws place) (word_in ws p)
+occurs_twice other place ws = false
 
 abbrev pub field_has : LineFault → Field → ℕ → List (List ℕ) → Bool
 field_has fault.BadChoice f place ws = has_bad_choice f place ws
 field_has fault.BadNumber f place ws = has_bad_number f place ws
 field_has fault.BadHex f place ws = has_bad_hex f place ws
 field_has fault.BadSize f place ws = has_bad_size f place ws
-field_has fault.Repeated f place ws = comes_twice f place ws
+field_has fault.Repeated f place ws = occurs_twice f place ws
 field_has other f place ws = false
 
 abbrev pub word_has : LineFault → Field → ℕ → List (List ℕ) → Bool

@@ -2,7 +2,7 @@
 use Rattle.std.specs.Prelude.{ℕ, List, not, ◌&&◌, ◌||◌, Bool, false, if◌then◌else◌, Option, Some, None, is_some, find, unwrap_or, Result, Ok, Err}
 use Rattle.text_tables.specs.Fields.{◌>>=◌}
 use Rattle.text_tables.specs.Laws.{Judges}
-use Rattle.text_tables.specs.Phases.{may_stand}
+use Rattle.text_tables.specs.Phases.{may_occur}
 use Rattle.text_tables.specs.Rows.{Row, faults, unless, fault_of_words, keyword_in, line_has}
 use Rattle.text_tables.specs.Words.{words, is_passed_over}
 use Rattle.text_tables.specs.declared.fault.LineFault.{LineFault}
@@ -36,7 +36,7 @@ pub record Table (K E S I : Type 0) : Type 0 where
   -- BadCount: one line too many of its kind
   pub is_crowded : S → K → Bool
   -- Repeated: what came before
-  pub came_before : S → E → Bool
+  pub occurred_before : S → E → Bool
   -- Missing: what is needed before it
   pub is_missing : S → E → Bool
   -- what an entry says and adds
@@ -53,9 +53,9 @@ module _ {K E S I : Type 0} (row : K → Row) (t : Table K E S I) where
   -- the faults of a line at its place; Order: what may not come there
   abbrev pub place_has : S → K → E → LineFault → Bool
   place_has s k e fault.BadCount = t.is_crowded s k
-  place_has s k e fault.Repeated = t.came_before s e
+  place_has s k e fault.Repeated = t.occurred_before s e
   place_has s k e fault.Missing = t.is_missing s e
-  place_has s k e fault.Order = not (may_stand (t.phase s) (t.part e))
+  place_has s k e fault.Order = not (may_occur (t.phase s) (t.part e))
   place_has s k e other = false
 
   -- a line after the first that isn't ignored has the fault, by its words or by its place
@@ -71,9 +71,9 @@ module _ {K E S I : Type 0} (row : K → Row) (t : Table K E S I) where
   -- the same step by step: the keyword, its words, its place
   abbrev pub place_fault : S → E → Option LineFault
   place_fault s e =
-      if t.came_before s e then Some fault.Repeated
+      if t.occurred_before s e then Some fault.Repeated
       else if t.is_missing s e then Some fault.Missing
-      else if may_stand (t.phase s) (t.part e) then None
+      else if may_occur (t.phase s) (t.part e) then None
       else Some fault.Order
 
   unfoldable pub take : S → E → Result (ReadLine I S) LineFault
@@ -85,12 +85,12 @@ module _ {K E S I : Type 0} (row : K → Row) (t : Table K E S I) where
       else unless (fault_of_words (row k).least (row k).fields ws) (t.entry k ws) >>= take s
 
   -- the first line
-  abbrev pub read_begin : Option S → Result (ReadLine I S) LineFault
-  read_begin None = Err fault.NoHeader
-  read_begin (Some after) = Ok (line_of t.nothing after)
+  abbrev pub read_first_line : Option S → Result (ReadLine I S) LineFault
+  read_first_line None = Err fault.NoHeader
+  read_first_line (Some after) = Ok (line_of t.nothing after)
 
   abbrev pub read_at : Phase → S → List ℕ → Result (ReadLine I S) LineFault
-  read_at phase.Unread s line = read_begin (t.begun s line)
+  read_at phase.Unread s line = read_first_line (t.begun s line)
   read_at p s line = read_body s line
 
   -- what a line says and adds, or its first fault
@@ -120,5 +120,5 @@ line_result says (Ok item) after out = Ok (line_of (says item after out) after)
 line_result says (Err f) after out = Err f
 
 -- what a call that reads line 1 keeps
-abbrev pub begun_by : {S : Type 0} → Bool → S → Option S
-begun_by begins after = if begins then Some after else None
+abbrev pub initiated_by : {S : Type 0} → Bool → S → Option S
+initiated_by begins after = if begins then Some after else None

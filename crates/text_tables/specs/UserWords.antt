@@ -2,7 +2,7 @@
 use Rattle.std.specs.Prelude.{ℕ, List, [], ◌∷◌, ◌++◌, length, Bool, true, false, ◌&&◌, not, nat_lt, nat_le, if◌then◌else◌, Option, Some, None, is_some}
 use Rattle.std.specs.List.{list_all}
 use Rattle.octet_lists.specs.Sizes.{max_name}
-use Rattle.login_setup.specs.Setup.{fits_kind}
+use Rattle.login_setup.specs.Setup.{is_valid_for}
 use Rattle.login_setup.specs.Users.{user_of}
 use Rattle.login_setup.specs.declared.users.User.{User}
 use Rattle.text_tables.specs.Fields.{octets_of, spells_octets, spells_kind, kind_of}
@@ -18,7 +18,7 @@ is_name word = is_visible word && is_within (length word) 1 max_name
 
 -- a key of the method's size in hex
 unfoldable pub is_key : ℕ → List ℕ → Bool
-is_key kind word = spells_octets word && fits_kind kind (octets_of word)
+is_key kind word = spells_octets word && is_valid_for kind (octets_of word)
 
 -- the user that three words name: a name, a method, and its key
 unfoldable pub user_named : List ℕ → List ℕ → List ℕ → Option User

@@ -1,7 +1,7 @@
 //! The phases of a text, and the kinds of its lines.
 
 ghost use Rattle.std.specs.Prelude.{◌≡◌};
-ghost use Rattle.text_tables.specs.Phases.{finish_of, may_stand};
+ghost use Rattle.text_tables.specs.Phases.{finish_of, may_occur};
 
 use crate::fault::LineFault;
 
@@ -45,7 +45,7 @@ impl Phase {
 
     /// Whether a line may come here.
     pub(crate) fn may_have(self, part: Part) -> bool
-        ensures { result ≡ may_stand self part }
+        ensures { result ≡ may_occur self part }
     {
         match part {
             Part::Setting | Part::Opening => self == Phase::Settings,

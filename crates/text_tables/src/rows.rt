@@ -2,7 +2,7 @@
 
 ghost use Rattle.std.specs.Prelude.{◌≡◌, ◌+◌, ◌<◌, ◌^◌, length, if◌then◌else◌, Some, None};
 ghost use Rattle.text_tables.specs.Words.{words};
-ghost use Rattle.login_setup.specs.Setup.{fits_kind};
+ghost use Rattle.login_setup.specs.Setup.{is_valid_for};
 ghost use Rattle.text_tables.specs.Fields.{octets_of};
 ghost use Rattle.text_tables.specs.Rows.{is_choice, is_kind_or_none, is_within, has_bad_count, fault_of_words, keyword_in, first_word};
 ghost use Rattle.text_tables.specs.Firsts.{earlier, first_fault, fault_at, fault_of_word};
@@ -206,7 +206,7 @@ fn fault_of_word(field: Field, place: usize, line: &[u8], count: usize) -> Optio
         Field::Key { place: method } => {
             if spells_octets(word) {
                 unless(
-                    fits_kind(kind_of(word_in(line, method)), word),
+                    is_valid_for(kind_of(word_in(line, method)), word),
                     LineFault::BadSize,
                 )
             } else {
@@ -293,8 +293,8 @@ pub(crate) fn is_within(count: usize, low: usize, high: usize) -> bool
 }
 
 /// Whether the octets that the word spells can be a key for the method.
-pub(crate) fn fits_kind(kind: u8, word: &[u8]) -> bool
-    ensures { result ≡ fits_kind kind (octets_of word.now) }
+pub(crate) fn is_valid_for(kind: u8, word: &[u8]) -> bool
+    ensures { result ≡ is_valid_for kind (octets_of word.now) }
 {
     let count = octet_count(word);
     if kind == PSK_KIND {

@@ -4,7 +4,7 @@
 ghost use Rattle.std.specs.Prelude.{◌≡◌, IfOk, OnErr};
 ghost use Rattle.text_tables.specs.Words.{words};
 ghost use Rattle.text_tables.specs.Texts as texts;
-ghost use Rattle.text_tables.specs.Texts.{line_result, place_fault, read_begin, read_words};
+ghost use Rattle.text_tables.specs.Texts.{line_result, place_fault, read_first_line, read_words};
 
 use crate::fault::LineFault;
 use crate::phase::{Part, Phase};
@@ -15,8 +15,8 @@ use crate::words::is_comment;
 pub trait Text: Drop {
     ghost use Rattle.std.specs.Prelude.{false};
     ghost use Rattle.text_tables.specs.Words.{words};
-    ghost use Rattle.text_tables.specs.Fits.{Fits};
-    ghost use Rattle.text_tables.specs.Texts.{Table, begun_by, line_of};
+    ghost use Rattle.text_tables.specs.IsValidRow.{IsValidRow};
+    ghost use Rattle.text_tables.specs.Texts.{Table, initiated_by, line_of};
 
     /// The first word of a line.
     type Word: TableWord;
@@ -34,16 +34,16 @@ pub trait Text: Drop {
     ghost Whole: { Type 0 };
 
     /// What a line says.
-    ghost Said: { Type 0 };
+    ghost Meaning: { Type 0 };
 
     /// The text's table.
-    ghost table: { Table Self.Word Whole Self Said };
+    ghost table: { Table Self.Word Whole Self Meaning };
 
     /// What a line contains, with the event that was written if it has one.
     ghost whole: { Self.Entry → Self.Event → Whole };
 
     /// What a line says, with what is kept after it and the event that was written if it has one.
-    ghost says: { Self.Item → Self → Self.Event → Said };
+    ghost says: { Self.Item → Self → Self.Event → Meaning };
 
     /// What holds of each entry.
     ghost is_valid: { Self.Entry → Type 0 };
@@ -57,7 +57,7 @@ pub trait Text: Drop {
 
     /// Begins if the line is a header of the text, and answers whether it is.
     fn begin(&mut self, line: &[u8]) -> bool
-        ensures begun { table.begun self.old line.now ≡ begun_by result self.new }
+        ensures begun { table.begun self.old line.now ≡ initiated_by result self.new }
         ensures unchanged { result ≡ false → self.new ≡ self.old };
 
     /// The keywords of the text.
@@ -70,7 +70,7 @@ pub trait Text: Drop {
 
     /// What a keyword says with the words of its line, which fit its row. An event is written to `event`.
     fn entry_of(word: Self::Word, line: &[u8], event: &mut Self::Event) -> Self::Entry
-        requires { Fits (Self.Word.row_of word) (words line.now) }
+        requires { IsValidRow (Self.Word.row_of word) (words line.now) }
         ensures entry { table.entry word (words line.now) ≡ whole result event.new }
         ensures valid { is_valid result };
 
@@ -79,8 +79,8 @@ pub trait Text: Drop {
         ensures { (event : Self.Event) → result ≡ table.part (whole entry.now event) };
 
     /// True for what came before.
-    fn came_before(&self, entry: &Self::Entry) -> bool
-        ensures { (event : Self.Event) → result ≡ table.came_before self.now (whole entry.now event) };
+    fn occurred_before(&self, entry: &Self::Entry) -> bool
+        ensures { (event : Self.Event) → result ≡ table.occurred_before self.now (whole entry.now event) };
 
     /// True if something that the entry needs has not come.
     fn is_missing(&self, entry: &Self::Entry) -> bool
@@ -119,7 +119,7 @@ pub fn read_line<T: Text>(
 
 /// Reads line 1.
 fn read_header<T: Text>(text: &mut T, line: &[u8]) -> Result<T::Item, LineFault>
-    ensures read { (event : T.Event) → read_begin T.Word.row_of T.table (T.table.begun text.old line.now)
+    ensures read { (event : T.Event) → read_first_line T.Word.row_of T.table (T.table.begun text.old line.now)
         ≡ line_result T.says result text.new event }
     ensures so { IfOk result (λ item. T.is_so item text.new) }
     ensures unchanged { OnErr result (text.new ≡ text.old) }
@@ -189,7 +189,7 @@ fn take<T: Text>(text: &mut T, entry: T::Entry) -> Result<T::Item, LineFault>
 fn fault_of<T: Text>(text: &T, entry: &T::Entry) -> Option<LineFault>
     ensures { (event : T.Event) → result ≡ place_fault T.Word.row_of T.table text.now (T.whole entry.now event) }
 {
-    if text.came_before(entry) {
+    if text.occurred_before(entry) {
         Some(LineFault::Repeated)
     } else if text.is_missing(entry) {
         Some(LineFault::Missing)

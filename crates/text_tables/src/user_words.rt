@@ -1,11 +1,11 @@
 //! Users that the words of a command name.
 
 ghost use Rattle.std.specs.Prelude.{◌≡◌, true, false, Some, map, string_bytes};
-ghost use Rattle.text_tables.specs.Fits.{IsKey, IsName};
+ghost use Rattle.text_tables.specs.IsValidRow.{IsKey, IsName};
 ghost use Rattle.text_tables.specs.UserWords.{is_visible, is_name, is_key, user_named, with_named, users_named, users_until, read_as};
 
 use crate::fields::{kind_of, name, octets, spells_kind, spells_octets};
-use crate::rows::{fits_kind, is_within};
+use crate::rows::{is_valid_for, is_within};
 use login_setup::{User, Users};
 use octet_lists::MAX_NAME;
 
@@ -87,7 +87,7 @@ fn is_key(kind: u8, word: &[u8]) -> bool
     ensures key { result ≡ is_key kind word.now }
     ensures fits { result ≡ true → IsKey kind word.now }
 {
-    spells_octets(word) && fits_kind(kind, word)
+    spells_octets(word) && is_valid_for(kind, word)
 }
 
 /// True if every octet is a printable character other than a space.

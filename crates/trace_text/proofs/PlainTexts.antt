@@ -19,7 +19,7 @@ use Rattle.eap_world.specs.declared.told.Brief.{Brief}
 use Rattle.login_keys.specs.KeyName.{key_name_of}
 use Rattle.answer_text.specs.Paths.{path_text, cause_text}
 use Rattle.answer_text.specs.Pieces.{hex_text}
-use Rattle.trace_text.specs.Run.{party_word, port_word, skip_word, code_word, type_text, party_text, sent_text, octets_line, octets_text, keys_line, keys_text, shown_text, acted_text, told_by, told_text, peer_start_text, server_start_text, start_text, pass_state_line, state_line, stands_text, counts_text}
+use Rattle.trace_text.specs.Run.{party_word, port_word, skip_word, code_word, type_text, party_text, sent_text, octets_line, octets_text, keys_line, keys_text, shown_text, acted_text, told_by, told_text, peer_start_text, server_start_text, start_text, pass_state_line, state_line, end_state_text, counts_text}
 use Rattle.answer_text.proofs.PlainPaths.{path_plain, cause_plain}
 use Rattle.answer_text.proofs.PlainWords.{state_within, either_within, hex_within}
 use Rattle.answer_text.proofs.Plain.{is_within, plain, join, through, within_join, decimal_within, decimal_first, numbered}
@@ -97,58 +97,58 @@ module _ (bad : ℕ → Bool) (no_digit : (o : ℕ) → 48 ≤ o → o ≤ 57 �
       join bad (party_text told.event told.party told.path) _ true (party_plain told.event told.party told.path)
       (join bad (cause_text told.event told.cause) (shown_text names octets told) true (cause_plain bad no_digit told.event told.cause) (shown_plain names octets told))
 
-  told_by_plain : (names : Bool) (octets : List ℕ) (told : Brief) (s : Option Skip) → plain bad true (told_by names octets told s) ≡ true
-  told_by_plain names octets told None = acted_plain names octets told
-  told_by_plain names octets told (Some s) = decimal_first bad no_digit told.event _ (through bad (skip_word s) _ (skip_within s) refl)
+  reported_by_plain : (names : Bool) (octets : List ℕ) (told : Brief) (s : Option Skip) → plain bad true (told_by names octets told s) ≡ true
+  reported_by_plain names octets told None = acted_plain names octets told
+  reported_by_plain names octets told (Some s) = decimal_first bad no_digit told.event _ (through bad (skip_word s) _ (skip_within s) refl)
 
   -- the lines of an event
-  pub told_plain : (names : Bool) (octets : List ℕ) (told : Brief) → plain bad true (told_text names octets told) ≡ true
+  pub reported_plain : (names : Bool) (octets : List ℕ) (told : Brief) → plain bad true (told_text names octets told) ≡ true
   unfolding told_text
-  told_plain names octets told = told_by_plain names octets told told.skip
+  reported_plain names octets told = reported_by_plain names octets told told.skip
 
 -- ---- the lines of the start and the end
 
 -- the first octets of `fresh`, `tags` and `result`
-abbrev pub begins_verdict : ℕ → Bool
-begins_verdict o = o == 102 || (o == 116 || o == 114)
+abbrev pub starts_verdict : ℕ → Bool
+starts_verdict o = o == 102 || (o == 116 || o == 114)
 
 -- no number begins so
-pub no_verdict : (o : ℕ) → 48 ≤ o → o ≤ 57 → begins_verdict o ≡ false
+pub no_verdict : (o : ℕ) → 48 ≤ o → o ≤ 57 → starts_verdict o ≡ false
 no_verdict o h k =
     or_from (o == 102) (o == 116 || o == 114) (ne_eqb o 102 (λ e. omega (arith, k, e)))
     (or_from (o == 116) (o == 114) (ne_eqb o 116 (λ e. omega (arith, k, e))) (ne_eqb o 114 (λ e. omega (arith, k, e))))
 
-server_start_plain : (m : Mode) → plain begins_verdict true (server_start_text m) ≡ true
+server_start_plain : (m : Mode) → plain starts_verdict true (server_start_text m) ≡ true
 unfolding server_start_text
 server_start_plain mode.Alone = refl
 server_start_plain mode.Through = refl
 
-pub start_plain : (m : Mode) (names : Bool) (octets : List ℕ) (told : Brief) → plain begins_verdict true (start_text m names octets told) ≡ true
+pub start_plain : (m : Mode) (names : Bool) (octets : List ℕ) (told : Brief) → plain starts_verdict true (start_text m names octets told) ≡ true
 unfolding peer_start_text
 start_plain m names octets told =
-    join begins_verdict (told_text names octets told) (server_start_text m) true (told_plain begins_verdict no_verdict names octets told) (server_start_plain m)
+    join starts_verdict (told_text names octets told) (server_start_text m) true (reported_plain starts_verdict no_verdict names octets told) (server_start_plain m)
 
-peer_state_plain : (peer : State) → plain begins_verdict true (state_line (codes "state peer ") peer) ≡ true
+peer_state_plain : (peer : State) → plain starts_verdict true (state_line (codes "state peer ") peer) ≡ true
 unfolding state_line
-peer_state_plain peer = through begins_verdict (state_word peer) _ (state_within peer) refl
+peer_state_plain peer = through starts_verdict (state_word peer) _ (state_within peer) refl
 
-server_state_plain : (server : State) → plain begins_verdict true (state_line (codes "state server ") server) ≡ true
+server_state_plain : (server : State) → plain starts_verdict true (state_line (codes "state server ") server) ≡ true
 unfolding state_line
-server_state_plain server = through begins_verdict (state_word server) _ (state_within server) refl
+server_state_plain server = through starts_verdict (state_word server) _ (state_within server) refl
 
-pass_state_plain : (pass : Option State) → plain begins_verdict true (pass_state_line pass) ≡ true
+pass_state_plain : (pass : Option State) → plain starts_verdict true (pass_state_line pass) ≡ true
 unfolding pass_state_line state_line
 pass_state_plain None = refl
-pass_state_plain (Some pass) = through begins_verdict (state_word pass) _ (state_within pass) refl
+pass_state_plain (Some pass) = through starts_verdict (state_word pass) _ (state_within pass) refl
 
-pub stands_plain : (peer : State) (pass : Option State) (server : State) → plain begins_verdict true (stands_text peer pass server) ≡ true
-stands_plain peer pass server =
-    join begins_verdict (state_line (codes "state peer ") peer) _ true (peer_state_plain peer)
-    (join begins_verdict (pass_state_line pass) (state_line (codes "state server ") server) true (pass_state_plain pass) (server_state_plain server))
+pub occurs_plain : (peer : State) (pass : Option State) (server : State) → plain starts_verdict true (end_state_text peer pass server) ≡ true
+occurs_plain peer pass server =
+    join starts_verdict (state_line (codes "state peer ") peer) _ true (peer_state_plain peer)
+    (join starts_verdict (pass_state_line pass) (state_line (codes "state server ") server) true (pass_state_plain pass) (server_state_plain server))
 
-pub counts_plain : (counts : Counts) → plain begins_verdict true (counts_text counts) ≡ true
+pub counts_plain : (counts : Counts) → plain starts_verdict true (counts_text counts) ≡ true
 unfolding counts_text
 counts_plain counts =
-    through begins_verdict (decimal counts.events) _ (decimal_within counts.events)
-    (through begins_verdict (decimal counts.deliveries) _ (decimal_within counts.deliveries)
-    (through begins_verdict (decimal counts.discards) _ (decimal_within counts.discards) refl))
+    through starts_verdict (decimal counts.events) _ (decimal_within counts.events)
+    (through starts_verdict (decimal counts.deliveries) _ (decimal_within counts.deliveries)
+    (through starts_verdict (decimal counts.discards) _ (decimal_within counts.discards) refl))

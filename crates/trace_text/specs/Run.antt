@@ -11,7 +11,7 @@ use Rattle.eap_packet.specs.Words.{state_word}
 use Rattle.eap_packet.specs.declared.state.State.{State}
 use Rattle.tag_book.specs.Book.{tags_verdict}
 use Rattle.eap_world.specs.Judgement.{verdict_of}
-use Rattle.eap_world.specs.World.{WorldNow, WorldOutcome, pass_state, told_octets}
+use Rattle.eap_world.specs.World.{WorldNow, WorldOutcome, pass_state, result_octets}
 use Rattle.tag_book.specs.declared.book.TagsVerdict.{TagsVerdict}
 use Rattle.tag_book.specs.declared.book.TagsVerdict.TheVariants as tags
 use Rattle.eap_world.specs.declared.told.Counts.{Counts}
@@ -114,7 +114,7 @@ told_text names octets told = told_by names octets told told.skip
 
 -- the lines of the result of an event
 abbrev pub outcome_text : Bool → WorldOutcome → List ℕ
-outcome_text names out = told_text names (told_octets out) out.told
+outcome_text names out = told_text names (result_octets out) out.told
 
 -- the lines of the start, in which the peer begins before the server asks
 unfoldable pub peer_start_text : List ℕ
@@ -128,8 +128,8 @@ server_start_text mode.Through = codes "0 server INITIALIZE\n"
 abbrev pub start_text : Mode → Bool → List ℕ → Brief → List ℕ
 start_text m names octets told = peer_start_text ++ (told_text names octets told ++ server_start_text m)
 
-abbrev pub begin_text : Bool → WorldOutcome → List ℕ
-begin_text names out = start_text out.after.parties.mode names (told_octets out) out.told
+abbrev pub start_line_text : Bool → WorldOutcome → List ℕ
+start_line_text names out = start_text out.after.parties.mode names (result_octets out) out.told
 
 -- the state of each party
 unfoldable pub state_line : List ℕ → State → List ℕ
@@ -140,8 +140,8 @@ unfoldable pub pass_state_line : Option State → List ℕ
 pass_state_line None = []
 pass_state_line (Some state) = state_line (codes "state pass ") state
 
-abbrev pub stands_text : State → Option State → State → List ℕ
-stands_text peer pass server = state_line (codes "state peer ") peer ++ (pass_state_line pass ++ state_line (codes "state server ") server)
+abbrev pub end_state_text : State → Option State → State → List ℕ
+end_state_text peer pass server = state_line (codes "state peer ") peer ++ (pass_state_line pass ++ state_line (codes "state server ") server)
 
 -- how many events, deliveries and discards there were
 unfoldable pub counts_text : Counts → List ℕ
@@ -150,8 +150,8 @@ counts_text counts = concat (
     codes "\ndiscards " ∷ decimal counts.discards ∷ codes "\n" ∷ [])
 
 -- whether each conversation began with a fresh nonce; version 1 has one conversation an end, and doesn't say it
-abbrev pub fresh_told : WorldNow → Option Bool
-fresh_told w = if w.version == 2 then Some w.conversations.fresh else None
+abbrev pub freshness_shown : WorldNow → Option Bool
+freshness_shown w = if w.version == 2 then Some w.conversations.fresh else None
 
 unfoldable pub fresh_text : Option Bool → List ℕ
 fresh_text None = []
@@ -175,9 +175,9 @@ result_text v = concat (codes "result " ∷ verdict_word v ∷ codes "\nend\n" �
 -- the lines of the end
 unfoldable pub end_text_of : State → Option State → State → Counts → Option Bool → TagsVerdict → Verdict → List ℕ
 end_text_of peer pass server counts fresh tags verdict =
-    stands_text peer pass server ++ (counts_text counts ++ (fresh_text fresh ++ (tags_text tags ++ result_text verdict)))
+    end_state_text peer pass server ++ (counts_text counts ++ (fresh_text fresh ++ (tags_text tags ++ result_text verdict)))
 
 abbrev pub end_text : WorldNow → List ℕ
 end_text w =
     end_text_of w.parties.peer.vars.state (pass_state w.parties.mode w.parties.pass) w.parties.server.vars.state
-    w.counts (fresh_told w) (tags_verdict w.book) (verdict_of w)
+    w.counts (freshness_shown w) (tags_verdict w.book) (verdict_of w)

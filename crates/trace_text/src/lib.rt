@@ -5,7 +5,7 @@
 
 mod run;
 
-pub use run::{write_end, write_start, write_start_brief, write_told, write_told_brief};
+pub use run::{write_end, write_event_brief, write_start, write_start_brief, write_told};
 
 // The texts that stand below the world.
 pub use answer_text::{write_finding, write_key_line, write_line, write_packet, write_refused};

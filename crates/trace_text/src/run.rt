@@ -6,7 +6,7 @@ ghost use Rattle.std.specs.List.{concat};
 ghost use Rattle.answer_text.specs.Writes.{Appends, Puts};
 ghost use Rattle.trace_text.specs.Run.{party_word, port_word, skip_word, code_word, party_text};
 ghost use Rattle.trace_text.specs.Run.{sent_text, octets_text, key_names_line, keys_line, keys_text, acted_text, skip_text};
-ghost use Rattle.trace_text.specs.Run.{told_text, peer_start_text, server_start_text, start_text, stands_text, counts_text, fresh_text, fresh_told, tags_text, verdict_word};
+ghost use Rattle.trace_text.specs.Run.{told_text, peer_start_text, server_start_text, start_text, end_state_text, counts_text, fresh_text, freshness_shown, tags_text, verdict_word};
 ghost use Rattle.trace_text.specs.Run.{result_text, end_text_of, end_text, pass_state_line, state_line};
 ghost use Rattle.eap_world.specs.World.{brief_of, now_of, packet_octets};
 
@@ -262,7 +262,7 @@ fn write_keys<W: Sink>(
 /// party first reports. A skipped event has one line alone. `Failed`: a write failed, and a prefix of the
 /// lines was appended.
 #[tactic(auto, unfolding(crate::specs::Run::told_text))]
-pub fn write_told_brief<W: Sink>(
+pub fn write_event_brief<W: Sink>(
     sink: &mut W,
     told: &Brief,
     octets: &[u8],
@@ -307,7 +307,7 @@ fn write_skip<W: Sink>(sink: &mut W, event: u32, skip: Skip) -> Result<(), Faile
     )
 }
 
-/// Writes the lines of an event, as [`write_told_brief`], of a result that has its packet.
+/// Writes the lines of an event, as [`write_event_brief`], of a result that has its packet.
 #[tactic(auto, unfolding(crate::specs::Run::told_text))]
 pub fn write_told<W: Sink>(sink: &mut W, told: &Told, names: bool) -> Result<(), Failed>
     ensures { Appends W.shown result sink.old sink.new (told_text names (packet_octets told.now.sent) (brief_of told.now)) }
@@ -404,7 +404,7 @@ pub fn write_start_brief<W: Sink>(
     ensures { Appends W.shown result sink.old sink.new (start_text mode names octets.now told.now) }
 {
     write_peer_start(sink)?;
-    write_told_brief(sink, told, octets, names)?;
+    write_event_brief(sink, told, octets, names)?;
     write_server_start(sink, mode)
 }
 
@@ -423,7 +423,7 @@ pub fn write_end_of<W: Sink>(
 ) -> Result<(), Failed>
     ensures { Appends W.shown result sink.old sink.new (end_text_of peer pass server counts fresh tags verdict) }
 {
-    write_stands(sink, peer, pass, server)?;
+    write_end_state(sink, peer, pass, server)?;
     write_counts(sink, counts)?;
     write_fresh(sink, fresh)?;
     write_tags(sink, tags)?;
@@ -432,13 +432,13 @@ pub fn write_end_of<W: Sink>(
 
 /// Writes the states of the parties.
 #[tactic(auto, using(answer_text::proofs::Fronts::appends_both, answer_text::proofs::Fronts::appends_front))]
-fn write_stands<W: Sink>(
+fn write_end_state<W: Sink>(
     sink: &mut W,
     peer: State,
     pass: Option<State>,
     server: State,
 ) -> Result<(), Failed>
-    ensures { Appends W.shown result sink.old sink.new (stands_text peer pass server) }
+    ensures { Appends W.shown result sink.old sink.new (end_state_text peer pass server) }
 {
     write_state(sink, b"state peer ", peer)?;
     write_pass_state(sink, pass)?;
@@ -495,8 +495,8 @@ fn write_fresh<W: Sink>(sink: &mut W, fresh: Option<bool>) -> Result<(), Failed>
 }
 
 /// Whether each conversation began with a fresh nonce; None for a scenario of version 1, whose trace doesn't say it.
-fn fresh_told<P: PeerMethod, S: ServerMethod>(world: &World<P, S>) -> Option<bool>
-    ensures { result ≡ fresh_told (now_of P.peer_shown S.server_shown world.now) }
+fn freshness_shown<P: PeerMethod, S: ServerMethod>(world: &World<P, S>) -> Option<bool>
+    ensures { result ≡ freshness_shown (now_of P.peer_shown S.server_shown world.now) }
 {
     if world.version() == 2 {
         Some(world.fresh())
@@ -551,7 +551,7 @@ pub fn write_end<W: Sink, P: PeerMethod, S: ServerMethod>(
         world.pass_state(),
         world.server_state(),
         world.counts(),
-        fresh_told(world),
+        freshness_shown(world),
         world.tags(),
         world.result(),
     )

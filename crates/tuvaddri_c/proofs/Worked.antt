@@ -7,11 +7,11 @@ use Rattle.psk_messages.specs.Reading.{read_of}
 use Rattle.gpsk_messages.specs.Reading as gpsk
 use Rattle.login_keys.specs.Gpsk.{gkdf}
 use Rattle.eap_method.specs.declared.values.Report.{Report}
-use Rattle.tuvaddri_c.specs.ByMethod.{held_id}
+use Rattle.tuvaddri_c.specs.ByMethod.{session_id_of_report}
 use Rattle.tuvaddri_c.specs.Gpsk.{zeros, front_of}
 use Rattle.tuvaddri_c.specs.PeerName.{response_name}
 use Rattle.tuvaddri_c.specs.Failures.{sent_code}
-use Rattle.tuvaddri_c.specs.Reports.{Held}
+use Rattle.tuvaddri_c.specs.Reports.{EndReport}
 
 -- ID_P of a PSK-2 with padding behind it, and none in a PSK-1 that claims to be a Response
 psk2 : List ℕ
@@ -40,13 +40,13 @@ named_by_expanded_psk2 = refl
 report : ℕ → ℕ → Report
 report method suite = record { method = method; id_p = codes "alice"; id_s = codes "srv"; suite = suite; msk = []; emsk = [] }
 
-by_psk : Held
+by_psk : EndReport
 by_psk = record { report = report 47 0; nonces = record { peer = replicate 16 1; server = replicate 16 2 } }
 
-by_gpsk : Held
+by_gpsk : EndReport
 by_gpsk = record { report = report 51 1; nonces = record { peer = replicate 32 1; server = replicate 32 2 } }
 
-psk_row : held_id zeros by_psk ≡ Some (0x2f ∷ replicate 16 1 ++ replicate 16 2)
+psk_row : session_id_of_report zeros by_psk ≡ Some (0x2f ∷ replicate 16 1 ++ replicate 16 2)
 unfolding by_psk report
 psk_row = refl
 
@@ -55,11 +55,11 @@ told : List ℕ
 told = 0x4d ∷ 0x65 ∷ 0x74 ∷ 0x68 ∷ 0x6f ∷ 0x64 ∷ 0x20 ∷ 0x49 ∷ 0x44 ∷ 0x33 ∷ 0 ∷ 0 ∷ 0 ∷ 0 ∷ 0 ∷ 1 ∷
     replicate 32 1 ++ codes "alice" ++ replicate 32 2 ++ codes "srv"
 
-gpsk_row : held_id zeros by_gpsk ≡ Some (0x33 ∷ gkdf Cmac 16 (replicate 16 0) told)
+gpsk_row : session_id_of_report zeros by_gpsk ≡ Some (0x33 ∷ gkdf Cmac 16 (replicate 16 0) told)
 unfolding by_gpsk report told
 gpsk_row = refl
 
-gpsk_row_wpa : held_id (front_of (Some (replicate 48 7))) by_gpsk ≡ Some (0x33 ∷ gkdf Cmac 16 (replicate 16 7) told)
+gpsk_row_wpa : session_id_of_report (front_of (Some (replicate 48 7))) by_gpsk ≡ Some (0x33 ∷ gkdf Cmac 16 (replicate 16 7) told)
 unfolding by_gpsk report told
 gpsk_row_wpa = refl
 

@@ -16,7 +16,7 @@ use Rattle.eap_method.specs.PskServer as psk_server
 use Rattle.eap_method.specs.GpskServer as gpsk_server
 use Rattle.eap_method.specs.declared.values.Credential.{Credential}
 use Rattle.eap_method.specs.declared.values.ServerSide.{ServerSide}
-use Rattle.tuvaddri_c.specs.Reports.{Held}
+use Rattle.tuvaddri_c.specs.Reports.{EndReport}
 use Rattle.tuvaddri_c.specs.Psk.{psk_name, psk_session_id, fitting}
 use Rattle.tuvaddri_c.specs.Gpsk.{gpsk_name, repeated_code, suited_id}
 
@@ -44,7 +44,7 @@ abbrev pub code_by : ℕ → ℕ → ℕ
 code_by kind code = if kind == psk_kind then 0 else code
 
 -- the Session-Id, if EAP-GPSK uses this key
-abbrev pub held_id : (Suite → Option (List ℕ)) → Held → Option (List ℕ)
-held_id key held =
+abbrev pub session_id_of_report : (Suite → Option (List ℕ)) → EndReport → Option (List ℕ)
+session_id_of_report key held =
     if held.report.method == psk_kind then fitting (psk_session_id held.nonces)
     else suited_id key held (suite_numbered held.report.suite)

@@ -50,12 +50,12 @@ abbrev pub AsPass : End → (PassVariables → Type 0) → Type 0
 AsPass e P = elim e [ ends.Pass m ↦ P m | _ ↦ ⊥ ]
 
 -- whether octets may come: to a peer, to a backend, and to a server that has started
-abbrev pub takes_octets : End → Bool
-takes_octets e = elim e [ ends.Peer m ↦ true | ends.Server m ↦ is_ready m.vars | ends.Backend m ↦ true | _ ↦ false ]
+abbrev pub receives_octets : End → Bool
+receives_octets e = elim e [ ends.Peer m ↦ true | ends.Server m ↦ is_ready m.vars | ends.Backend m ↦ true | _ ↦ false ]
 
 -- whether the lower layer may report to the peer: it has not ended
-abbrev pub is_going_peer : End → Bool
-is_going_peer e = elim e [ ends.Peer m ↦ not (is_end m.vars.state) | _ ↦ false ]
+abbrev pub is_running_peer : End → Bool
+is_running_peer e = elim e [ ends.Peer m ↦ not (is_end m.vars.state) | _ ↦ false ]
 
 -- whether a server may start: it has not yet
 abbrev pub can_start : End → Bool

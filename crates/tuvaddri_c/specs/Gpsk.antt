@@ -9,7 +9,7 @@ use Rattle.login_setup.specs.declared.users.User.{User}
 use Rattle.eap_packet.specs.declared.cause.Cause.{Cause}
 use Rattle.gpsk_messages.specs.Message.{Message, gpsk2, fail, protected_fail}
 use Rattle.login_keys.specs.Gpsk.{gkdf, input_string}
-use Rattle.tuvaddri_c.specs.Reports.{Held}
+use Rattle.tuvaddri_c.specs.Reports.{EndReport}
 use Rattle.tuvaddri_c.specs.declared.session.End.{End}
 use Rattle.tuvaddri_c.specs.declared.session.End.TheVariants as ends
 
@@ -42,12 +42,12 @@ end_key (ends.Backend m) name = key_in m.vars.setup.users name
 end_key (ends.Pass m) name = None
 
 -- Method-ID = GKDF-16 (key, "Method ID" || EAP_Method_Type || CSuite_Sel || inputString) (RFC 5433 section 4)
-abbrev pub method_id : Suite → List ℕ → Held → List ℕ
+abbrev pub method_id : Suite → List ℕ → EndReport → List ℕ
 method_id suite key held = gkdf suite 16 key
     (codes "Method ID" ++ gpsk_kind ∷ suite_octets suite ++ input_string held.nonces.peer held.report.id_p held.nonces.server held.report.id_s)
 
 -- EAP-GPSK's Session-Id: its Type and the Method-ID
-abbrev pub gpsk_session_id : Suite → List ℕ → Held → List ℕ
+abbrev pub gpsk_session_id : Suite → List ℕ → EndReport → List ℕ
 gpsk_session_id suite key held = gpsk_kind ∷ method_id suite key held
 
 -- the key that the standard uses: KS octets of zero
@@ -60,10 +60,10 @@ front_of None suite = None
 front_of (Some psk) suite = if nat_lt (length psk) (ks_of suite) then None else Some (take (ks_of suite) psk)
 
 -- the Session-Id, if there are a suite and a key
-abbrev pub keyed_id : Suite → Held → Option (List ℕ) → Option (List ℕ)
+abbrev pub keyed_id : Suite → EndReport → Option (List ℕ) → Option (List ℕ)
 keyed_id suite held None = None
 keyed_id suite held (Some key) = Some (gpsk_session_id suite key held)
 
-abbrev pub suited_id : (Suite → Option (List ℕ)) → Held → Option Suite → Option (List ℕ)
+abbrev pub suited_id : (Suite → Option (List ℕ)) → EndReport → Option Suite → Option (List ℕ)
 suited_id key held None = None
 suited_id key held (Some suite) = keyed_id suite held (key suite)

@@ -9,7 +9,7 @@ pub mod Failures
 -- What is of EAP-GPSK alone.
 pub mod Gpsk
 -- The session that a handle lends to a call.
-pub mod Lending
+pub mod Borrowing
 -- The methods alone.
 pub mod Methods
 -- The peer's name in a Response.
@@ -19,7 +19,7 @@ pub mod Psk
 -- What is reported of a method that succeeded.
 pub mod Reports
 -- What a call writes into a buffer of the program's.
-pub mod Rooms
+pub mod Capacities
 -- What an end has sent.
 pub mod Sent
 -- The Session-Id of a login.

@@ -24,7 +24,7 @@ use Rattle.tuvaddri_c.specs.declared.method_turn.TuvMethodTurn.{TuvMethodTurn}
 use Rattle.end_objects.specs.declared.objects.PeerObject.{PeerObject}
 use Rattle.end_objects.specs.declared.objects.ServerObject.{ServerObject}
 use Rattle.tuvaddri_c.specs.declared.session.End.{End}
-use Rattle.tuvaddri_c.specs.declared.session.Known.{Known}
+use Rattle.tuvaddri_c.specs.declared.session.CheckedUsers.{CheckedUsers}
 use Rattle.tuvaddri_c.specs.declared.session.Sent.{Sent}
 use Rattle.tuvaddri_c.specs.declared.session.Session.{Session}
 use Rattle.tuvaddri_c.specs.Sent.{after_turn, session_after_silence}
@@ -39,11 +39,11 @@ abbrev pub AsPeerMethod : End → (PeerObject → List ℕ → Type 0) → Type 
 AsPeerMethod e P = elim e [ ends.PeerMethod o key ↦ P o key | _ ↦ ⊥ ]
 
 -- if the session has a server's method, this holds of it and its users
-abbrev pub IfServerMethod : End → (ServerObject → Known → Type 0) → Type 0
+abbrev pub IfServerMethod : End → (ServerObject → CheckedUsers → Type 0) → Type 0
 IfServerMethod e P = elim e [ ends.ServerMethod o users ↦ P o users | _ ↦ ⊤ ]
 
 -- the session has a server's method, and this holds of it and its users
-abbrev pub AsServerMethod : End → (ServerObject → Known → Type 0) → Type 0
+abbrev pub AsServerMethod : End → (ServerObject → CheckedUsers → Type 0) → Type 0
 AsServerMethod e P = elim e [ ends.ServerMethod o users ↦ P o users | _ ↦ ⊥ ]
 
 -- the numbers of methodState and of decision, in the order of their declarations
@@ -90,9 +90,9 @@ pub record IsDiscarded (c : Cause) (before : Session) (turn : TuvMethodTurn) (af
   pub same : after ≡ session_after_silence before
 
 -- the result of a peer's turn
-abbrev pub peer_told : PeerTurn → TuvMethodTurn
-peer_told (peer_turn.Discard c) = discarding c
-peer_told (peer_turn.Reply packet m d tags) = replying (method_number m) (decision_number d)
+abbrev pub peer_result : PeerTurn → TuvMethodTurn
+peer_result (peer_turn.Discard c) = discarding c
+peer_result (peer_turn.Reply packet m d tags) = replying (method_number m) (decision_number d)
 
 -- the packet of the turn, if it has one
 abbrev pub reply_of : PeerTurn → Option (List ℕ)
@@ -100,11 +100,11 @@ reply_of (peer_turn.Discard c) = None
 reply_of (peer_turn.Reply packet m d tags) = Some packet
 
 -- the result of a server's turn: methodState CONT (2) or DONE (4), and decision FAIL (0) or UNCOND_SUCC (2)
-abbrev pub server_told : ServerTurn → TuvMethodTurn
-server_told (server_turn.Discard c) = discarding c
-server_told (server_turn.Request packet tags) = replying 2 0
-server_told (server_turn.Done true tags) = method_done 2
-server_told (server_turn.Done false tags) = method_done 0
+abbrev pub server_result : ServerTurn → TuvMethodTurn
+server_result (server_turn.Discard c) = discarding c
+server_result (server_turn.Request packet tags) = replying 2 0
+server_result (server_turn.Done true tags) = method_done 2
+server_result (server_turn.Done false tags) = method_done 0
 
 abbrev pub request_of : ServerTurn → Option (List ℕ)
 request_of (server_turn.Discard c) = None
@@ -124,12 +124,12 @@ server_brief (server_answer.Done false) = method_done 0
 
 -- the call does what the method's definition says
 pub record PeerTurns (out : PeerOutcome PeerShown) (before : Sent) (turn : TuvMethodTurn) (sent : Sent) (after : PeerObject) : Type 0 where
-  pub turn_is : turn ≡ peer_told out.turn
+  pub turn_is : turn ≡ peer_result out.turn
   pub sent_is : sent ≡ after_turn (reply_of out.turn) before
   pub object : out.after ≡ peer_object_shown after
 
 pub record ServerTurns (out : ServerOutcome ServerShown) (before : Sent) (turn : TuvMethodTurn) (sent : Sent) (after : ServerObject) : Type 0 where
-  pub turn_is : turn ≡ server_told out.turn
+  pub turn_is : turn ≡ server_result out.turn
   pub sent_is : sent ≡ after_turn (request_of out.turn) before
   pub object : out.after ≡ server_object_shown after
 

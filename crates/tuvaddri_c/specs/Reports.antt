@@ -16,26 +16,26 @@ abbrev pub report_size : ℕ
 report_size = 712
 
 -- what an end has: the report of the method that succeeded, with its nonces
-pub record Held : Type 0 where
+pub record EndReport : Type 0 where
   pub report : Report
   pub nonces : Nonces
 
-abbrev pub both : Option Report → Option Nonces → Option Held
+abbrev pub both : Option Report → Option Nonces → Option EndReport
 both None rands = None
 both (Some report) None = None
 both (Some report) (Some rands) = Some (record { report = report; nonces = rands })
 
 -- what the object of a peer's selected method has; that of a server's current one
-abbrev pub peer_held : Option PeerShown → Option Held
-peer_held None = None
-peer_held (Some shown) = both (peer_report shown) (peer_nonces shown)
+abbrev pub peer_stored : Option PeerShown → Option EndReport
+peer_stored None = None
+peer_stored (Some shown) = both (peer_report shown) (peer_nonces shown)
 
-abbrev pub server_held : Option ServerShown → Option Held
-server_held None = None
-server_held (Some shown) = both (server_report shown) (server_nonces shown)
+abbrev pub server_stored : Option ServerShown → Option EndReport
+server_stored None = None
+server_stored (Some shown) = both (server_report shown) (server_nonces shown)
 
-abbrev pub end_held : End → Option Held
-end_held e = both (end_reports e) (end_nonces e)
+abbrev pub end_stored : End → Option EndReport
+end_stored e = both (end_reports e) (end_nonces e)
 
 -- what an object has: its report, and its nonces
 abbrev pub object_reports : Object → Option Report
@@ -48,11 +48,11 @@ object_nonces object.None = None
 object_nonces (object.Peer o) = peer_nonces (peer_object_shown o.now)
 object_nonces (object.Server o) = server_nonces (server_object_shown o.now)
 
-abbrev pub object_held : Object → Option Held
-object_held o = both (object_reports o) (object_nonces o)
+abbrev pub object_stored : Object → Option EndReport
+object_stored o = both (object_reports o) (object_nonces o)
 
 -- what is reported of it; behind a name and behind a nonce is what was there before
-pub record IsReport (held : Held) (before : TuvReport) (told : TuvReport) : Type 0 where
+pub record IsReport (held : EndReport) (before : TuvReport) (told : TuvReport) : Type 0 where
   pub size : told.size ≡ before.size
   pub method : told.method ≡ held.report.method
   pub suite : told.suite ≡ held.report.suite

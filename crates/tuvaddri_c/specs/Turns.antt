@@ -131,11 +131,11 @@ pub record ServerDoes (row : ServerAnswer) (before : Sent) (turn : TuvTurn) (sen
   pub machine : row.after ≡ server.now_of server_object_shown after
 
 -- the result of a step of the pass-through, whichever side it sends to
-abbrev pub pass_told : PassStep → State → TuvTurn
-pass_told step s = turn_of_table (record { path = step.path; cause = step.cause; sent = step.sent; tags = no_tags }) s
+abbrev pub pass_result : PassStep → State → TuvTurn
+pass_result step s = turn_of_table (record { path = step.path; cause = step.cause; sent = step.sent; tags = no_tags }) s
 
 -- the same of a pass-through's
 pub record PassDoes (row : PassAnswer) (before : Sent) (turn : TuvTurn) (sent : Sent) (after : PassVariables) : Type 0 where
-  pub turn_is : turn ≡ pass_told row.step row.after.state
+  pub turn_is : turn ≡ pass_result row.step row.after.state
   pub sent_is : sent ≡ after_turn row.step.sent before
   pub machine : row.after ≡ after

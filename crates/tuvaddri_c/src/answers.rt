@@ -6,7 +6,7 @@ ghost use Rattle.tuvaddri_c.specs.Answers.{begun, no_memory, no_place, refusal_n
 use end_objects::Refusal;
 
 /// The end has begun, or has accepted the user.
-pub const BEGUN: u8 = 0;
+pub const STARTED: u8 = 0;
 
 /// A key has another size than its method requires, or there is none for it.
 pub const BAD_KEY: u8 = 6;
@@ -20,7 +20,7 @@ pub const NO_PLACE: u8 = 9;
 /// The number of a refusal, 1 to 7.
 pub fn number_of_refusal(refusal: Refusal) -> u8
     ensures number { result ≡ refusal_number refusal }
-    ensures not_begun { result ≡ begun → ⊥ }
+    ensures not_started { result ≡ begun → ⊥ }
     ensures in_memory { result ≡ no_memory → ⊥ }
     ensures placed { result ≡ no_place → ⊥ }
 {

@@ -6,7 +6,7 @@ ghost use Rattle.octet_lists.specs.Sizes.{max_name};
 ghost use Rattle.server_machine.specs.ServerTable.{with_users};
 ghost use Rattle.end_objects.specs.Refusals.{IsSoundOther};
 ghost use Rattle.end_objects.specs.Settings.{settings_of, users_of};
-ghost use Rattle.tuvaddri_c.specs.ByMethod.{name_by, repeated_by, code_by, held_id};
+ghost use Rattle.tuvaddri_c.specs.ByMethod.{name_by, repeated_by, code_by, session_id_of_report};
 ghost use Rattle.tuvaddri_c.specs.Gpsk.{zeros, front_of};
 
 use crate::gpsk::{front_id, gpsk_id, gpsk_name, repeated_code};
@@ -71,7 +71,7 @@ pub fn add_users<M: HasUsers>(machine: &mut M, settings: &Settings)
 
 /// As the standard defines it: EAP-GPSK's key is KS octets of zero.
 pub fn standard_id(held: &Report, nonces: &Nonces) -> Option<SessionId>
-    ensures { result ≡ held_id zeros (record { report = held.now; nonces = nonces.now }) }
+    ensures { result ≡ session_id_of_report zeros (record { report = held.now; nonces = nonces.now }) }
 {
     if held.method == PSK_KIND {
         psk_id(nonces)
@@ -85,7 +85,7 @@ pub fn standard_id(held: &Report, nonces: &Nonces) -> Option<SessionId>
 
 /// As wpa_supplicant and hostapd derive it: EAP-GPSK's key is the first KS octets of the shared key.
 pub fn keyed_id(held: &Report, nonces: &Nonces, key: &Option<Secret>) -> Option<SessionId>
-    ensures { result ≡ held_id (front_of key.now) (record { report = held.now; nonces = nonces.now }) }
+    ensures { result ≡ session_id_of_report (front_of key.now) (record { report = held.now; nonces = nonces.now }) }
 {
     if held.method == PSK_KIND {
         psk_id(nonces)

@@ -1,13 +1,13 @@
 //! Octets arrive at a peer, a stand-alone server or a backend.
 
 ghost use Rattle.std.specs.Prelude.{◌≡◌, true, false};
-ghost use Rattle.peer_machine.specs.Expanded.{peer_hears};
+ghost use Rattle.peer_machine.specs.Expanded.{peer_receives};
 ghost use Rattle.peer_machine.specs.PeerTable as peer;
-ghost use Rattle.server_machine.specs.Expanded.{server_hears};
+ghost use Rattle.server_machine.specs.Expanded.{server_receives};
 ghost use Rattle.server_machine.specs.ServerTable.{is_ready};
 ghost use Rattle.server_machine.specs.ServerTable as server;
 ghost use Rattle.end_objects.specs.Objects.{peer_object_shown, server_object_shown};
-ghost use Rattle.tuvaddri_c.specs.Ends.{IfPeer, AsPeer, IfServer, AsServer, IfBackend, AsBackend, takes_octets, can_restart};
+ghost use Rattle.tuvaddri_c.specs.Ends.{IfPeer, AsPeer, IfServer, AsServer, IfBackend, AsBackend, receives_octets, can_restart};
 ghost use Rattle.tuvaddri_c.specs.Turns.{PeerDoes, ServerDoes, IsMisplaced};
 
 use crate::handle::TuvEnd;
@@ -18,15 +18,15 @@ use octet_lists::Packet;
 
 /// Octets arrive at a peer, a stand-alone server that has started, or a backend.
 #[unsafe(no_mangle)]
-#[tactic(auto, using(crate::proofs::Does::peer_does, crate::proofs::Does::server_does, crate::proofs::Kept::peer_kept, crate::proofs::Kept::server_kept))]
+#[tactic(auto, using(crate::proofs::Does::peer_does, crate::proofs::Does::server_does, crate::proofs::TwoRecords::peer_preserved, crate::proofs::TwoRecords::server_preserved))]
 pub extern "C" fn tuv_end_deliver(end: &mut TuvEnd, octets: &[u8]) -> TuvTurn
     ensures peer { IfPeer end.old.value.end (λ m. AsPeer end.new.value.end (λ n.
-        PeerDoes (peer_hears (peer.now_of peer_object_shown m) octets.now) end.old.value.sent result end.new.value.sent n)) }
+        PeerDoes (peer_receives (peer.now_of peer_object_shown m) octets.now) end.old.value.sent result end.new.value.sent n)) }
     ensures server { IfServer end.old.value.end (λ m. is_ready m.vars ≡ true → AsServer end.new.value.end (λ n.
-        ServerDoes (server_hears (server.now_of server_object_shown m) octets.now) end.old.value.sent result end.new.value.sent n)) }
+        ServerDoes (server_receives (server.now_of server_object_shown m) octets.now) end.old.value.sent result end.new.value.sent n)) }
     ensures backend { IfBackend end.old.value.end (λ m. AsBackend end.new.value.end (λ n.
-        ServerDoes (server_hears (server.now_of server_object_shown m) octets.now) end.old.value.sent result end.new.value.sent n)) }
-    ensures misplaced { takes_octets end.old.value.end ≡ false → IsMisplaced end.old.value result end.new.value }
+        ServerDoes (server_receives (server.now_of server_object_shown m) octets.now) end.old.value.sent result end.new.value.sent n)) }
+    ensures misplaced { receives_octets end.old.value.end ≡ false → IsMisplaced end.old.value result end.new.value }
     ensures objects { can_restart end.old.value.end ≡ true → can_restart end.new.value.end ≡ true }
 {
     let session = end.session();

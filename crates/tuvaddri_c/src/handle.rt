@@ -2,7 +2,7 @@
 
 ghost use Rattle.std.specs.Prelude.{◌≡◌, IsTrue};
 ghost use Rattle.tuvaddri_c.specs.declared.session.Session.{Session};
-ghost use Rattle.tuvaddri_c.specs.Rooms.{IsCopied};
+ghost use Rattle.tuvaddri_c.specs.Capacities.{IsCopied};
 ghost use Rattle.tuvaddri_c.specs.Sent.{no_end, turn_packet};
 
 use crate::rooms::copy;
@@ -29,11 +29,11 @@ impl Model for TuvEnd {
 
 impl TuvEnd {
     ghost use Rattle.std.specs.Borrow.{sem};
-    ghost use Rattle.tuvaddri_c.specs.Lending.{LendsSession};
+    ghost use Rattle.tuvaddri_c.specs.Borrowing.{BorrowsSession};
 
     /// The session.
     pub fn session(&mut self) -> &mut Session
-        ensures* writes_back { sem 𝓛 (LendsSession self.entry result) }
+        ensures* writes_back { sem 𝓛 (BorrowsSession self.entry result) }
         ensures value { result.now ≡ self.old.value }
     {
         unsafe { &mut *(self.at as *mut Session) }

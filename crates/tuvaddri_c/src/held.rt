@@ -2,7 +2,7 @@
 
 ghost use Rattle.std.specs.Prelude.{◌≡◌, option_map};
 ghost use Rattle.end_objects.specs.Objects.{peer_object_shown, server_object_shown};
-ghost use Rattle.tuvaddri_c.specs.Reports.{peer_held, server_held, end_held, object_held};
+ghost use Rattle.tuvaddri_c.specs.Reports.{peer_stored, server_stored, end_stored, object_stored};
 
 use crate::session::End;
 use eap_method::{PeerMethod, Report, ServerMethod};
@@ -45,7 +45,7 @@ impl Object<'_> {
 
 /// The object of a peer's selected method.
 fn of_peer<'a>(selected: Option<&'a PeerObject>) -> Object<'a>
-    ensures { object_held result ≡ peer_held (option_map (λ o. peer_object_shown o.now) selected.entry) }
+    ensures { object_stored result ≡ peer_stored (option_map (λ o. peer_object_shown o.now) selected.entry) }
 {
     match selected {
         None => Object::None,
@@ -55,7 +55,7 @@ fn of_peer<'a>(selected: Option<&'a PeerObject>) -> Object<'a>
 
 /// The object of a server's current method.
 fn of_server<'a>(current: Option<&'a ServerObject>) -> Object<'a>
-    ensures { object_held result ≡ server_held (option_map (λ o. server_object_shown o.now) current.entry) }
+    ensures { object_stored result ≡ server_stored (option_map (λ o. server_object_shown o.now) current.entry) }
 {
     match current {
         None => Object::None,
@@ -65,7 +65,7 @@ fn of_server<'a>(current: Option<&'a ServerObject>) -> Object<'a>
 
 /// The object that an end has.
 pub fn object_of<'a>(end: &'a End) -> Object<'a>
-    ensures { object_held result ≡ end_held end.now }
+    ensures { object_stored result ≡ end_stored end.now }
 {
     match end {
         End::Closed => Object::None,

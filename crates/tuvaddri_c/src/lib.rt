@@ -28,5 +28,5 @@ pub use failure::TuvFailure;
 pub use handle::TuvEnd;
 pub use method_turn::TuvMethodTurn;
 pub use report::TuvReport;
-pub use session::{End, Known, Sent, Session};
+pub use session::{CheckedUsers, End, Sent, Session};
 pub use turn::TuvTurn;

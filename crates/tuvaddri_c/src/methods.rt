@@ -1,7 +1,7 @@
 //! The methods alone, for a program with machines of its own.
 
 ghost use Rattle.std.specs.Prelude.{◌≡◌, true, false, IsTrue, All, Ok, Err, None, IfSome, IfOk, IfErr};
-ghost use Rattle.login_setup.specs.Setup.{fits_kind};
+ghost use Rattle.login_setup.specs.Setup.{is_valid_for};
 ghost use Rattle.eap_packet.specs.Fault.{packet_of};
 ghost use Rattle.eap_method.specs.Peer.{peer_kind, peer_step, IsRequest};
 ghost use Rattle.eap_method.specs.Server.{server_kind, server_step, server_first_step, IsResponse};
@@ -14,10 +14,10 @@ ghost use Rattle.tuvaddri_c.specs.Sent.{none_sent};
 ghost use Rattle.tuvaddri_c.specs.declared.session.End.TheVariants as ends;
 ghost use Rattle.tuvaddri_c.specs.Methods.{IfPeerMethod, AsPeerMethod, IfServerMethod, AsServerMethod, PeerTurns, ServerTurns, request_in, response_in, is_peer_method, is_server_method, IsMisplaced, IsDiscarded};
 
-use crate::answers::{BEGUN, number_of_refusal};
+use crate::answers::{STARTED, number_of_refusal};
 use crate::handle::TuvEnd;
 use crate::method_turn::TuvMethodTurn;
-use crate::session::{End, Known};
+use crate::session::{CheckedUsers, End};
 use eap_method::{NoRecords, PeerMethod, ServerMethod, Tags};
 use eap_packet::{Cause, Code, decode};
 use end_objects::{
@@ -28,7 +28,7 @@ use login_setup::Users;
 use octet_lists::{Nonce, Packet, Secret};
 
 /// Makes the end this peer's method. (By itself, since the compiler then builds it where it stays.)
-fn hold_peer(end: &mut End, object: PeerObject, key: Secret)
+fn store_peer(end: &mut End, object: PeerObject, key: Secret)
     ensures { end.new ≡ ends.PeerMethod object key }
 {
     *end = End::PeerMethod(object, key);
@@ -52,9 +52,9 @@ pub extern "C" fn tuv_peer_method_begin(end: &mut TuvEnd, settings: &Settings, n
     let mut object = peer_object(first_kind(settings));
     object.begin(&credential, nonce);
     let session = end.session();
-    hold_peer(&mut session.end, object, credential.psk.copy());
+    store_peer(&mut session.end, object, credential.psk.copy());
     session.sent.clear();
-    BEGUN
+    STARTED
 }
 
 /// The Request of this Type with which the octets begin.
@@ -107,11 +107,11 @@ pub extern "C" fn tuv_peer_method_handle(end: &mut TuvEnd, octets: &[u8]) -> Tuv
 }
 
 /// Makes the end this server's method. (By itself, since the compiler then builds it where it stays.)
-fn hold_server(end: &mut End, object: ServerObject, users: Users)
-    requires { All (λ user. IsTrue (fits_kind user.kind user.psk)) users }
+fn store_server(end: &mut End, object: ServerObject, users: Users)
+    requires { All (λ user. IsTrue (is_valid_for user.kind user.psk)) users }
     ensures { AsServerMethod end.new (λ n known. (n ≡ object) × (known.users ≡ users)) }
 {
-    *end = End::ServerMethod(object, Known { users });
+    *end = End::ServerMethod(object, CheckedUsers { users });
 }
 
 /// Makes the end the first of the server's methods, alone, which has begun and written its first Request, with this
@@ -141,8 +141,8 @@ pub extern "C" fn tuv_server_method_begin(
     let session = end.session();
     object.first_into(id, &mut session.sent.packet);
     session.sent.fresh = true;
-    hold_server(&mut session.end, object, users_of(settings));
-    BEGUN
+    store_server(&mut session.end, object, users_of(settings));
+    STARTED
 }
 
 /// The Response of this Type with which the octets begin.

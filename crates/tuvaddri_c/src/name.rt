@@ -4,7 +4,7 @@ ghost use Rattle.std.specs.Prelude.{◌≡◌, ◌≤◌, length, Some, None, If
 ghost use Rattle.octet_lists.specs.Sizes.{max_name};
 ghost use Rattle.eap_packet.specs.Fault.{packet_of};
 ghost use Rattle.tuvaddri_c.specs.PeerName.{name_in, response_name};
-ghost use Rattle.tuvaddri_c.specs.Rooms.{IsWritten, octets_of};
+ghost use Rattle.tuvaddri_c.specs.Capacities.{IsWritten, octets_of};
 
 use crate::by_method::name_by;
 use crate::rooms::write_octets;

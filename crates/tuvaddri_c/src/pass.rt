@@ -1,14 +1,14 @@
 //! The pass-through of RFC 4137 section 7.
 
 ghost use Rattle.std.specs.Prelude.{◌≡◌, true, false, None, IfSome};
-ghost use Rattle.pass_through.specs.PassTable.{pass_made, pass_start, pass_restart, pass_from_peer, pass_from_backend, pass_timeout, pass_aaa_timeout, pass_aaa_noreq, is_started, has_timer, is_aaa_idle};
+ghost use Rattle.pass_through.specs.PassTable.{initial_pass, pass_start, pass_restart, pass_from_peer, pass_from_backend, pass_timeout, pass_aaa_timeout, pass_aaa_noreq, is_started, has_timer, is_aaa_idle};
 ghost use Rattle.end_objects.specs.Refusals.{retry_refusal};
 ghost use Rattle.tuvaddri_c.specs.Answers.{begun, refusal_number};
 ghost use Rattle.tuvaddri_c.specs.Ends.{IfPass, AsPass, is_pass, can_start_pass, has_timer_pass, waits_for_backend};
 ghost use Rattle.tuvaddri_c.specs.Sent.{none_sent};
 ghost use Rattle.tuvaddri_c.specs.Turns.{PassDoes, IsMisplaced};
 
-use crate::answers::{BEGUN, number_of_refusal};
+use crate::answers::{STARTED, number_of_refusal};
 use crate::handle::TuvEnd;
 use crate::session::End;
 use crate::turn::TuvTurn;
@@ -23,7 +23,7 @@ use pass_through::PassThrough;
 pub extern "C" fn tuv_pass_begin(end: &mut TuvEnd, first_id: u8, max_retrans: u8) -> u8
     ensures refused { IfSome (retry_refusal max_retrans) (λ reason. result ≡ refusal_number reason) }
     ensures begun { retry_refusal max_retrans ≡ None → result ≡ begun }
-    ensures made { result ≡ begun → AsPass end.new.value.end (λ n. n ≡ pass_made first_id max_retrans) }
+    ensures made { result ≡ begun → AsPass end.new.value.end (λ n. n ≡ initial_pass first_id max_retrans) }
     ensures sent { result ≡ begun → end.new.value.sent ≡ none_sent }
     ensures unchanged { (result ≡ begun → ⊥) → end.new.value ≡ end.old.value }
 {
@@ -33,7 +33,7 @@ pub extern "C" fn tuv_pass_begin(end: &mut TuvEnd, first_id: u8, max_retrans: u8
     let session = end.session();
     session.end = End::Pass(PassThrough::new(first_id, max_retrans));
     session.sent.clear();
-    BEGUN
+    STARTED
 }
 
 /// It starts, if it has not: its Request goes to the peer.

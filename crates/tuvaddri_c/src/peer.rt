@@ -2,18 +2,18 @@
 
 ghost use Rattle.std.specs.Prelude.{◌≡◌, true, false, None, IfSome};
 ghost use Rattle.eap_method.specs.Steps.{is_end};
-ghost use Rattle.peer_machine.specs.PeerTable.{peer_idle, peer_alt_accept, peer_alt_reject, peer_made};
+ghost use Rattle.peer_machine.specs.PeerTable.{peer_idle, peer_alt_accept, peer_alt_reject, initial_peer};
 ghost use Rattle.peer_machine.specs.PeerTable as peer;
 ghost use Rattle.end_objects.specs.Objects.{peer_object_shown};
 ghost use Rattle.end_objects.specs.Refusals.{peer_refusal};
 ghost use Rattle.end_objects.specs.Settings.{settings_of, peer_setup_of};
 ghost use Rattle.tuvaddri_c.specs.Answers.{begun, no_memory, refusal_number};
-ghost use Rattle.tuvaddri_c.specs.Ends.{IfPeer, AsPeer, is_going_peer, can_restart};
+ghost use Rattle.tuvaddri_c.specs.Ends.{IfPeer, AsPeer, is_running_peer, can_restart};
 ghost use Rattle.tuvaddri_c.specs.declared.session.End.TheVariants as ends;
 ghost use Rattle.tuvaddri_c.specs.Sent.{none_sent};
 ghost use Rattle.tuvaddri_c.specs.Turns.{PeerDoes, IsMisplaced};
 
-use crate::answers::{BEGUN, NO_MEMORY, number_of_refusal};
+use crate::answers::{NO_MEMORY, STARTED, number_of_refusal};
 use crate::handle::TuvEnd;
 use crate::session::End;
 use crate::turn::TuvTurn;
@@ -32,7 +32,7 @@ fn hold(end: &mut End, machine: PeerMachine<PeerObject>)
 /// Makes the end a peer with these settings, and answers 0. Else it answers the number of the refusal, or 8 for want
 /// of memory, and the end stays as it was.
 #[unsafe(no_mangle)]
-#[tactic(auto, using(crate::proofs::Kept::peer_made_with), unfolding(end_objects::specs::Settings::peer_setup_of))]
+#[tactic(auto, using(crate::proofs::TwoRecords::peer_created_with), unfolding(end_objects::specs::Settings::peer_setup_of))]
 pub extern "C" fn tuv_peer_begin(
     alloc: Global,
     end: &mut TuvEnd,
@@ -42,7 +42,7 @@ pub extern "C" fn tuv_peer_begin(
     ensures refused { IfSome (peer_refusal (settings_of settings.now)) (λ reason. result ≡ refusal_number reason) }
     ensures begun { peer_refusal (settings_of settings.now) ≡ None → (result ≡ no_memory → ⊥) → result ≡ begun }
     ensures made { result ≡ begun → AsPeer end.new.value.end (λ n.
-        peer.now_of peer_object_shown n ≡ peer_made (peer_setup_of (settings_of settings.now) nonce.now)) }
+        peer.now_of peer_object_shown n ≡ initial_peer (peer_setup_of (settings_of settings.now) nonce.now)) }
     ensures objects { result ≡ begun → can_restart end.new.value.end ≡ true }
     ensures sent { result ≡ begun → end.new.value.sent ≡ none_sent }
     ensures unchanged { (result ≡ begun → ⊥) → end.new.value ≡ end.old.value }
@@ -58,16 +58,16 @@ pub extern "C" fn tuv_peer_begin(
     let session = end.session();
     hold(&mut session.end, PeerMachine::new(setup, methods));
     session.sent.clear();
-    BEGUN
+    STARTED
 }
 
 /// The lower layer is idle: to a peer that has not ended.
 #[unsafe(no_mangle)]
-#[tactic(auto, using(crate::proofs::Does::peer_does, crate::proofs::Kept::peer_kept))]
+#[tactic(auto, using(crate::proofs::Does::peer_does, crate::proofs::TwoRecords::peer_preserved))]
 pub extern "C" fn tuv_peer_idle(end: &mut TuvEnd) -> TuvTurn
     ensures peer { IfPeer end.old.value.end (λ m. is_end m.vars.state ≡ false → AsPeer end.new.value.end (λ n.
         PeerDoes (peer_idle (peer.now_of peer_object_shown m)) end.old.value.sent result end.new.value.sent n)) }
-    ensures misplaced { is_going_peer end.old.value.end ≡ false → IsMisplaced end.old.value result end.new.value }
+    ensures misplaced { is_running_peer end.old.value.end ≡ false → IsMisplaced end.old.value result end.new.value }
     ensures objects { can_restart end.old.value.end ≡ true → can_restart end.new.value.end ≡ true }
 {
     let session = end.session();
@@ -82,11 +82,11 @@ pub extern "C" fn tuv_peer_idle(end: &mut TuvEnd) -> TuvTurn
 
 /// The lower layer reports success: to a peer that has not ended.
 #[unsafe(no_mangle)]
-#[tactic(auto, using(crate::proofs::Does::peer_does, crate::proofs::Kept::peer_kept))]
+#[tactic(auto, using(crate::proofs::Does::peer_does, crate::proofs::TwoRecords::peer_preserved))]
 pub extern "C" fn tuv_peer_alt_accept(end: &mut TuvEnd) -> TuvTurn
     ensures peer { IfPeer end.old.value.end (λ m. is_end m.vars.state ≡ false → AsPeer end.new.value.end (λ n.
         PeerDoes (peer_alt_accept (peer.now_of peer_object_shown m)) end.old.value.sent result end.new.value.sent n)) }
-    ensures misplaced { is_going_peer end.old.value.end ≡ false → IsMisplaced end.old.value result end.new.value }
+    ensures misplaced { is_running_peer end.old.value.end ≡ false → IsMisplaced end.old.value result end.new.value }
     ensures objects { can_restart end.old.value.end ≡ true → can_restart end.new.value.end ≡ true }
 {
     let session = end.session();
@@ -101,11 +101,11 @@ pub extern "C" fn tuv_peer_alt_accept(end: &mut TuvEnd) -> TuvTurn
 
 /// The lower layer reports failure: to a peer that has not ended.
 #[unsafe(no_mangle)]
-#[tactic(auto, using(crate::proofs::Does::peer_does, crate::proofs::Kept::peer_kept))]
+#[tactic(auto, using(crate::proofs::Does::peer_does, crate::proofs::TwoRecords::peer_preserved))]
 pub extern "C" fn tuv_peer_alt_reject(end: &mut TuvEnd) -> TuvTurn
     ensures peer { IfPeer end.old.value.end (λ m. is_end m.vars.state ≡ false → AsPeer end.new.value.end (λ n.
         PeerDoes (peer_alt_reject (peer.now_of peer_object_shown m)) end.old.value.sent result end.new.value.sent n)) }
-    ensures misplaced { is_going_peer end.old.value.end ≡ false → IsMisplaced end.old.value result end.new.value }
+    ensures misplaced { is_running_peer end.old.value.end ≡ false → IsMisplaced end.old.value result end.new.value }
     ensures objects { can_restart end.old.value.end ≡ true → can_restart end.new.value.end ≡ true }
 {
     let session = end.session();

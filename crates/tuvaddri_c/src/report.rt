@@ -1,7 +1,7 @@
 //! What is reported of a method that succeeded.
 
 ghost use Rattle.std.specs.Prelude.{◌≡◌, IsTrue, None, IfSome};
-ghost use Rattle.tuvaddri_c.specs.Reports.{report_size, both, end_held, object_held, IsReport};
+ghost use Rattle.tuvaddri_c.specs.Reports.{report_size, both, end_stored, object_stored, IsReport};
 
 use crate::handle::TuvEnd;
 use crate::held::{Object, object_of};
@@ -45,8 +45,8 @@ pub struct TuvReport {
 #[unsafe(no_mangle)]
 pub extern "C" fn tuv_end_report(end: &mut TuvEnd, report: &mut TuvReport) -> bool
     ensures same { end.new.value ≡ end.old.value }
-    ensures held { report.old.size ≡ report_size → IfSome (end_held end.old.value.end) (λ held. IsTrue result × IsReport held report.old report.new) }
-    ensures none { end_held end.old.value.end ≡ None → (IsTrue result → ⊥) × (report.new ≡ report.old) }
+    ensures held { report.old.size ≡ report_size → IfSome (end_stored end.old.value.end) (λ held. IsTrue result × IsReport held report.old report.new) }
+    ensures none { end_stored end.old.value.end ≡ None → (IsTrue result → ⊥) × (report.new ≡ report.old) }
     ensures other_size { (report.old.size ≡ report_size → ⊥) → (IsTrue result → ⊥) × (report.new ≡ report.old) }
 {
     if report.size == REPORT_SIZE {
@@ -58,17 +58,17 @@ pub extern "C" fn tuv_end_report(end: &mut TuvEnd, report: &mut TuvReport) -> bo
 
 /// Writes what the object has. (By its kind, so that no report is copied.)
 fn write_object(object: Object, report: &mut TuvReport) -> bool
-    ensures held { IfSome (object_held object.entry) (λ held. IsTrue result × IsReport held report.old report.new) }
-    ensures none { object_held object.entry ≡ None → (IsTrue result → ⊥) × (report.new ≡ report.old) }
+    ensures held { IfSome (object_stored object.entry) (λ held. IsTrue result × IsReport held report.old report.new) }
+    ensures none { object_stored object.entry ≡ None → (IsTrue result → ⊥) × (report.new ≡ report.old) }
 {
     match object {
         Object::None => false,
-        Object::Peer(object) => write_held(&object.report(), &object.nonces(), report),
-        Object::Server(object) => write_held(&object.report(), &object.nonces(), report),
+        Object::Peer(object) => write_end_report(&object.report(), &object.nonces(), report),
+        Object::Server(object) => write_end_report(&object.report(), &object.nonces(), report),
     }
 }
 
-fn write_held(held: &Option<Report>, nonces: &Option<Nonces>, report: &mut TuvReport) -> bool
+fn write_end_report(held: &Option<Report>, nonces: &Option<Nonces>, report: &mut TuvReport) -> bool
     ensures held { IfSome (both held.now nonces.now) (λ held. IsTrue result × IsReport held report.old report.new) }
     ensures none { both held.now nonces.now ≡ None → (IsTrue result → ⊥) × (report.new ≡ report.old) }
 {

@@ -20,7 +20,7 @@ use octet_lists::{Nonce, Packet};
 /// leaves it and each call keeps it. A stand-alone server asks for the identity, by its first Identifier; a peer and
 /// a backend send nothing. No packet from before is there any more.
 #[unsafe(no_mangle)]
-#[tactic(auto, using(crate::proofs::Does::peer_does, crate::proofs::Does::server_does, crate::proofs::Kept::peer_kept, crate::proofs::Kept::server_kept))]
+#[tactic(auto, using(crate::proofs::Does::peer_does, crate::proofs::Does::server_does, crate::proofs::TwoRecords::peer_preserved, crate::proofs::TwoRecords::server_preserved))]
 pub extern "C" fn tuv_end_restart(end: &mut TuvEnd, nonce: &Nonce) -> TuvTurn
     ensures peer { IfPeer end.old.value.end (λ m. peer_has_objects m ≡ true → AsPeer end.new.value.end (λ n.
         PeerDoes (peer_restart (peer.now_of peer_object_shown m) nonce.now) none_sent result end.new.value.sent n)) }

@@ -1,7 +1,7 @@
 //! What a call writes into a buffer of the program's.
 
 ghost use Rattle.std.specs.Prelude.{◌≤◌, length};
-ghost use Rattle.tuvaddri_c.specs.Rooms.{IsCopied, IsWritten};
+ghost use Rattle.tuvaddri_c.specs.Capacities.{IsCopied, IsWritten};
 
 /// Copies octets to the start of a buffer if they fit, and answers their number.
 pub fn copy(octets: &[u8], room: &mut [u8]) -> usize

@@ -3,7 +3,7 @@
 ghost use Rattle.std.specs.Prelude.{◌≡◌, ◌≤◌, true, false, map, None, IfSome};
 ghost use Rattle.eap_method.specs.Peer.{have_each};
 ghost use Rattle.eap_method.specs.Server.{server_kinds};
-ghost use Rattle.server_machine.specs.ServerTable.{server_start, server_timeout, server_made, backend_made, is_started, is_backend, has_timer};
+ghost use Rattle.server_machine.specs.ServerTable.{server_start, server_timeout, initial_server, initial_backend, is_started, is_backend, has_timer};
 ghost use Rattle.server_machine.specs.ServerTable as server;
 ghost use Rattle.server_machine.specs.declared.variables.Role.TheVariants.{StandAlone};
 ghost use Rattle.end_objects.specs.Objects.{server_object_shown};
@@ -15,7 +15,7 @@ ghost use Rattle.tuvaddri_c.specs.Ends as ends;
 ghost use Rattle.tuvaddri_c.specs.Sent.{none_sent};
 ghost use Rattle.tuvaddri_c.specs.Turns.{ServerDoes, IsMisplaced};
 
-use crate::answers::{BEGUN, NO_MEMORY, number_of_refusal};
+use crate::answers::{NO_MEMORY, STARTED, number_of_refusal};
 use crate::by_method::add_users;
 use crate::handle::TuvEnd;
 use crate::session::End;
@@ -29,7 +29,7 @@ use server_machine::{Backend, Role, ServerMachine};
 use std::alloc::Global;
 
 /// Makes the end a stand-alone server with these settings. (It is built where it stays, and nothing of it is copied.)
-#[tactic(auto, using(crate::proofs::Kept::server_begun_with, crate::proofs::Kept::server_kept), unfolding(end_objects::specs::Settings::server_setup_of))]
+#[tactic(auto, using(crate::proofs::TwoRecords::server_started_with, crate::proofs::TwoRecords::server_preserved), unfolding(end_objects::specs::Settings::server_setup_of))]
 fn hold(
     end: &mut End,
     settings: &Settings,
@@ -43,7 +43,7 @@ fn hold(
     requires few { max_retrans ≤ 10 }
     requires objects { have_each (server_kinds (map server_object_shown methods.items)) (kinds_of (settings_of settings.now)) ≡ true }
     ensures made { AsServer end.new (λ n. server.now_of server_object_shown n
-        ≡ server_made StandAlone (server_setup_of (settings_of settings.now) nonce.now) first_id max_retrans) }
+        ≡ initial_server StandAlone (server_setup_of (settings_of settings.now) nonce.now) first_id max_retrans) }
     ensures objects { can_restart end.new ≡ true }
 {
     let role = Role::StandAlone;
@@ -77,7 +77,7 @@ pub extern "C" fn tuv_server_begin(
     ensures refused { IfSome (stand_alone_refusal (settings_of settings.now) max_retrans) (λ reason. result ≡ refusal_number reason) }
     ensures begun { stand_alone_refusal (settings_of settings.now) max_retrans ≡ None → (result ≡ no_memory → ⊥) → result ≡ begun }
     ensures made { result ≡ begun → AsServer end.new.value.end (λ n. server.now_of server_object_shown n
-        ≡ server_made StandAlone (server_setup_of (settings_of settings.now) nonce.now) first_id max_retrans) }
+        ≡ initial_server StandAlone (server_setup_of (settings_of settings.now) nonce.now) first_id max_retrans) }
     ensures objects { result ≡ begun → can_restart end.new.value.end ≡ true }
     ensures sent { result ≡ begun → end.new.value.sent ≡ none_sent }
     ensures unchanged { (result ≡ begun → ⊥) → end.new.value ≡ end.old.value }
@@ -93,16 +93,16 @@ pub extern "C" fn tuv_server_begin(
     let end = &mut session.end;
     hold(end, settings, nonce, first_id, max_retrans, methods);
     session.sent.clear();
-    BEGUN
+    STARTED
 }
 
 /// Makes the end a backend with these settings, likewise.
-#[tactic(auto, using(crate::proofs::Kept::server_begun_with, crate::proofs::Kept::server_kept), unfolding(end_objects::specs::Settings::server_setup_of))]
-fn hold_backend(end: &mut End, settings: &Settings, nonce: &Nonce, methods: Vec<ServerObject>)
+#[tactic(auto, using(crate::proofs::TwoRecords::server_started_with, crate::proofs::TwoRecords::server_preserved), unfolding(end_objects::specs::Settings::server_setup_of))]
+fn store_backend(end: &mut End, settings: &Settings, nonce: &Nonce, methods: Vec<ServerObject>)
     requires taken { server_refusal (settings_of settings.now) ≡ None }
     requires other { IsSoundOther (settings_of settings.now) }
     requires objects { have_each (server_kinds (map server_object_shown methods.items)) (kinds_of (settings_of settings.now)) ≡ true }
-    ensures made { AsBackend end.new (λ n. server.now_of server_object_shown n ≡ backend_made (server_setup_of (settings_of settings.now) nonce.now)) }
+    ensures made { AsBackend end.new (λ n. server.now_of server_object_shown n ≡ initial_backend (server_setup_of (settings_of settings.now) nonce.now)) }
     ensures objects { can_restart end.new ≡ true }
 {
     *end = End::Backend(Backend::unbegun(server_alone(settings, nonce), methods));
@@ -126,7 +126,7 @@ pub extern "C" fn tuv_backend_begin(
     ensures refused { IfSome (server_refusal (settings_of settings.now)) (λ reason. result ≡ refusal_number reason) }
     ensures begun { server_refusal (settings_of settings.now) ≡ None → (result ≡ no_memory → ⊥) → result ≡ begun }
     ensures made { result ≡ begun → AsBackend end.new.value.end (λ n. server.now_of server_object_shown n
-        ≡ backend_made (server_setup_of (settings_of settings.now) nonce.now)) }
+        ≡ initial_backend (server_setup_of (settings_of settings.now) nonce.now)) }
     ensures objects { result ≡ begun → can_restart end.new.value.end ≡ true }
     ensures sent { result ≡ begun → end.new.value.sent ≡ none_sent }
     ensures unchanged { (result ≡ begun → ⊥) → end.new.value ≡ end.old.value }
@@ -139,14 +139,14 @@ pub extern "C" fn tuv_backend_begin(
         return NO_MEMORY;
     };
     let session = end.session();
-    hold_backend(&mut session.end, settings, nonce, methods);
+    store_backend(&mut session.end, settings, nonce, methods);
     session.sent.clear();
-    BEGUN
+    STARTED
 }
 
 /// The server starts: one that has not started.
 #[unsafe(no_mangle)]
-#[tactic(auto, using(crate::proofs::Does::server_does, crate::proofs::Kept::server_kept))]
+#[tactic(auto, using(crate::proofs::Does::server_does, crate::proofs::TwoRecords::server_preserved))]
 pub extern "C" fn tuv_server_start(end: &mut TuvEnd) -> TuvTurn
     ensures server { IfServer end.old.value.end (λ m. is_started m.vars ≡ false → is_backend m.vars ≡ false → AsServer end.new.value.end (λ n.
         ServerDoes (server_start (server.now_of server_object_shown m)) end.old.value.sent result end.new.value.sent n)) }
@@ -166,7 +166,7 @@ pub extern "C" fn tuv_server_start(end: &mut TuvEnd) -> TuvTurn
 
 /// The server's retransmission timer ends: of one that has it running.
 #[unsafe(no_mangle)]
-#[tactic(auto, using(crate::proofs::Does::server_does, crate::proofs::Kept::server_kept))]
+#[tactic(auto, using(crate::proofs::Does::server_does, crate::proofs::TwoRecords::server_preserved))]
 pub extern "C" fn tuv_server_timeout(end: &mut TuvEnd) -> TuvTurn
     ensures server { IfServer end.old.value.end (λ m. has_timer m.vars ≡ true → AsServer end.new.value.end (λ n.
         ServerDoes (server_timeout (server.now_of server_object_shown m)) end.old.value.sent result end.new.value.sent n)) }

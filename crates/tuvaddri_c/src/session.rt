@@ -1,7 +1,7 @@
 //! The session of a handle: an end, and what it has sent.
 
 ghost use Rattle.std.specs.Prelude.{All, IsTrue};
-ghost use Rattle.login_setup.specs.Setup.{fits_kind};
+ghost use Rattle.login_setup.specs.Setup.{is_valid_for};
 
 use end_objects::{PeerObject, ServerObject};
 use login_setup::Users;
@@ -18,7 +18,7 @@ pub enum End {
     /// A peer's method alone, with its key.
     PeerMethod(PeerObject, Secret),
     /// A server's method alone, with its users.
-    ServerMethod(ServerObject, Known),
+    ServerMethod(ServerObject, CheckedUsers),
     /// A peer.
     Peer(PeerMachine<PeerObject>),
     /// A stand-alone server.
@@ -31,9 +31,9 @@ pub enum End {
 
 /// Users whose keys fit their methods.
 #[derive(Drop)]
-pub struct Known {
+pub struct CheckedUsers {
     pub users: Users,
-    pub ghost fit: { All (λ user. IsTrue (fits_kind user.kind user.psk)) users },
+    pub ghost fit: { All (λ user. IsTrue (is_valid_for user.kind user.psk)) users },
 }
 
 /// What an end has sent.

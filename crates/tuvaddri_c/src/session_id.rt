@@ -1,11 +1,11 @@
 //! The Session-Id of a login (RFC 5247 section 1.4).
 
 ghost use Rattle.std.specs.Prelude.{◌≡◌};
-ghost use Rattle.tuvaddri_c.specs.ByMethod.{held_id};
+ghost use Rattle.tuvaddri_c.specs.ByMethod.{session_id_of_report};
 ghost use Rattle.tuvaddri_c.specs.Gpsk.{zeros, front_of, end_key};
 ghost use Rattle.tuvaddri_c.specs.Reports.{both};
-ghost use Rattle.tuvaddri_c.specs.Rooms.{IsWritten, octets_of};
-ghost use Rattle.tuvaddri_c.specs.SessionId.{if_held, session_id, session_id_wpa};
+ghost use Rattle.tuvaddri_c.specs.Capacities.{IsWritten, octets_of};
+ghost use Rattle.tuvaddri_c.specs.SessionId.{if_stored, session_id, session_id_wpa};
 
 use crate::by_method::{keyed_id, standard_id};
 use crate::gpsk::key_of;
@@ -25,7 +25,7 @@ pub type SessionId = Octets<MAX_ID>;
 
 /// The Session-Id of what an end has.
 fn id_of(held: &Option<Report>, nonces: &Option<Nonces>) -> Option<SessionId>
-    ensures { result ≡ if_held (both held.now nonces.now) (held_id zeros) }
+    ensures { result ≡ if_stored (both held.now nonces.now) (session_id_of_report zeros) }
 {
     match held {
         None => None,
@@ -38,7 +38,7 @@ fn id_of(held: &Option<Report>, nonces: &Option<Nonces>) -> Option<SessionId>
 
 /// The same, as wpa_supplicant and hostapd derive it.
 fn id_of_wpa(end: &End, held: &Option<Report>, nonces: &Option<Nonces>) -> Option<SessionId>
-    ensures { result ≡ if_held (both held.now nonces.now) (λ held. held_id (front_of (end_key end.now held.report.id_p)) held) }
+    ensures { result ≡ if_stored (both held.now nonces.now) (λ held. session_id_of_report (front_of (end_key end.now held.report.id_p)) held) }
 {
     match held {
         None => None,

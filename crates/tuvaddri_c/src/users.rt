@@ -2,19 +2,19 @@
 
 ghost use Rattle.std.specs.Prelude.{◌≡◌, [], ◌∷◌, ◌++◌, true, false, None, All, IsTrue, IfSome, if◌then◌else◌};
 ghost use Rattle.octet_lists.specs.Among.{is_kind};
-ghost use Rattle.login_setup.specs.Setup.{fits_kind};
-ghost use Rattle.login_setup.specs.Users.{HasRoom};
+ghost use Rattle.login_setup.specs.Setup.{is_valid_for};
+ghost use Rattle.login_setup.specs.Users.{HasCapacity};
 ghost use Rattle.server_machine.specs.ServerTable.{with_users};
 ghost use Rattle.end_objects.specs.Refusals.{user_refusal};
 ghost use Rattle.end_objects.specs.Settings.{settings_of, users_of};
 ghost use Rattle.tuvaddri_c.specs.Answers.{begun, no_place, refusal_number};
 ghost use Rattle.tuvaddri_c.specs.Ends.{IfServer, AsServer, IfBackend, AsBackend, can_restart};
 ghost use Rattle.tuvaddri_c.specs.Methods.{IfServerMethod, is_server_method};
-ghost use Rattle.tuvaddri_c.specs.Users.{has_users, TakesUser};
+ghost use Rattle.tuvaddri_c.specs.Users.{has_users, AcceptsUser};
 
-use crate::answers::{BAD_KEY, BEGUN, NO_PLACE, number_of_refusal};
+use crate::answers::{BAD_KEY, NO_PLACE, STARTED, number_of_refusal};
 use crate::handle::TuvEnd;
-use crate::session::{End, Known};
+use crate::session::{CheckedUsers, End};
 use eap_method::ServerMethod;
 use end_objects::{ServerObject, Settings, keyed_kinds, user_refusal, users_of};
 use login_setup::{User, Users};
@@ -31,9 +31,9 @@ pub trait HasUsers {
 
     /// It knows this user too.
     fn add(&mut self, user: User)
-        requires room { HasRoom (seen self.old).vars.setup.users user }
+        requires room { HasCapacity (seen self.old).vars.setup.users user }
         requires kind { is_kind user.kind ≡ true }
-        requires key { fits_kind user.kind user.psk ≡ true }
+        requires key { is_valid_for user.kind user.psk ≡ true }
         ensures { seen self.new ≡ with_users (seen self.old) ((seen self.old).vars.setup.users ++ user ∷ []) };
 }
 
@@ -75,11 +75,11 @@ pub extern "C" fn tuv_server_user(end: &mut TuvEnd, settings: &Settings) -> u8
         None => match &mut end.session().end {
             End::Server(machine) => {
                 machine.set_users(users_of(settings));
-                BEGUN
+                STARTED
             }
             End::Backend(machine) => {
                 machine.set_users(users_of(settings));
-                BEGUN
+                STARTED
             }
             _ => NO_PLACE,
         },
@@ -87,11 +87,11 @@ pub extern "C" fn tuv_server_user(end: &mut TuvEnd, settings: &Settings) -> u8
 }
 
 /// These users take the place of those before.
-fn put(known: &mut Known, users: Users)
-    requires { All (λ user. IsTrue (fits_kind user.kind user.psk)) users }
+fn put(known: &mut CheckedUsers, users: Users)
+    requires { All (λ user. IsTrue (is_valid_for user.kind user.psk)) users }
     ensures { known.new.users ≡ users }
 {
-    *known = Known { users };
+    *known = CheckedUsers { users };
 }
 
 /// Gives a server's method its one user, as `tuv_server_user`, and answers 0. If there is no key for its method it
@@ -100,7 +100,7 @@ fn put(known: &mut Known, users: Users)
 pub extern "C" fn tuv_server_method_user(end: &mut TuvEnd, settings: &Settings) -> u8
     ensures refused { IfSome (user_refusal (settings_of settings.now)) (λ reason. result ≡ refusal_number reason) }
     ensures method { user_refusal (settings_of settings.now) ≡ None → IfServerMethod end.old.value.end (λ o before.
-        TakesUser (settings_of settings.now) o result end.new.value.end) }
+        AcceptsUser (settings_of settings.now) o result end.new.value.end) }
     ensures misplaced { user_refusal (settings_of settings.now) ≡ None → is_server_method end.old.value.end ≡ false → result ≡ no_place }
     ensures sent { end.new.value.sent ≡ end.old.value.sent }
     ensures unchanged { (result ≡ begun → ⊥) → end.new.value ≡ end.old.value }
@@ -111,7 +111,7 @@ pub extern "C" fn tuv_server_method_user(end: &mut TuvEnd, settings: &Settings) 
             End::ServerMethod(object, known) => {
                 if is_among(keyed_kinds(settings).as_slice(), object.kind()) {
                     put(known, users_of(settings));
-                    BEGUN
+                    STARTED
                 } else {
                     BAD_KEY
                 }

@@ -5,7 +5,7 @@ use Rattle.login_setup.specs.declared.event.Event.{Event}
 use Rattle.login_setup.specs.declared.setup.Setup.{Setup}
 use Rattle.octet_io.specs.Lines.{Lines, ended, too_long, too_much, line, lines}
 use Rattle.world_laws.specs.Agreement.{IsWhole}
-use Rattle.world_laws.proofs.Conversations.{conversations_are_all, conversations_match, one_end_tells}
+use Rattle.world_laws.proofs.Conversations.{conversations_are_all, conversations_match, one_end_implies}
 use Rattle.world_laws.proofs.Few.{few_tags}
 use Rattle.world_laws.proofs.HonestOfEither.{honest_of_either}
 use Rattle.world_laws.proofs.HonestRuns.{honest_ends_agree}
@@ -13,7 +13,7 @@ use Rattle.world_laws.proofs.Passing.{pass_carries, pass_is_alone}
 use Rattle.world_laws.proofs.PskReflected.{reflected_ends_agree}
 use Rattle.world_laws.proofs.SingleSteps.{steps_are_lawful}
 use Rattle.world_laws.proofs.UnderKey.{conversations_match_under}
-use Rattle.world_laws.proofs.Whose.{honest_names_are_theirs}
+use Rattle.world_laws.proofs.Owner.{honest_names_are_theirs}
 use Rattle.scenario_text.specs.Reading.{Reading, ReadLine, no_settings, read_line}
 use Rattle.scenario_text.specs.Valid.{AreValid, IsValidSetup, IsValidItem, IsValidReadLine}
 use Rattle.text_tables.specs.declared.fault.LineFault.{LineFault}
@@ -83,7 +83,7 @@ headline octets setup is =
       agrees = honest_ends_agree setup events whole;
       theirs = honest_names_are_theirs setup events whole;
       reflected = reflected_ends_agree setup events whole;
-      tells = one_end_tells setup events whole;
+      tells = one_end_implies setup events whole;
       matching = conversations_match setup events whole;
       under_key = λ kind. conversations_match_under setup events kind whole;
       all = conversations_are_all setup events whole;

@@ -13,7 +13,7 @@ use Rattle.scenario_text.specs.Reading.{Reading, ReadLine, no_settings, read_lin
 use Rattle.scenario_text.specs.Whole.{Script, no_script, with_item, read_lines}
 use Rattle.text_tables.specs.declared.fault.LineFault.{LineFault}
 use Rattle.text_tables.specs.declared.phase.Phase.TheVariants as phase
-use Rattle.scenario_text.proofs.Telling.{scenarios_are_read, goes, both}
+use Rattle.scenario_text.proofs.Implying.{scenarios_are_read, goes, both}
 use Rattle.world_commands.specs.Replay.{max_events}
 use Rattle.world_commands.specs.Scenario.{whole, Scenario, stops, adds, is_event, too_much_at, finish_outcome, read_after, events_after, with_line, scenario_from, scenario_of}
 use Rattle.world_commands.specs.Whole.{lines_of, IsInputOf, IsReadWhole, InputsAreScenarios}
@@ -71,7 +71,7 @@ reads-whole (l ∷ rest) n k r script h few =
     rw (read, next) (taken-line (n + 1) k (g.out) (g.more) enough ∙ ap read_as (g.is))
 
 -- and a whole scenario's lines are read
-record Goes (k : ℕ) (x : Result ReadLine LineFault) (r : Reading) (s : Scenario) : Type 0 where
+record Proceed (k : ℕ) (x : Result ReadLine LineFault) (r : Reading) (s : Scenario) : Type 0 where
   pub out : ReadLine
   pub read : x ≡ Ok out
   pub room : (is_event out.item && nat_le max_events k) ≡ false
@@ -86,7 +86,7 @@ added : (number : ℕ) (full : Bool) (i : Item) (s : Scenario) → (let made : S
 added number true i s h = absurd cc
 added number false i s h = (refl, sym (adds-outcome i s) ∙ h)
 
-goes-on : (number k : ℕ) (r : Reading) (x : Result ReadLine LineFault) (s : Scenario) → (with_line number k x s).outcome ≡ whole → Goes k x r s
+goes-on : (number k : ℕ) (r : Reading) (x : Result ReadLine LineFault) (s : Scenario) → (with_line number k x s).outcome ≡ whole → Proceed k x r s
 goes-on number k r (Err f) s h = absurd cc
 goes-on number k r (Ok out) s h =
     let a = added number (is_event out.item && nat_le max_events k) out.item s h in

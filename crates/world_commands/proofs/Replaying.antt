@@ -3,7 +3,7 @@ use Rattle.std.proofs.Common.{◌≡◌, ℕ, ◌+◌, List, [], Bool, true, fal
 use Rattle.std.specs.Prelude.{codes, is_some}
 use Rattle.octet_io.specs.Lines.{Lines, ended, too_long, too_much, line}
 use Rattle.login_setup.specs.declared.event.Event.{Event}
-use Rattle.eap_world.specs.World.{WorldNow, world_made, world_start, world_step, run_after, outcomes_after}
+use Rattle.eap_world.specs.World.{WorldNow, initial_world, world_start, world_step, run_after, outcomes_after}
 use Rattle.world_commands.proofs.Runs.{world_step_events}
 use Rattle.scenario_text.specs.Reading.{Reading, ReadLine, line_of, with_setting, settings_of_version, read_line, finish_of}
 use Rattle.text_tables.specs.declared.fault.LineFault.{LineFault}
@@ -11,17 +11,17 @@ use Rattle.scenario_text.specs.Items as item
 use Rattle.text_tables.specs.declared.phase.Phase.{Phase}
 use Rattle.text_tables.specs.declared.phase.Phase.TheVariants as phase
 use Rattle.scenario_text.specs.declared.settings.Settings.{Settings}
-use Rattle.scenario_text.proofs.Telling.{Starts, FromSettings, FromEvents, PassedBefore, NewSetting, AllSet, PassedBetween, NewEvent, AllRead, read_line_from_unread, read_line_from_settings, read_line_from_events, read_line_from_ended}
-use Rattle.trace_text.specs.Run.{begin_text, outcome_text, end_text}
+use Rattle.scenario_text.proofs.Implying.{Starts, FromSettings, FromEvents, PassedBefore, NewSetting, AllSet, PassedBetween, NewEvent, AllRead, read_line_from_unread, read_line_from_settings, read_line_from_events, read_line_from_ended}
+use Rattle.trace_text.specs.Run.{start_line_text, outcome_text, end_text}
 use Rattle.command_driver.specs.Answers.{Answer, after_text}
-use Rattle.command_driver.specs.Commands.{Took, refuses, after_ruling, lacking_after, closing_answer, answer, lacking}
-use Rattle.world_commands.specs.Replay.{ReplayNow, max_events, goes_with, replay_took, replay_closing, replay_lacks, reading_lacks, took_reading, closing_by}
+use Rattle.command_driver.specs.Commands.{LineResult, refuses, after_ruling, lacking_after, closing_answer, answer, lacking}
+use Rattle.world_commands.specs.Replay.{ReplayNow, max_events, proceeds_with, replay_step, replay_closing, replay_lacks, reading_lacks, reading_result, closing_by}
 use Rattle.world_commands.specs.Scenario.{Scenario, stops, too_much_at, finish_outcome, adds, with_line, events_after, read_after, scenario_from, run_answer, scenario_answer}
 use Rattle.command_driver.specs.declared.status.Status.TheVariants as status
 
 -- the answer of the command to lines
 abbrev answers : ℕ → ReplayNow → Lines → Answer
-answers n c ls = answer replay_took replay_closing n c ls
+answers n c ls = answer replay_step replay_closing n c ls
 
 -- the command in a world, with what has been read
 abbrev in_world : ReplayNow → Reading → WorldNow → ReplayNow
@@ -42,7 +42,7 @@ pub data BeforeRun (p : Phase) : Type 0 where
 -- what the command answers from a line on, by what the reader answers
 abbrev line_answer : ℕ → ReplayNow → Lines → Result ReadLine LineFault → Answer
 line_answer n c rest x =
-    after_text (took_reading c x).text (after_ruling (n + 1) (took_reading c x).ruling (answers (n + 1) (took_reading c x).after rest))
+    after_text (reading_result c x).text (after_ruling (n + 1) (reading_result c x).ruling (answers (n + 1) (reading_result c x).after rest))
 
 -- the scenario from a line on, by what the reader answers
 abbrev line_scenario : ℕ → ℕ → Reading → Lines → Result ReadLine LineFault → Scenario
@@ -66,7 +66,7 @@ module _ (c : ReplayNow) where
 
   -- an event, by whether it is one too many
   event_in_world : (n : ℕ) (s : Settings) (w : WorldNow) (rest : Lines) (e : Event) → Continues (n + 1) rest → (b : Bool)
-      → (let t : Took ReplayNow = cond b (record { text = []; ruling = refuses (codes "TooMuch") status.TooMuch; after = in_world c (record { phase = phase.Events; settings = s }) w }) (goes_with (in_world c (record { phase = phase.Events; settings = s }) w) (outcome_text c.names (world_step w e)) (world_step w e).after) in
+      → (let t : LineResult ReplayNow = cond b (record { text = []; ruling = refuses (codes "TooMuch") status.TooMuch; after = in_world c (record { phase = phase.Events; settings = s }) w }) (proceeds_with (in_world c (record { phase = phase.Events; settings = s }) w) (outcome_text c.names (world_step w e)) (world_step w e).after) in
       after_text t.text (after_ruling (n + 1) t.ruling (answers (n + 1) t.after rest)))
       ≡ run_scenario w (cond b (stops (too_much_at (n + 1))) (adds (item.Event e) (scenario_from (n + 1) (w.counts.events + 1) (record { phase = phase.Events; settings = s }) rest)))
   unfolding run_after outcomes_after
@@ -100,7 +100,7 @@ module _ (c : ReplayNow) where
 
   -- in a world the command answers the run of the events to come
   pub answers_in_world : (ls : Lines) (n : ℕ) → Continues n ls
-  unfolding answer scenario_from replay_took replay_closing run_after outcomes_after
+  unfolding answer scenario_from replay_step replay_closing run_after outcomes_after
   answers_in_world ended n r w h = end_in_world n r w (finish_of r)
   answers_in_world too_long n r w h = refl
   answers_in_world too_much n r w h = refl
@@ -122,8 +122,8 @@ module _ (c : ReplayNow) where
   line_at_settings n s r rest ih _ PassedBefore = ih (record { phase = phase.Settings; settings = s }) (AtSettings refl)
   line_at_settings n s r rest ih _ (NewSetting v new) = ih (record { phase = phase.Settings; settings = with_setting s v }) (AtSettings refl)
   line_at_settings n s r rest ih _ (AllSet setup set) =
-      ap (after_text (begin_text c.names (world_start (world_made setup))))
-      (answers_in_world rest (n + 1) (record { phase = phase.Events; settings = s }) (world_start (world_made setup)).after (AtEvents refl))
+      ap (after_text (start_line_text c.names (world_start (initial_world setup))))
+      (answers_in_world rest (n + 1) (record { phase = phase.Events; settings = s }) (world_start (initial_world setup)).after (AtEvents refl))
 
   line_at_first : (n : ℕ) (r : Reading) (l : List ℕ) (rest : Lines) → Waits (n + 1) rest → (out : ReadLine) → Starts l out
       → line_answer n (in_none c r) rest (Ok out) ≡ scenario_answer c.names (line_scenario n 0 r rest (Ok out))
@@ -139,7 +139,7 @@ module _ (c : ReplayNow) where
 
   -- before the run the command answers what the scenario does
   pub answers_before : (ls : Lines) (n : ℕ) → Waits n ls
-  unfolding answer scenario_from replay_took replay_closing
+  unfolding answer scenario_from replay_step replay_closing
   answers_before ended n r h = end_before n r (finish_of r)
   answers_before too_long n r h = refl
   answers_before too_much n r h = refl
@@ -147,10 +147,10 @@ module _ (c : ReplayNow) where
 
   -- memory may be wanting only in a scenario whose settings are whole
   abbrev Lacks : ℕ → Lines → Type 0
-  Lacks n rest = (r : Reading) → BeforeRun r.phase → lacking replay_took replay_lacks (in_none c r) rest ≡ true → is_some (scenario_from n 0 r rest).setup ≡ true
+  Lacks n rest = (r : Reading) → BeforeRun r.phase → lacking replay_step replay_lacks (in_none c r) rest ≡ true → is_some (scenario_from n 0 r rest).setup ≡ true
 
   abbrev line_lacks : ReplayNow → Lines → Result ReadLine LineFault → Bool
-  line_lacks d rest x = reading_lacks x || lacking_after (took_reading d x).ruling (lacking replay_took replay_lacks (took_reading d x).after rest)
+  line_lacks d rest x = reading_lacks x || lacking_after (reading_result d x).ruling (lacking replay_step replay_lacks (reading_result d x).after rest)
 
   lacks_at_settings : (n : ℕ) (s : Settings) (r : Reading) (rest : Lines) → Lacks (n + 1) rest → (out : ReadLine) → FromSettings s out
       → line_lacks (in_none c r) rest (Ok out) ≡ true → is_some (line_scenario n 0 r rest (Ok out)).setup ≡ true
@@ -171,7 +171,7 @@ module _ (c : ReplayNow) where
   lacks_before n r l rest (AtSettings p) ih (Ok out) e lack = lacks_at_settings n r.settings r rest ih out (read_line_from_settings r l out p e) lack
 
   pub lacks_only_with_setup : (ls : Lines) (n : ℕ) → Lacks n ls
-  unfolding lacking scenario_from replay_took replay_lacks
+  unfolding lacking scenario_from replay_step replay_lacks
   lacks_only_with_setup ended n r h lack = absurd cc
   lacks_only_with_setup too_long n r h lack = absurd cc
   lacks_only_with_setup too_much n r h lack = absurd cc

@@ -5,7 +5,7 @@ use Rattle.login_setup.specs.declared.setup.Port.{Port}
 use Rattle.login_setup.specs.declared.setup.Setup.{Setup}
 use Rattle.eap_world.specs.Run.{run_of}
 use Rattle.eap_world.specs.World.{Action, Called, Skipped, WorldNow, WorldOutcome, counts_after, sent_to, sent_by, act_of_call, start_call, act}
-use Rattle.eap_world.specs.World.{world_made, world_start, world_step, world_outcome, run_after}
+use Rattle.eap_world.specs.World.{initial_world, world_start, world_step, world_outcome, run_after}
 use Rattle.eap_world.specs.declared.told.Counts.{Counts}
 use Rattle.eap_world.specs.declared.told.Brief.{Brief}
 
@@ -53,9 +53,9 @@ unfolding run_after
 run_sends w [] h = h
 run_sends w (e ∷ rest) h = run_sends (world_step w e).after rest (step_sends w e h)
 
-start_sends : (setup : Setup) → length (world_start (world_made setup)).after.sent ≤ (world_start (world_made setup)).after.counts.events + 1
+start_sends : (setup : Setup) → length (world_start (initial_world setup)).after.sent ≤ (world_start (initial_world setup)).after.counts.events + 1
 unfolding world_start
-start_sends setup = one_by (act_of_call (world_made setup).parties (start_call setup.mode)).action
+start_sends setup = one_by (act_of_call (initial_world setup).parties (start_call setup.mode)).action
 
 pub few_packets : (setup : Setup) (events : List Event) → length (run_of setup events).sent ≤ (run_of setup events).counts.events + 1
-few_packets setup events = run_sends (world_start (world_made setup)).after events (start_sends setup)
+few_packets setup events = run_sends (world_start (initial_world setup)).after events (start_sends setup)

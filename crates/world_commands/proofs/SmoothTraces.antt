@@ -8,7 +8,7 @@ use Rattle.eap_packet.specs.declared.state.State.{State}
 use Rattle.eap_world.specs.Run.{run_of}
 use Rattle.tag_book.specs.Book.{tags_verdict}
 use Rattle.eap_world.specs.Judgement.{verdict_of}
-use Rattle.eap_world.specs.World.{WorldNow, pass_state, world_made, world_start}
+use Rattle.eap_world.specs.World.{WorldNow, pass_state, initial_world, world_start}
 use Rattle.tag_book.specs.declared.book.TagsVerdict.{TagsVerdict}
 use Rattle.tag_book.specs.declared.book.TagsVerdict.TheVariants.{Honest}
 use Rattle.eap_world.specs.declared.told.Counts.{Counts}
@@ -20,11 +20,11 @@ use Rattle.text_tables.specs.declared.phase.Phase.TheVariants as phase
 use Rattle.scenario_text.proofs.ValidReading.{no_settings_valid}
 use Rattle.smooth_laws.specs.Smooth.{HasShortNames}
 use Rattle.smooth_laws.proofs.LaterLogins.{logins_succeed}
-use Rattle.trace_text.specs.Run.{begin_text, end_text, end_text_of, stands_text, counts_text, fresh_text, fresh_told, tags_text, result_text}
+use Rattle.trace_text.specs.Run.{start_line_text, end_text, end_text_of, end_state_text, counts_text, fresh_text, freshness_shown, tags_text, result_text}
 use Rattle.command_driver.specs.Answers.{after_text}
-use Rattle.world_laws.proofs.Versions.{version_kept}
+use Rattle.world_laws.proofs.Versions.{version_preserved}
 use Rattle.world_commands.specs.Scenario.{Scenario, replay_answer, whole, events_text, scenario_answer, setup_answer, trace_header}
-use Rattle.world_commands.specs.SmoothTraces.{TellsAgreement, SmoothTracesAgree, told_of}
+use Rattle.world_commands.specs.SmoothTraces.{ShowsAgreement, SmoothTracesAgree, told_of}
 use Rattle.world_commands.proofs.Headline.{setup_valid, whole_if_valid}
 use Rattle.world_commands.proofs.Inputs.{inputs_are_scenarios}
 
@@ -48,11 +48,11 @@ last_lines fresh = codes "\n" ++ (fresh_text fresh ++ codes "tags honest\nresult
 
 end_agrees : (peer : State) (pass : Option State) (server : State) (counts : Counts) (fresh : Option Bool) (tags : TagsVerdict) (verdict : Verdict)
     → tags ≡ Honest → verdict ≡ Agree → end_text_of peer pass server counts fresh tags verdict
-    ≡ (stands_text peer pass server ++ front_of_counts counts) ++ last_lines fresh
+    ≡ (end_state_text peer pass server ++ front_of_counts counts) ++ last_lines fresh
 unfolding end_text_of tags_text result_text
 end_agrees peer pass server counts fresh tags verdict honest agree =
     let told : List ℕ = codes "tags honest\nresult agree\nend\n" in
-    let stands : List ℕ = stands_text peer pass server in
+    let stands : List ℕ = end_state_text peer pass server in
     ap (λ (t : TagsVerdict). stands ++ (counts_text counts ++ (fresh_text fresh ++ (tags_text t ++ result_text verdict)))) honest
     ∙ ap (λ (v : Verdict). stands ++ (counts_text counts ++ (fresh_text fresh ++ (tags_text Honest ++ result_text v)))) agree
     ∙ ap (λ (t : List ℕ). stands ++ (t ++ (fresh_text fresh ++ told))) (counts_end counts)
@@ -68,18 +68,18 @@ last_of_five a b c d e x is =
     ∙ sym (append_assoc a (b ++ (c ++ d)) x)
 
 -- a run whose ends agree over honest tags is told so
-run_tells : (names : Bool) (setup : Setup) (events : List Event) → (let w = run_of setup events in tags_verdict w.book ≡ Honest → verdict_of w ≡ Agree
-    → TellsAgreement (fresh_told w) (after_text trace_header (setup_answer names (Some setup) events whole)))
-run_tells names setup events honest agree =
+run_implies : (names : Bool) (setup : Setup) (events : List Event) → (let w = run_of setup events in tags_verdict w.book ≡ Honest → verdict_of w ≡ Agree
+    → ShowsAgreement (freshness_shown w) (after_text trace_header (setup_answer names (Some setup) events whole)))
+run_implies names setup events honest agree =
     let w : WorldNow = run_of setup events in
-    let begun = world_start (world_made setup) in
+    let begun = world_start (initial_world setup) in
     let front : List ℕ =
-    stands_text w.parties.peer.vars.state (pass_state w.parties.mode w.parties.pass) w.parties.server.vars.state ++ front_of_counts w.counts in
+    end_state_text w.parties.peer.vars.state (pass_state w.parties.mode w.parties.pass) w.parties.server.vars.state ++ front_of_counts w.counts in
     record {
       status = refl;
-      before = trace_header ++ (begin_text names begun ++ (events_text names begun.after events ++ front));
-      text = last_of_five trace_header (begin_text names begun) (events_text names begun.after events) front (end_text w) _
-          (end_agrees w.parties.peer.vars.state (pass_state w.parties.mode w.parties.pass) w.parties.server.vars.state w.counts (fresh_told w)
+      before = trace_header ++ (start_line_text names begun ++ (events_text names begun.after events ++ front));
+      text = last_of_five trace_header (start_line_text names begun) (events_text names begun.after events) front (end_text w) _
+          (end_agrees w.parties.peer.vars.state (pass_state w.parties.mode w.parties.pass) w.parties.server.vars.state w.counts (freshness_shown w)
           (tags_verdict w.book) (verdict_of w) honest agree);
     }
 
@@ -90,9 +90,9 @@ smooth_traces_agree octets setup fresh events names input fit logins =
     (ap (λ (s : Scenario). s.setup) is) in
     let names_fit : HasShortNames setup = record { peer = valid.peer.name.few; server = valid.server.name.few } in
     let succeed = logins_succeed setup fresh events (whole_if_valid setup valid) names_fit fit logins in
-    let told : fresh_told (run_of setup events) ≡ told_of setup.later.version fresh =
-    ap (λ (version : ℕ). told_of version (run_of setup events).conversations.fresh) (version_kept setup events)
+    let told : freshness_shown (run_of setup events) ≡ told_of setup.later.version fresh =
+    ap (λ (version : ℕ). told_of version (run_of setup events).conversations.fresh) (version_preserved setup events)
     ∙ ap (told_of setup.later.version) succeed.told in
-    subst (λ (f : Option Bool). TellsAgreement f (replay_answer names octets)) told
-    (subst (TellsAgreement (fresh_told (run_of setup events))) (ap (λ (s : Scenario). after_text trace_header (scenario_answer names s)) (sym is))
-    (run_tells names setup events succeed.last.honest succeed.last.agree))
+    subst (λ (f : Option Bool). ShowsAgreement f (replay_answer names octets)) told
+    (subst (ShowsAgreement (freshness_shown (run_of setup events))) (ap (λ (s : Scenario). after_text trace_header (scenario_answer names s)) (sym is))
+    (run_implies names setup events succeed.last.honest succeed.last.agree))

@@ -22,15 +22,15 @@ bulk_with (Err fault) count = None
 bulk_with (Ok number) (Err fault) = None
 bulk_with (Ok number) (Ok count) = Some (record { number = number; count = count })
 
-abbrev pub bulk_spelled : List ℕ → List ℕ → Option Bulk
-bulk_spelled number count = bulk_with (number_of number 0 max_number) (number_of count 1 max_count)
+abbrev pub bulk_encoded : List ℕ → List ℕ → Option Bulk
+bulk_encoded number count = bulk_with (number_of number 0 max_number) (number_of count 1 max_count)
 
 -- what the words ask for
 abbrev pub bulk_of : List (List ℕ) → Option Bulk
 bulk_of [] = None
 bulk_of (word ∷ []) = None
 bulk_of (word ∷ number ∷ []) = None
-bulk_of (word ∷ number ∷ count ∷ []) = if bytes_eq word (codes "bulk") then bulk_spelled number count else None
+bulk_of (word ∷ number ∷ count ∷ []) = if bytes_eq word (codes "bulk") then bulk_encoded number count else None
 bulk_of (word ∷ number ∷ count ∷ more ∷ rest) = None
 
 -- the words again, how the conversations ended, in how many a tag was broken, and what was delivered and discarded in

@@ -7,7 +7,7 @@ use Rattle.login_setup.specs.declared.setup.Mode.TheVariants.{Through}
 use Rattle.login_setup.specs.declared.setup.Setup.{Setup}
 use Rattle.eap_world.specs.Run.{run_of}
 use Rattle.world_laws.specs.Agreement.{AgreesWhereHonest, TheirsWhereHonest, HasFewTags}
-use Rattle.world_laws.specs.Alone.{TellsAlone}
+use Rattle.world_laws.specs.Alone.{ImpliedByOne}
 use Rattle.tag_book.specs.Book.{tags_verdict, tags_verdict_either}
 use Rattle.tag_book.specs.declared.book.TagsVerdict.TheVariants.{Honest}
 use Rattle.world_laws.specs.EachConversation.{peer_conversations, server_conversations}
@@ -28,12 +28,12 @@ use Rattle.command_driver.specs.declared.status.Status.TheVariants.{Done}
 -- those of one user, whatever the server's other users do, if the tags under that user's key are honest; what the
 -- pass-through sends is determined by what came to it alone, and came to it; a book whose tags are honest is honest of
 -- either end, and it is small; at most one packet more was sent than there were events; the next step is lawful
-pub record KeepsAgreement (setup : Setup) (events : List Event) (w : WorldNow) : Type 0 where
+pub record PreservesAgreed (setup : Setup) (events : List Event) (w : WorldNow) : Type 0 where
   pub of_either : tags_verdict w.book ≡ Honest → tags_verdict_either w.book ≡ Honest
   pub agrees : AgreesWhereHonest w
   pub theirs : TheirsWhereHonest setup w
   pub reflected : AgreesReflected setup w
-  pub tells : TellsAlone setup w
+  pub tells : ImpliedByOne setup w
   pub matching : Match w (peer_conversations setup events) (server_conversations setup events)
   pub under_key : (kind : ℕ) → MatchUnder setup kind w (peer_conversations setup events) (server_conversations setup events)
   pub all : AreAll setup w (peer_conversations setup events) (server_conversations setup events)
@@ -47,15 +47,15 @@ pub record KeepsAgreement (setup : Setup) (events : List Event) (w : WorldNow) :
 abbrev pub HonestEndsAgree : List ℕ → Type 0
 HonestEndsAgree octets =
     (setup : Setup) → (scenario_of octets).setup ≡ Some setup
-    → (let events = (scenario_of octets).events in KeepsAgreement setup events (run_of setup events))
+    → (let events = (scenario_of octets).events in PreservesAgreed setup events (run_of setup events))
 
 -- the text says that nonces are fresh, or nothing of them, as when no end can begin again
-abbrev pub SaysFresh : List ℕ → Type 0
-SaysFresh text = HasLine (codes "fresh yes") text ⊎ ((word : List ℕ) → HasLine (codes "fresh " ++ word) text → ⊥)
+abbrev pub ShowsFresh : List ℕ → Type 0
+ShowsFresh text = HasLine (codes "fresh yes") text ⊎ ((word : List ℕ) → HasLine (codes "fresh " ++ word) text → ⊥)
 
 -- the text doesn't say both that all tags are honest and that the ends are apart, if it says so
 abbrev pub NeverBoth : List ℕ → Type 0
-NeverBoth text = HasLine (codes "tags honest") text → HasLine (codes "result apart") text → SaysFresh text → ⊥
+NeverBoth text = HasLine (codes "tags honest") text → HasLine (codes "result apart") text → ShowsFresh text → ⊥
 
 -- so it is with what was written, if the status is 0
 pub record WritesNeverBoth (s : Status) (before now : Option (List ℕ)) : Type 0 where

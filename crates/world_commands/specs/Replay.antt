@@ -5,15 +5,15 @@ use Rattle.login_setup.specs.Setup.{are_kinds}
 use Rattle.login_setup.specs.declared.setup.Setup.{Setup}
 use Rattle.eap_method.specs.Peer.{PeerShown, peer_kinds, have_each}
 use Rattle.eap_method.specs.Server.{ServerShown, server_kinds}
-use Rattle.eap_world.specs.World.{HasObjects, WorldNow, now_of, world_made, world_start, world_step}
+use Rattle.eap_world.specs.World.{HasObjects, WorldNow, now_of, initial_world, world_start, world_step}
 use Rattle.eap_method.specs.declared.values.Methods.{Methods}
 use Rattle.text_tables.specs.Words.{fault_word}
 use Rattle.scenario_text.specs.Reading.{Reading, ReadLine, read_line, finish_of}
 use Rattle.text_tables.specs.declared.fault.LineFault.{LineFault}
 use Rattle.scenario_text.specs.Items.{Item}
 use Rattle.scenario_text.specs.Items as item
-use Rattle.trace_text.specs.Run.{begin_text, outcome_text, end_text}
-use Rattle.command_driver.specs.Commands.{Took, Closing, goes, refuses, ends, misses}
+use Rattle.trace_text.specs.Run.{start_line_text, outcome_text, end_text}
+use Rattle.command_driver.specs.Commands.{LineResult, Closing, goes, refuses, ends, misses}
 use Rattle.world_commands.specs.declared.replay.Replay.{Replay}
 use Rattle.command_driver.specs.declared.status.Status.TheVariants as status
 
@@ -48,48 +48,48 @@ module _ {P S : Type 0} (peer_shown : P → PeerShown) (server_shown : S → Ser
     pub each : IfSome c.world (λ w. HasObjects peer_shown server_shown w)
 
 -- a line that brings nothing to write
-abbrev pub goes_silently : ReplayNow → Took ReplayNow
-goes_silently c = record { text = []; ruling = goes; after = c }
+abbrev pub proceeds_silently : ReplayNow → LineResult ReplayNow
+proceeds_silently c = record { text = []; ruling = goes; after = c }
 
-abbrev pub is_refused : ReplayNow → List ℕ → Took ReplayNow
+abbrev pub is_refused : ReplayNow → List ℕ → LineResult ReplayNow
 is_refused c word = record { text = []; ruling = refuses word status.Refused; after = c }
 
 -- the world has started or has taken an event, and its lines are written
-abbrev pub goes_with : ReplayNow → List ℕ → WorldNow → Took ReplayNow
-goes_with c text w = record { text = text; ruling = goes; after = record c { world = Some w } }
+abbrev pub proceeds_with : ReplayNow → List ℕ → WorldNow → LineResult ReplayNow
+proceeds_with c text w = record { text = text; ruling = goes; after = record c { world = Some w } }
 
 -- the line `events`: the world starts
-abbrev pub starts_in : ReplayNow → Option WorldNow → Setup → Took ReplayNow
-starts_in c None setup = goes_with c (begin_text c.names (world_start (world_made setup))) (world_start (world_made setup)).after
-starts_in c (Some w) setup = goes_silently c
+abbrev pub starts_in : ReplayNow → Option WorldNow → Setup → LineResult ReplayNow
+starts_in c None setup = proceeds_with c (start_line_text c.names (world_start (initial_world setup))) (world_start (initial_world setup)).after
+starts_in c (Some w) setup = proceeds_silently c
 
-abbrev pub starts : ReplayNow → Setup → Took ReplayNow
+abbrev pub starts : ReplayNow → Setup → LineResult ReplayNow
 starts c setup = starts_in c c.world setup
 
 -- an event: the world takes it, but for one too many
-abbrev pub steps_in : ReplayNow → Option WorldNow → Event → Took ReplayNow
-steps_in c None e = goes_silently c
+abbrev pub steps_in : ReplayNow → Option WorldNow → Event → LineResult ReplayNow
+steps_in c None e = proceeds_silently c
 steps_in c (Some w) e =
     if nat_le max_events w.counts.events
     then record { text = []; ruling = refuses (codes "TooMuch") status.TooMuch; after = c }
-    else goes_with c (outcome_text c.names (world_step w e)) (world_step w e).after
+    else proceeds_with c (outcome_text c.names (world_step w e)) (world_step w e).after
 
-abbrev pub steps : ReplayNow → Event → Took ReplayNow
+abbrev pub steps : ReplayNow → Event → LineResult ReplayNow
 steps c e = steps_in c c.world e
 
-abbrev pub took_item : ReplayNow → Item → Took ReplayNow
-took_item c item.Nothing = goes_silently c
-took_item c (item.Ready setup) = starts c setup
-took_item c (item.Event e) = steps c e
-took_item c item.End = goes_silently c
+abbrev pub item_result : ReplayNow → Item → LineResult ReplayNow
+item_result c item.Nothing = proceeds_silently c
+item_result c (item.Ready setup) = starts c setup
+item_result c (item.Event e) = steps c e
+item_result c item.End = proceeds_silently c
 
-abbrev pub took_reading : ReplayNow → Result ReadLine LineFault → Took ReplayNow
-took_reading c (Err fault) = is_refused c (fault_word fault)
-took_reading c (Ok r) = took_item (record c { reader = r.after }) r.item
+abbrev pub reading_result : ReplayNow → Result ReadLine LineFault → LineResult ReplayNow
+reading_result c (Err fault) = is_refused c (fault_word fault)
+reading_result c (Ok r) = item_result (record c { reader = r.after }) r.item
 
 -- the result of a line
-unfoldable pub replay_took : ReplayNow → List ℕ → Took ReplayNow
-replay_took c l = took_reading c (read_line c.reader l)
+unfoldable pub replay_step : ReplayNow → List ℕ → LineResult ReplayNow
+replay_step c l = reading_result c (read_line c.reader l)
 
 -- the end of the input
 abbrev pub end_of : Option WorldNow → List ℕ

@@ -4,7 +4,7 @@ use Rattle.std.specs.List.{flat_map}
 use Rattle.octet_io.specs.Lines.{Lines, ended, too_long, too_much, line, lines}
 use Rattle.login_setup.specs.declared.event.Event.{Event}
 use Rattle.login_setup.specs.declared.setup.Setup.{Setup}
-use Rattle.eap_world.specs.World.{WorldNow, world_made, world_start, run_after, outcomes_after}
+use Rattle.eap_world.specs.World.{WorldNow, initial_world, world_start, run_after, outcomes_after}
 use Rattle.text_tables.specs.Words.{fault_word}
 use Rattle.scenario_text.specs.Reading.{Reading, ReadLine, no_settings, read_line, finish_of}
 use Rattle.text_tables.specs.declared.fault.LineFault.{LineFault}
@@ -12,7 +12,7 @@ use Rattle.scenario_text.specs.Items.{Item}
 use Rattle.scenario_text.specs.Items as item
 use Rattle.text_tables.specs.declared.phase.Phase.TheVariants as phase
 use Rattle.answer_text.specs.Lines.{line_text}
-use Rattle.trace_text.specs.Run.{begin_text, outcome_text, end_text}
+use Rattle.trace_text.specs.Run.{start_line_text, outcome_text, end_text}
 use Rattle.command_driver.specs.Answers.{Answer, after_text, refusal}
 use Rattle.command_driver.specs.Responding.{Asked, reading, only_at}
 use Rattle.world_commands.specs.Replay.{max_events}
@@ -102,7 +102,7 @@ unset_answer (refused number word s) = refusal number word s
 abbrev pub setup_answer : Bool → Option Setup → List Event → Outcome → Answer
 setup_answer names None events outcome = unset_answer outcome
 setup_answer names (Some setup) events outcome =
-    after_text (begin_text names (world_start (world_made setup))) (run_answer names (world_start (world_made setup)).after events outcome)
+    after_text (start_line_text names (world_start (initial_world setup))) (run_answer names (world_start (initial_world setup)).after events outcome)
 
 abbrev pub scenario_answer : Bool → Scenario → Answer
 scenario_answer names s = setup_answer names s.setup s.events s.outcome

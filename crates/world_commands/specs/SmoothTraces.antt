@@ -4,7 +4,7 @@ use Rattle.std.specs.Prelude.{◌≡◌, List, ℕ, ◌++◌, ◌==◌, Bool, co
 use Rattle.login_setup.specs.declared.event.Event.{Event}
 use Rattle.login_setup.specs.declared.setup.Setup.{Setup}
 use Rattle.smooth_laws.specs.Restarts.{AreLogins}
-use Rattle.smooth_laws.specs.Smooth.{EndsFit}
+use Rattle.smooth_laws.specs.Smooth.{EndsCompatible}
 use Rattle.trace_text.specs.Run.{fresh_text}
 use Rattle.command_driver.specs.Answers.{Answer}
 use Rattle.world_commands.specs.Scenario.{replay_answer}
@@ -16,7 +16,7 @@ abbrev pub told_of : ℕ → Bool → Option Bool
 told_of version fresh = if version == 2 then Some fresh else None
 
 -- status 0, and the last lines say whether nonces are fresh (if known), that all tags are honest and the ends agree
-pub record TellsAgreement (fresh : Option Bool) (a : Answer) : Type 0 where
+pub record ShowsAgreement (fresh : Option Bool) (a : Answer) : Type 0 where
   pub status : a.status ≡ Done
   pub before : List ℕ
   pub text : a.text ≡ before ++ (codes "\n" ++ (fresh_text fresh ++ codes "tags honest\nresult agree\nend\n"))
@@ -25,4 +25,4 @@ pub record TellsAgreement (fresh : Option Bool) (a : Answer) : Type 0 where
 abbrev pub SmoothTracesAgree : Type 0
 SmoothTracesAgree =
     (octets : List ℕ) (setup : Setup) (fresh : Bool) (events : List Event) (names : Bool) → IsInputOf octets setup events →
-    EndsFit setup → AreLogins setup fresh events → TellsAgreement (told_of setup.later.version fresh) (replay_answer names octets)
+    EndsCompatible setup → AreLogins setup fresh events → ShowsAgreement (told_of setup.later.version fresh) (replay_answer names octets)

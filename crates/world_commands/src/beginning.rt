@@ -3,7 +3,7 @@
 ghost use Rattle.std.specs.Prelude.{◌≡◌};
 ghost use Rattle.scenario_text.specs.Valid.{IsValidSetup};
 ghost use Rattle.world_commands.specs.Replay.{HasBoth};
-ghost use Rattle.eap_world.specs.World.{HasObjects, now_of, world_made};
+ghost use Rattle.eap_world.specs.World.{HasObjects, now_of, initial_world};
 
 use eap_method::{PeerMethod, ServerMethod};
 use eap_world::{Methods, World};
@@ -19,7 +19,7 @@ pub fn world_of<P: PeerMethod, S: ServerMethod>(
 ) -> World<P, S>
     requires valid { IsValidSetup setup }
     requires both { HasBoth P.peer_shown S.server_shown methods }
-    ensures made { now_of P.peer_shown S.server_shown result ≡ world_made setup }
+    ensures made { now_of P.peer_shown S.server_shown result ≡ initial_world setup }
     ensures objects { HasObjects P.peer_shown S.server_shown result }
 {
     World::new(alloc, setup, methods)

@@ -1,9 +1,9 @@
 //! The command `bulk N K`: many conversations from one number. It reads no input.
 
 ghost use Rattle.std.specs.Prelude.{◌≡◌, ◌≤◌, map, string_bytes, IfSome};
-ghost use Rattle.world_commands.specs.Bulk.{max_count, bulk_of, bulk_spelled, bulk_text, bulk_answer};
+ghost use Rattle.world_commands.specs.Bulk.{max_count, bulk_of, bulk_encoded, bulk_text, bulk_answer};
 ghost use Rattle.world_commands.specs.Replay.{HasBoth};
-ghost use Rattle.command_driver.specs.Responding.{Says, at_any};
+ghost use Rattle.command_driver.specs.Responding.{IsAnswered, at_any};
 ghost use Rattle.answer_text.specs.Writes.{Appends};
 
 use answer_text::Piece::{Line, Number, Text};
@@ -50,7 +50,7 @@ pub fn bulk_of(words: &Vec<String>) -> Option<Bulk>
 }
 
 fn read_bulk(number: &[u8], count: &[u8]) -> Option<Bulk>
-    ensures value { result ≡ bulk_spelled number.now count.now }
+    ensures value { result ≡ bulk_encoded number.now count.now }
     ensures few { IfSome result (λ bulk. bulk.count ≤ max_count) }
 {
     match read_number(number, 0, MAX_NUMBER) {
@@ -73,7 +73,7 @@ pub fn run_bulk<P: PeerMethod, M: ServerMethod, W: Sink>(
 ) -> Status
     requires few { bulk.count ≤ max_count }
     requires both { HasBoth P.peer_shown M.server_shown methods }
-    ensures { Says W.shown (bulk_answer bulk) at_any result sink.old sink.new }
+    ensures { IsAnswered W.shown (bulk_answer bulk) at_any result sink.old sink.new }
 {
     match run_all(alloc, bulk.number, bulk.count, methods) {
         Err(_) => Status::Memory,

@@ -20,7 +20,7 @@ use login_setup::Event;
 use octet_io::{Failed, Sink, Source};
 use scenario_text::{ItemKind, ScenarioReader};
 use std::alloc::Global;
-use trace_text::{write_end, write_start_brief, write_told_brief};
+use trace_text::{write_end, write_event_brief, write_start_brief};
 
 /// The most events of a scenario.
 const MAX_EVENTS: u32 = 10_000;
@@ -74,13 +74,13 @@ impl<P: PeerMethod, S: ServerMethod> Replay<P, S> {
             (starts (seen_of P.peer_shown S.server_shown self.old) setup) true (seen_of P.peer_shown S.server_shown self.new) }
     {
         if self.world.is_some() {
-            return Ok(Next::Goes);
+            return Ok(Next::Proceed);
         }
         let Ok(setup) = self.reader.setup() else {
-            return Ok(Next::Goes);
+            return Ok(Next::Proceed);
         };
         match self.methods.take() {
-            None => Ok(Next::Goes),
+            None => Ok(Next::Proceed),
             Some(methods) => {
                 let mut world = world_of(self.alloc, setup, methods);
                 match world.start_brief() {
@@ -90,7 +90,7 @@ impl<P: PeerMethod, S: ServerMethod> Replay<P, S> {
                         let written = write_start_brief(sink, mode, &told, octets, self.names);
                         self.world = Some(world);
                         match written {
-                            Ok(()) => Ok(Next::Goes),
+                            Ok(()) => Ok(Next::Proceed),
                             Err(_) => Err(Trouble::Write),
                         }
                     }
@@ -125,14 +125,14 @@ impl<P: PeerMethod, S: ServerMethod> Replay<P, S> {
     {
         let names = self.names;
         match &mut self.world {
-            None => Ok(Next::Goes),
+            None => Ok(Next::Proceed),
             Some(world) => {
                 if world.counts().events >= MAX_EVENTS {
                     return Ok(Next::Refuses("TooMuch", Status::TooMuch));
                 }
                 match world.step_brief(event) {
                     Ok(told) => match write_outcome(sink, world, &told, names) {
-                        Ok(()) => Ok(Next::Goes),
+                        Ok(()) => Ok(Next::Proceed),
                         Err(_) => Err(Trouble::Write),
                     },
                     Err(_) => Err(Trouble::Memory),
@@ -143,13 +143,13 @@ impl<P: PeerMethod, S: ServerMethod> Replay<P, S> {
 }
 
 impl<P: PeerMethod, S: ServerMethod> Command for Replay<P, S> {
-    ghost use Rattle.world_commands.specs.Replay.{ReplayNow, replay_took, replay_closing, replay_lacks};
+    ghost use Rattle.world_commands.specs.Replay.{ReplayNow, replay_step, replay_closing, replay_lacks};
 
     ghost Seen = { ReplayNow };
 
     ghost seen = { seen_of P.peer_shown S.server_shown };
 
-    ghost took = { replay_took };
+    ghost took = { replay_step };
 
     ghost closing = { replay_closing };
 
@@ -157,14 +157,14 @@ impl<P: PeerMethod, S: ServerMethod> Command for Replay<P, S> {
 
     ghost holds = { IsReady P.peer_shown S.server_shown };
 
-    #[tactic(auto, unfolding(crate::specs::Replay::replay_took, crate::specs::Replay::replay_lacks))]
+    #[tactic(auto, unfolding(crate::specs::Replay::replay_step, crate::specs::Replay::replay_lacks))]
     fn take<W: Sink>(&mut self, sink: &mut W, line: &[u8]) -> Result<Next, Trouble> {
         let mut event = Event::Idle;
         match self.reader.line_into(line, &mut event) {
-            Ok(ItemKind::Nothing) => Ok(Next::Goes),
+            Ok(ItemKind::Nothing) => Ok(Next::Proceed),
             Ok(ItemKind::Ready) => self.start(sink),
             Ok(ItemKind::Event) => self.step(sink, &event),
-            Ok(ItemKind::End) => Ok(Next::Goes),
+            Ok(ItemKind::End) => Ok(Next::Proceed),
             Err(fault) => Ok(Next::Refuses(fault.word(), Status::Refused)),
         }
     }
@@ -188,7 +188,7 @@ fn write_outcome<W: Sink, P: PeerMethod, S: ServerMethod>(
     ensures { Appends W.shown result sink.old sink.new
         (told_text names (octets_of_sent world.now.sent told.now.sent) told.now) }
 {
-    write_told_brief(sink, told, world.octets_of(told), names)
+    write_event_brief(sink, told, world.octets_of(told), names)
 }
 
 /// Reads a scenario and writes the trace of its run, with names or without.

@@ -12,31 +12,31 @@ use Rattle.peer_machine.specs.Inputs.{PeerInput}
 use Rattle.server_machine.specs.Inputs as server_inputs
 use Rattle.server_machine.specs.Inputs.{ServerInput, start}
 use Rattle.pass_through.specs.Inputs as pass_inputs
-use Rattle.eap_world.specs.Conversations.{Conversations, begins, peer_begins, server_begins}
-use Rattle.eap_world.specs.World.{Acted, Call, Skipped, WorldNow, WorldOutcome, act, call_at, call_octets, call_of, call_with, act_of_call, called_unless, conversations_after, conversed_by, conversed_unless, counts_after, first_skip, heard_in, held_anew, held_before, held_unless, next_call, restart_call, run_after, skip_table, act_of_skip, timer_call, to_pass, to_peer, to_server, told_of, world_acted, world_outcome, world_step}
+use Rattle.eap_world.specs.Conversations.{Conversations, begins, peer_initiates, server_initiates}
+use Rattle.eap_world.specs.World.{Acted, Call, Skipped, WorldNow, WorldOutcome, act, call_at, call_octets, call_of, call_with, act_of_call, called_unless, conversations_after, conversed_by, conversed_unless, counts_after, first_skip, delivered_in_call, reported_anew, reported_before, reported_unless, next_call, restart_call, run_after, skip_table, act_of_skip, timer_call, to_pass, to_peer, to_server, told_of, world_acted, world_outcome, world_step}
 use Rattle.eap_world.specs.Sent.{Sent, packet_numbered}
 use Rattle.tag_book.specs.declared.book.End.TheVariants as end
 use Rattle.eap_world.specs.declared.conversations.Waiting.{Waiting}
 use Rattle.eap_world.specs.declared.told.Skip.{Skip}
-use Rattle.eap_world.specs.declared.world.Held.{Held}
+use Rattle.eap_world.specs.declared.world.HasReported.{HasReported}
 
 -- what comes of the next event: what the parties did, where these ends had held a report and the conversations are these
-abbrev pub counted_acted : WorldNow → Held → Conversations → Acted → WorldOutcome
+abbrev pub counted_acted : WorldNow → HasReported → Conversations → Acted → WorldOutcome
 counted_acted w held conversations out = world_acted w (w.counts.events + 1) (counts_after w.counts out.action) held conversations out
 
 -- a call in which an end begins a new conversation
-abbrev pub begins_anew : Call → Bool
-begins_anew (to_peer (peer_inputs.restart nonce)) = true
-begins_anew (to_server (server_inputs.restart nonce)) = true
-begins_anew call = false
+abbrev pub starts_anew : Call → Bool
+starts_anew (to_peer (peer_inputs.restart nonce)) = true
+starts_anew (to_server (server_inputs.restart nonce)) = true
+starts_anew call = false
 
 -- nothing but the count of events changes, or a party is called: none starts the server, and an end that begins a new
 -- conversation does so with the next of its nonces
 pub data Steps (w : WorldNow) : WorldOutcome → Type 0 where
   skips : (skip : Skip) → Steps w (world_outcome (told_of (w.counts.events + 1) (length w.sent + 1) None (Skipped skip))
       (record w { counts = record w.counts { events = w.counts.events + 1 }; started = true }))
-  calls : (call : Call) (later : call ≡ to_server start → ⊥) (same : begins_anew call ≡ false)
-      → Steps w (counted_acted w w.held (heard_in w.conversations (call_octets call)) (act_of_call w.parties call))
+  calls : (call : Call) (later : call ≡ to_server start → ⊥) (same : starts_anew call ≡ false)
+      → Steps w (counted_acted w w.held (delivered_in_call w.conversations (call_octets call)) (act_of_call w.parties call))
   peer_restarts : (one : Waiting) (left : List Waiting) (next : w.conversations.peer_left ≡ one ∷ left)
       → Steps w
       (counted_acted w (record w.held { peer = false }) (begins (w.counts.events + 1) end.Peer one (record w.conversations { peer_left = left }))
@@ -66,7 +66,7 @@ module _ (P : Call → Type 0) where
 
 -- an end that begins a new conversation has this nonce left
 pub data IsNext (conversations : Conversations) : Call → Type 0 where
-  goes_on : (call : Call) (later : call ≡ to_server start → ⊥) (same : begins_anew call ≡ false) → IsNext conversations call
+  goes_on : (call : Call) (later : call ≡ to_server start → ⊥) (same : starts_anew call ≡ false) → IsNext conversations call
   peer_next : (one : Waiting) (left : List Waiting) (next : conversations.peer_left ≡ one ∷ left)
       → IsNext conversations (to_peer (peer_inputs.restart one.nonce))
   server_next : (one : Waiting) (left : List Waiting) (next : conversations.server_left ≡ one ∷ left)
@@ -124,9 +124,9 @@ module _ (conversations : Conversations) where
 module _ (w : WorldNow) where
   -- what comes of a call
   abbrev CallSteps : Call → Type 0
-  CallSteps call = Steps w (counted_acted w (held_anew w.held call) (conversations_after (w.counts.events + 1) w.conversations call) (act_of_call w.parties call))
+  CallSteps call = Steps w (counted_acted w (reported_anew w.held call) (conversations_after (w.counts.events + 1) w.conversations call) (act_of_call w.parties call))
 
-  on_steps : (call : Call) → (call ≡ to_server start → ⊥) → begins_anew call ≡ false → CallSteps call
+  on_steps : (call : Call) → (call ≡ to_server start → ⊥) → starts_anew call ≡ false → CallSteps call
   on_steps (to_peer (peer_inputs.octets bytes)) later same = calls _ later same
   on_steps (to_peer peer_inputs.idle) later same = calls _ later same
   on_steps (to_peer peer_inputs.alt_accept) later same = calls _ later same
@@ -143,13 +143,13 @@ module _ (w : WorldNow) where
   call_steps _ (peer_next one left next) =
       subst
       (λ (all : List Waiting). Steps w
-      (counted_acted w (record w.held { peer = false }) (peer_begins (w.counts.events + 1) w.conversations all)
+      (counted_acted w (record w.held { peer = false }) (peer_initiates (w.counts.events + 1) w.conversations all)
       (act_of_call w.parties (to_peer (peer_inputs.restart one.nonce)))))
       (sym next) (peer_restarts one left next)
   call_steps _ (server_next one left next) =
       subst
       (λ (all : List Waiting). Steps w
-      (counted_acted w (record w.held { server = false }) (server_begins (w.counts.events + 1) w.conversations all)
+      (counted_acted w (record w.held { server = false }) (server_initiates (w.counts.events + 1) w.conversations all)
       (act_of_call w.parties (to_server (server_inputs.restart one.nonce)))))
       (sym next) (server_restarts one left next)
 
@@ -157,33 +157,33 @@ module _ (w : WorldNow) where
   skip_steps skip = rw (append-nil w.sent, append-nil w.book) (skips skip)
 
   unless_steps : (skip : Option Skip) (call : Option Call) → ((one : Call) → call ≡ Some one → IsNext w.conversations one)
-      → Steps w (counted_acted w (held_unless w.held skip call) (conversed_unless (w.counts.events + 1) w.conversations skip call) (called_unless w.parties skip call))
+      → Steps w (counted_acted w (reported_unless w.held skip call) (conversed_unless (w.counts.events + 1) w.conversations skip call) (called_unless w.parties skip call))
   unless_steps (Some skip) call next = skip_steps skip
   unless_steps None None next = skip_steps _
   unless_steps None (Some call) next = call_steps call (next call refl)
 
 pub step_steps : (w : WorldNow) (e : Event) → Steps w (world_step w e)
-unfolding act conversed_by held_before world_step
+unfolding act conversed_by reported_before world_step
 step_steps w e =
     unless_steps w (first_skip (skip_table w.parties w.conversations w.sent e)) (call_of w.conversations w.sent e) (of_next w.conversations w.sent e)
 
 -- what each step keeps holds after every run
 module _ (P : WorldNow → Type 0) (each : (w : WorldNow) (out : WorldOutcome) → Steps w out → P w → P out.after) where
-  pub run_keeps : (w : WorldNow) (events : List Event) → P w → P (run_after w events)
+  pub run_preserves : (w : WorldNow) (events : List Event) → P w → P (run_after w events)
   unfolding run_after
-  run_keeps w [] holds = holds
-  run_keeps w (e ∷ rest) holds = run_keeps (world_step w e).after rest (each w (world_step w e) (step_steps w e) holds)
+  run_preserves w [] holds = holds
+  run_preserves w (e ∷ rest) holds = run_preserves (world_step w e).after rest (each w (world_step w e) (step_steps w e) holds)
 
 -- ---- what a call that goes on leaves
 
 -- an input that begins no new conversation
-pub peer_same : (input : PeerInput) → begins_anew (to_peer input) ≡ false → (nonce : List ℕ) → input ≡ peer_inputs.restart nonce → ⊥
-peer_same input same nonce e = false≢true (sym same ∙ ap (λ (i : PeerInput). begins_anew (to_peer i)) e)
+pub peer_same : (input : PeerInput) → starts_anew (to_peer input) ≡ false → (nonce : List ℕ) → input ≡ peer_inputs.restart nonce → ⊥
+peer_same input same nonce e = false≢true (sym same ∙ ap (λ (i : PeerInput). starts_anew (to_peer i)) e)
 
-pub server_same : (input : ServerInput) → begins_anew (to_server input) ≡ false → (nonce : List ℕ) → input ≡ server_inputs.restart nonce → ⊥
-server_same input same nonce e = false≢true (sym same ∙ ap (λ (i : ServerInput). begins_anew (to_server i)) e)
+pub server_same : (input : ServerInput) → starts_anew (to_server input) ≡ false → (nonce : List ℕ) → input ≡ server_inputs.restart nonce → ⊥
+server_same input same nonce e = false≢true (sym same ∙ ap (λ (i : ServerInput). starts_anew (to_server i)) e)
 
 -- octets that are heard begin none
-pub still_begun : (conversations : Conversations) (octets : Option (List ℕ)) → (heard_in conversations octets).begun ≡ conversations.begun
-still_begun conversations None = refl
-still_begun conversations (Some octets) = refl
+pub still_started : (conversations : Conversations) (octets : Option (List ℕ)) → (delivered_in_call conversations octets).begun ≡ conversations.begun
+still_started conversations None = refl
+still_started conversations (Some octets) = refl

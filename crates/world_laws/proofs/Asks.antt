@@ -3,7 +3,7 @@ use Rattle.std.proofs.Common.{◌≡◌, ℕ, List, ◌∷◌, Some}
 use Rattle.login_setup.specs.declared.setup.ServerSetup.{ServerSetup}
 use Rattle.eap_method.specs.declared.tags.TagRecord.{TagRecord}
 use Rattle.eap_world.specs.Conversations.{front}
-use Rattle.world_laws.specs.ToldTags.{MadeByPeer, MadeByServer, NotByServer}
+use Rattle.world_laws.specs.TagOwners.{OnlyByPeer, OnlyByServer, NotByServer}
 
 pub some_is : (x y : List ℕ) → Some x ≡ Some y → x ≡ y
 some_is x y e = cc
@@ -13,7 +13,7 @@ pub record AsksPeer (setup : ServerSetup) (nonce foreign : List ℕ) (accepted :
   pub tag : TagRecord
   pub rest : List TagRecord
   pub first : accepted ≡ tag ∷ rest
-  pub made : MadeByPeer tag foreign (front nonce)
+  pub made : OnlyByPeer tag foreign (front nonce)
   pub alien : NotByServer setup tag
 
 -- a peer that has succeeded has accepted a tag that only a server which holds the peer's nonce can have made
@@ -21,4 +21,4 @@ pub record AsksServer (nonce : List ℕ) (accepted : List TagRecord) : Type 0 wh
   pub tag : TagRecord
   pub rest : List TagRecord
   pub first : accepted ≡ tag ∷ rest
-  pub made : MadeByServer tag (front nonce)
+  pub made : OnlyByServer tag (front nonce)

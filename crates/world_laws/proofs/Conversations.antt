@@ -9,40 +9,40 @@ use Rattle.server_machine.specs.ServerTable as servers
 use Rattle.server_machine.specs.ServerTable.{server_reports}
 use Rattle.eap_world.specs.Run.{run_of}
 use Rattle.world_laws.specs.Agreement.{IsWhole}
-use Rattle.world_laws.specs.Alone.{OneEndTells}
+use Rattle.world_laws.specs.Alone.{OneEndImplies}
 use Rattle.world_laws.specs.ByMethod.{peer_login}
 use Rattle.world_laws.specs.EachConversation.{IsOneOf, OfPeer, OfServer, nonces_of, peer_at, peer_conversations, peer_nonce, server_at, server_conversations, server_nonce}
 use Rattle.world_laws.specs.Matching.{AreAll, ConversationsAreAll, ConversationsMatch, Match, RestsOn}
-use Rattle.world_laws.specs.PeerStands.{PeerStands}
+use Rattle.world_laws.specs.PeerInvariant.{PeerInvariant}
 use Rattle.world_laws.specs.Records.{tags_by}
-use Rattle.world_laws.specs.ServerStands.{ServerStands}
+use Rattle.world_laws.specs.ServerInvariant.{ServerInvariant}
 use Rattle.world_laws.proofs.Alone.{heard, hears, knows}
 use Rattle.world_laws.proofs.Conversing.{BothConverse, run_converses, start_converses, starts_so}
 use Rattle.world_laws.proofs.EachOf.{Told, walk}
 use Rattle.world_laws.proofs.EachTurn.{PeerWell, ServerWell, converses_on, grow, peer_nonce_of, peer_turns, peer_used, server_nonce_of, server_turns, server_used}
-use Rattle.world_laws.proofs.EndsStand.{every_run_so_far, stand_first}
+use Rattle.world_laws.proofs.EndInvariants.{every_run_so_far, invariant_first}
 use Rattle.world_laws.proofs.Matching.{AllKnown, PeerKnown, ServerKnown}
 use Rattle.world_laws.proofs.Matching as matching
-use Rattle.world_laws.proofs.PeerKeeps.{peer_few}
+use Rattle.world_laws.proofs.PeerPreserves.{peer_few}
 use Rattle.world_laws.proofs.PskMatching as psk
-use Rattle.world_laws.proofs.PskReflected.{heard_psk}
+use Rattle.world_laws.proofs.PskReflected.{received_psk}
 use Rattle.world_laws.proofs.Resting.{same_report}
-use Rattle.world_laws.proofs.ServerKeeps.{server_few}
+use Rattle.world_laws.proofs.ServerPreserves.{server_few}
 use Rattle.tag_book.specs.Book.{tags_verdict}
 use Rattle.eap_world.specs.Judgement.{is_success}
-use Rattle.eap_world.specs.World.{WorldNow, world_made, world_start}
+use Rattle.eap_world.specs.World.{WorldNow, initial_world, world_start}
 use Rattle.tag_book.specs.declared.book.End.TheVariants as end
 use Rattle.tag_book.specs.declared.book.Entry.{Entry}
 use Rattle.tag_book.specs.declared.book.TagsVerdict.TheVariants.{Honest}
 use Rattle.tag_book.specs.declared.book.Use.TheVariants.{Accepted, Made}
 
 module _ (setup : Setup) (last : WorldNow) (ps : List OfPeer) (ss : List OfServer) (all : AllKnown setup last ps ss) where
-  peers_lead : tags_verdict last.book ≡ Honest → last.conversations.fresh ≡ true → (s : OfServer) → IsOneOf s ss → is_success s.now.vars.state ≡ true
+  peers_agree : tags_verdict last.book ≡ Honest → last.conversations.fresh ≡ true → (s : OfServer) → IsOneOf s ss → is_success s.now.vars.state ≡ true
       → (p : OfPeer) → IsOneOf p ps → RestsOn s.accepted p.made → peer_login p.now.vars.selected p.now.views ≡ server_reports s.now
-  peers_lead honest fresh s s_is s_in p p_is rests =
+  peers_agree honest fresh s s_is s_in p p_is rests =
       let known = all.peers p p_is in
       let s_known = all.servers s s_is in
-      same_report (peers.own_nonce setup.peer (peer_nonce p)) (servers.own_nonce setup.server (server_nonce s)) known.size s_known.size
+      same_report (peers.setup_with_nonce setup.peer (peer_nonce p)) (servers.setup_with_nonce setup.server (server_nonce s)) known.size s_known.size
       p.now.vars.selected p.now.views p.accepted p.made known.stands.tags s.now _ _ (matching.server_won setup s s_known s_in) rests
       (λ by_psk. psk.psk_servers_back setup last ps ss all honest fresh s s_is s_in by_psk p p_is rests)
 
@@ -56,9 +56,9 @@ module _ (setup : Setup) (last : WorldNow) (ps : List OfPeer) (ss : List OfServe
     psk_peers_match = psk.psk_peers_match setup last ps ss all;
     psk_servers_back = psk.psk_servers_back setup last ps ss all;
     psk_servers_confirm = λ honest fresh s s_is s_in by_psk p p_is rests.
-        (psk.psk_servers_confirm setup last ps ss all honest fresh s s_is s_in by_psk p p_is rests ∙ peers_lead honest fresh s s_is s_in p p_is rests);
-    peers_lead = peers_lead;
-    servers_lead = matching.servers_lead setup last ps ss all;
+        (psk.psk_servers_confirm setup last ps ss all honest fresh s s_is s_in by_psk p p_is rests ∙ peers_agree honest fresh s s_is s_in p p_is rests);
+    peers_agree = peers_agree;
+    servers_agree = matching.servers_agree setup last ps ss all;
     same_keys = matching.same_keys setup last ps ss all;
     both_agree = matching.agree_both setup last ps ss all;
   }
@@ -68,7 +68,7 @@ peer_is_known setup p well =
     let same : peer_nonce p ≡ well.nonce = ap (λ (s : PeerSetup). s.nonce) well.stands.own in
     record {
       size = ap length same ∙ well.size;
-      stands = subst (λ (n : List ℕ). PeerStands (peers.own_nonce setup n) p.now p.accepted p.made) (sym same) well.stands;
+      stands = subst (λ (n : List ℕ). PeerInvariant (peers.setup_with_nonce setup n) p.now p.accepted p.made) (sym same) well.stands;
     }
 
 server_is_known : (setup : ServerSetup) (s : OfServer) → ServerWell setup s.now s.accepted s.made → ServerKnown setup s
@@ -76,14 +76,14 @@ server_is_known setup s well =
     let same : server_nonce s ≡ well.nonce = ap (λ (x : ServerSetup). x.nonce) well.stands.own in
     record {
       size = ap length same ∙ well.size;
-      stands = subst (λ (n : List ℕ). ServerStands (servers.own_nonce setup n) s.now s.accepted s.made) (sym same) well.stands;
+      stands = subst (λ (n : List ℕ). ServerInvariant (servers.setup_with_nonce setup n) s.now s.accepted s.made) (sym same) well.stands;
     }
 
 -- ---- every run
 
 module _ (setup : Setup) (events : List Event) (whole : IsWhole setup) where
   abbrev begun : WorldNow
-  begun = (world_start (world_made setup)).after
+  begun = (world_start (initial_world setup)).after
 
   abbrev last : WorldNow
   last = run_of setup events
@@ -91,17 +91,17 @@ module _ (setup : Setup) (events : List Event) (whole : IsWhole setup) where
   good : BothConverse setup begun
   good = start_converses setup whole
 
-  book_begun : begun.book ≡ []
+  book_started : begun.book ≡ []
   unfolding world_start
-  book_begun = (starts_so setup.mode setup).book
+  book_started = (starts_so setup.mode setup).book
 
-  peer_begun : PeerWell setup.peer (peer_at begun) (tags_by end.Peer Accepted []) (tags_by end.Peer Made [])
+  started_peer : PeerWell setup.peer (peer_at begun) (tags_by end.Peer Accepted []) (tags_by end.Peer Made [])
   unfolding world_start tags_by
-  peer_begun = record { nonce = setup.peer.nonce; size = whole.peer_nonce; stands = (starts_so setup.mode setup).peer.stands }
+  started_peer = record { nonce = setup.peer.nonce; size = whole.peer_nonce; stands = (starts_so setup.mode setup).peer.stands }
 
-  server_begun : ServerWell setup.server (server_at begun) (tags_by end.Server Accepted []) (tags_by end.Server Made [])
+  started_server : ServerWell setup.server (server_at begun) (tags_by end.Server Accepted []) (tags_by end.Server Made [])
   unfolding world_start tags_by
-  server_begun = record { nonce = setup.server.nonce; size = whole.server_nonce; stands = (starts_so setup.mode setup).server.stands }
+  started_server = record { nonce = setup.server.nonce; size = whole.server_nonce; stands = (starts_so setup.mode setup).server.stands }
 
   peer_first : nonces_of end.Peer begun.conversations.begun ≡ peer_nonce_of (peer_at begun) ∷ []
   unfolding world_start nonces_of
@@ -111,38 +111,38 @@ module _ (setup : Setup) (events : List Event) (whole : IsWhole setup) where
   unfolding world_start nonces_of
   server_first = ap (λ (s : ServerSetup). s.nonce ∷ []) (sym (starts_so setup.mode setup).server.stands.own)
 
-  peers_told : Told peer_at end.Peer peer_nonce_of (PeerWell setup.peer) begun [] last (peer_conversations setup events)
-  peers_told =
+  peers_reported : Told peer_at end.Peer peer_nonce_of (PeerWell setup.peer) begun [] last (peer_conversations setup events)
+  peers_reported =
       walk peer_at end.Peer peer_nonce_of (PeerWell setup.peer) (BothConverse setup) (peer_turns setup) grow (converses_on setup) (peer_used setup)
       begun events 0 [] begun.book good refl refl
-      (subst (λ (l : List Entry). PeerWell setup.peer (peer_at begun) (tags_by end.Peer Accepted l) (tags_by end.Peer Made l)) (sym book_begun) peer_begun)
+      (subst (λ (l : List Entry). PeerWell setup.peer (peer_at begun) (tags_by end.Peer Accepted l) (tags_by end.Peer Made l)) (sym book_started) started_peer)
 
-  servers_told : Told server_at end.Server server_nonce_of (ServerWell setup.server) begun [] last (server_conversations setup events)
-  servers_told =
+  servers_reported : Told server_at end.Server server_nonce_of (ServerWell setup.server) begun [] last (server_conversations setup events)
+  servers_reported =
       walk server_at end.Server server_nonce_of (ServerWell setup.server) (BothConverse setup) (server_turns setup) grow (converses_on setup)
       (server_used setup)
       begun events 0 [] begun.book good refl refl
-      (subst (λ (l : List Entry). ServerWell setup.server (server_at begun) (tags_by end.Server Accepted l) (tags_by end.Server Made l)) (sym book_begun)
-      server_begun)
+      (subst (λ (l : List Entry). ServerWell setup.server (server_at begun) (tags_by end.Server Accepted l) (tags_by end.Server Made l)) (sym book_started)
+      started_server)
 
   peers_known : (p : OfPeer) → IsOneOf p (peer_conversations setup events) → PeerKnown setup.peer p
-  peers_known p is_one = peer_is_known setup.peer p (peers_told.stand p is_one)
+  peers_known p is_one = peer_is_known setup.peer p (peers_reported.stand p is_one)
 
   servers_known : (s : OfServer) → IsOneOf s (server_conversations setup events) → ServerKnown setup.server s
-  servers_known s is_one = server_is_known setup.server s (servers_told.stand s is_one)
+  servers_known s is_one = server_is_known setup.server s (servers_reported.stand s is_one)
 
   all_are : AreAll setup last (peer_conversations setup events) (server_conversations setup events)
   all_are = record {
-    peer_nonces = peers_told.nonces [] peer_first;
-    server_nonces = servers_told.nonces [] server_first;
-    peer_last = peers_told.ends None;
-    server_last = servers_told.ends None;
-    peer_accepted = ap (tags_by end.Peer Accepted) peers_told.book ∙ peers_told.accepted;
-    peer_made = ap (tags_by end.Peer Made) peers_told.book ∙ peers_told.made;
-    server_accepted = ap (tags_by end.Server Accepted) servers_told.book ∙ servers_told.accepted;
-    server_made = ap (tags_by end.Server Made) servers_told.book ∙ servers_told.made;
-    peer_stands = λ p is_one. (peers_known p is_one).stands;
-    server_stands = λ s is_one. (servers_known s is_one).stands;
+    peer_nonces = peers_reported.nonces [] peer_first;
+    server_nonces = servers_reported.nonces [] server_first;
+    peer_last = peers_reported.ends None;
+    server_last = servers_reported.ends None;
+    peer_accepted = ap (tags_by end.Peer Accepted) peers_reported.book ∙ peers_reported.accepted;
+    initial_peer = ap (tags_by end.Peer Made) peers_reported.book ∙ peers_reported.made;
+    server_accepted = ap (tags_by end.Server Accepted) servers_reported.book ∙ servers_reported.accepted;
+    initial_server = ap (tags_by end.Server Made) servers_reported.book ∙ servers_reported.made;
+    peer_invariant = λ p is_one. (peers_known p is_one).stands;
+    server_invariant = λ s is_one. (servers_known s is_one).stands;
     peer_few = λ p is_one. peer_few _ p.now p.accepted p.made (peers_known p is_one).stands;
     server_few = λ s is_one. server_few _ s.now s.accepted s.made (servers_known s is_one).stands;
   }
@@ -151,8 +151,8 @@ module _ (setup : Setup) (events : List Event) (whole : IsWhole setup) where
   run_known = record {
     peers = peers_known;
     servers = servers_known;
-    peers_two = peers_told.two;
-    servers_two = servers_told.two;
+    peers_two = peers_reported.two;
+    servers_two = servers_reported.two;
     are = all_are;
   }
 
@@ -165,13 +165,13 @@ conversations_match = run_matches
 pub conversations_are_all : ConversationsAreAll
 conversations_are_all = all_are
 
-pub one_end_tells : OneEndTells
-one_end_tells setup events whole =
+pub one_end_implies : OneEndImplies
+one_end_implies setup events whole =
     let w = run_of setup events in
     let h = run_converses setup events whole in
     record {
       by_peer = heard setup w h;
-      by_psk_peer = heard_psk setup w h;
+      by_psk_peer = received_psk setup w h;
       by_server = hears setup w h;
-      by_server_once = λ honest two s_in. knows setup whole w (stand_first setup w (every_run_so_far setup events) two) honest s_in;
+      by_server_once = λ honest two s_in. knows setup whole w (invariant_first setup w (every_run_so_far setup events) two) honest s_in;
     }

@@ -6,8 +6,8 @@ use Rattle.std.proofs.lemmas.Bool.{cond-true, cond-false, lt-ltb, le-ltb}
 use Rattle.std.proofs.lemmas.List.Elements.{All-nil, All-cons, All-head, All-tail, All-weaker, All-append, filter-append}
 use Rattle.eap_method.specs.Tags.{Tags, no_tags}
 use Rattle.eap_method.specs.declared.tags.TagRecord.{TagRecord}
-use Rattle.peer_machine.specs.Inputs.{peer_takes}
-use Rattle.server_machine.specs.Inputs.{server_takes}
+use Rattle.peer_machine.specs.Inputs.{peer_accepts}
+use Rattle.server_machine.specs.Inputs.{server_accepts}
 use Rattle.tag_book.specs.Book.{entries_of, entry, same_end}
 use Rattle.eap_world.specs.Conversations.{beginning, since_from, since_of}
 use Rattle.world_laws.specs.Records.{is_after, since}
@@ -17,10 +17,10 @@ use Rattle.tag_book.specs.declared.book.End.TheVariants as end
 use Rattle.tag_book.specs.declared.book.Entry.{Entry}
 use Rattle.tag_book.specs.declared.book.Use.{Use}
 use Rattle.tag_book.specs.declared.book.Use.TheVariants.{Accepted, Made}
-use Rattle.eap_world.specs.declared.conversations.Begun.{Begun}
-use Rattle.world_laws.proofs.Acting.{Steps, skips, calls, peer_restarts, server_restarts, still_begun}
-use Rattle.world_laws.proofs.PeerKeeps.{peer_tags_none}
-use Rattle.world_laws.proofs.ServerKeeps.{server_tags_none}
+use Rattle.eap_world.specs.declared.conversations.ConversationStart.{ConversationStart}
+use Rattle.world_laws.proofs.Acting.{Steps, skips, calls, peer_restarts, server_restarts, still_started}
+use Rattle.world_laws.proofs.PeerPreserves.{peer_tags_none}
+use Rattle.world_laws.proofs.ServerPreserves.{server_tags_none}
 
 -- ---- entries by their events
 
@@ -63,10 +63,10 @@ since_either false last event book past = refl
 
 -- ---- the event in which a conversation began
 
-pub since_begun : (last : ℕ) (of : End) (all : List Begun) (b : Begun) → since_from last of (all ++ b ∷ []) ≡ (if same_end b.end of then b.event else since_from last of all)
+pub since_started : (last : ℕ) (of : End) (all : List ConversationStart) (b : ConversationStart) → since_from last of (all ++ b ∷ []) ≡ (if same_end b.end of then b.event else since_from last of all)
 unfolding since_from
-since_begun last of [] b = refl
-since_begun last of (first ∷ rest) b = since_begun (if same_end first.end of then first.event else last) of rest b
+since_started last of [] b = refl
+since_started last of (first ∷ rest) b = since_started (if same_end first.end of then first.event else last) of rest b
 
 at_most : (b : Bool) (last event : ℕ) → event ≤ last → (if b then last else event) ≤ last
 at_most true last event past = omega arith
@@ -92,7 +92,7 @@ present of w = since (since_of of w.conversations.begun) w.book
 pub data Books (w after : WorldNow) : Type 0 where
   books_more : (more : List Entry) (are : All (IsOf (w.counts.events + 1)) more) (counts : after.counts.events ≡ w.counts.events + 1)
       (book : after.book ≡ w.book ++ more) (same : after.conversations.begun ≡ w.conversations.begun) → Books w after
-  begins_one : (own : End) (nonce : List ℕ) (counts : after.counts.events ≡ w.counts.events + 1) (book : after.book ≡ w.book)
+  starts_one : (own : End) (nonce : List ℕ) (counts : after.counts.events ≡ w.counts.events + 1) (book : after.book ≡ w.book)
       (longer : after.conversations.begun ≡ w.conversations.begun ++ beginning (w.counts.events + 1) own nonce ∷ []) → Books w after
 
 pub untagged : (book : List Entry) (event : ℕ) (of : End) (tags : Tags) → tags ≡ no_tags → book ++ entries_of event of tags ≡ book
@@ -101,17 +101,17 @@ untagged book event of tags none = ap (λ (t : Tags). book ++ entries_of event o
 pub steps_book : (w : WorldNow) (out : WorldOutcome) → Steps w out → Books w out.after
 steps_book w _ (skips skip) = books_more [] (All-nil (IsOf (w.counts.events + 1))) refl (sym (append-nil w.book)) refl
 steps_book w _ (calls (to_peer input) later same) =
-    books_more _ (booked_of_event (w.counts.events + 1) end.Peer (peer_takes w.parties.peer input).step.tags) refl refl
-    (still_begun w.conversations (call_octets (to_peer input)))
+    books_more _ (booked_of_event (w.counts.events + 1) end.Peer (peer_accepts w.parties.peer input).step.tags) refl refl
+    (still_started w.conversations (call_octets (to_peer input)))
 steps_book w _ (calls (to_server input) later same) =
-    books_more _ (booked_of_event (w.counts.events + 1) end.Server (server_takes w.parties.server input).step.tags) refl refl
-    (still_begun w.conversations (call_octets (to_server input)))
+    books_more _ (booked_of_event (w.counts.events + 1) end.Server (server_accepts w.parties.server input).step.tags) refl refl
+    (still_started w.conversations (call_octets (to_server input)))
 steps_book w _ (calls (to_pass input) later same) =
-    books_more [] (All-nil (IsOf (w.counts.events + 1))) refl refl (still_begun w.conversations (call_octets (to_pass input)))
+    books_more [] (All-nil (IsOf (w.counts.events + 1))) refl refl (still_started w.conversations (call_octets (to_pass input)))
 steps_book w _ (peer_restarts one left next) =
-    begins_one end.Peer one.nonce refl (untagged w.book (w.counts.events + 1) end.Peer _ (peer_tags_none w.parties.peer one.nonce)) refl
+    starts_one end.Peer one.nonce refl (untagged w.book (w.counts.events + 1) end.Peer _ (peer_tags_none w.parties.peer one.nonce)) refl
 steps_book w _ (server_restarts one left next) =
-    begins_one end.Server one.nonce refl (untagged w.book (w.counts.events + 1) end.Server _ (server_tags_none w.parties.server one.nonce)) refl
+    starts_one end.Server one.nonce refl (untagged w.book (w.counts.events + 1) end.Server _ (server_tags_none w.parties.server one.nonce)) refl
 
 module _ (w after : WorldNow) (was : Dates w) where
   -- the conversations go on
@@ -120,7 +120,7 @@ module _ (w after : WorldNow) (was : Dates w) where
     pub present_more : (of : End) → present of after ≡ present of w ++ more
     present_more of =
         ap (λ (entries : List Entry). since (since_of of after.conversations.begun) entries) book
-        ∙ (ap (λ (all : List Begun). since (since_of of all) (w.book ++ more)) same
+        ∙ (ap (λ (all : List ConversationStart). since (since_of of all) (w.book ++ more)) same
         ∙ since_more (since_of of w.conversations.begun) w.counts.events w.book more (was.begun of) are)
 
     dates_more : Dates after
@@ -139,7 +139,7 @@ module _ (w after : WorldNow) (was : Dates w) where
   module _ (own : End) (nonce : List ℕ) (counts : after.counts.events ≡ w.counts.events + 1) (book : after.book ≡ w.book)
       (longer : after.conversations.begun ≡ w.conversations.begun ++ beginning (w.counts.events + 1) own nonce ∷ []) where
     since_is : (of : End) → since_of of after.conversations.begun ≡ (if same_end own of then w.counts.events + 1 else since_of of w.conversations.begun)
-    since_is of = ap (since_of of) longer ∙ since_begun 0 of w.conversations.begun (beginning (w.counts.events + 1) own nonce)
+    since_is of = ap (since_of of) longer ∙ since_started 0 of w.conversations.begun (beginning (w.counts.events + 1) own nonce)
 
     -- of which there is nothing yet
     pub present_anew : (of : End) → present of after ≡ (if same_end own of then [] else present of w)
@@ -166,4 +166,4 @@ module _ (w after : WorldNow) (was : Dates w) where
 
 pub books_date : (w after : WorldNow) → Dates w → Books w after → Dates after
 books_date w after was (books_more more are counts book same) = dates_more w after was more are counts book same
-books_date w after was (begins_one own nonce counts book longer) = dates_anew w after was own nonce counts book longer
+books_date w after was (starts_one own nonce counts book longer) = dates_anew w after was own nonce counts book longer

@@ -5,7 +5,7 @@ use Rattle.std.proofs.lemmas.List.{drop_at}
 use Rattle.login_setup.specs.declared.event.Event.{Event}
 use Rattle.eap_method.specs.declared.tags.TagRecord.{TagRecord}
 use Rattle.eap_world.specs.Conversations.{Conversations, front, is_used}
-use Rattle.world_laws.specs.EachConversation.{AreTwoOf, Conversation, IsOneOf, all_accepted, all_made, begins_another, conversations_along, last_now, moments, nonces_of, present_one}
+use Rattle.world_laws.specs.EachConversation.{AreTwoOf, Conversation, IsOneOf, all_accepted, all_produced, starts_another, conversations_along, last_now, moments, nonces_of, present_one}
 use Rattle.world_laws.specs.Records.{tags_by}
 use Rattle.eap_world.specs.World.{WorldNow, run_after, world_step}
 use Rattle.tag_book.specs.declared.book.End.{End}
@@ -21,9 +21,9 @@ pub record Grows (before after : Conversations) : Type 0 where
   pub fresh : after.fresh ≡ true → before.fresh ≡ true
 
 -- where an end stands, its nonce there, and what holds of it with the tags that it has accepted and made in a conversation
-module _ {N : Type 0} (at : WorldNow → N) (of : End) (nonce : N → List ℕ) (Stands : N → List TagRecord → List TagRecord → Type 0) where
+module _ {N : Type 0} (at : WorldNow → N) (of : End) (nonce : N → List ℕ) (OccursInMessage : N → List TagRecord → List TagRecord → Type 0) where
   abbrev pub Now : WorldNow → List Entry → Type 0
-  Now a part = Stands (at a) (tags_by of Accepted part) (tags_by of Made part)
+  Now a part = OccursInMessage (at a) (tags_by of Accepted part) (tags_by of Made part)
 
   abbrev pub Nonces : WorldNow → List (List ℕ)
   Nonces a = nonces_of of a.conversations.begun
@@ -32,7 +32,7 @@ module _ {N : Type 0} (at : WorldNow → N) (of : End) (nonce : N → List ℕ) 
   pub data Turns (a b : WorldNow) : Bool → Type 0 where
     goes : (more : List Entry) (book : b.book ≡ a.book ++ more) (stands : (part : List Entry) → Now a part → Now b (part ++ more))
         (same : nonce (at b) ≡ nonce (at a)) (listed : Nonces b ≡ Nonces a) → Turns a b false
-    begins_next : (book : b.book ≡ a.book) (stands : Stands (at b) [] [])
+    starts_next : (book : b.book ≡ a.book) (stands : OccursInMessage (at b) [] [])
         (unused : b.conversations.fresh ≡ true → is_used a.conversations.begun (nonce (at b)) ≡ true → ⊥)
         (listed : Nonces b ≡ Nonces a ++ nonce (at b) ∷ []) → Turns a b true
 
@@ -49,11 +49,11 @@ module _ {N : Type 0} (at : WorldNow → N) (of : End) (nonce : N → List ℕ) 
     pub fresh : last.conversations.fresh ≡ true → a.conversations.fresh ≡ true
     pub new : last.conversations.fresh ≡ true → AreNew a rest
     pub two : last.conversations.fresh ≡ true → (k l : Conversation N) → AreTwoOf k l all → front (nonce k.now) ≡ front (nonce l.now) → ⊥
-    pub stand : (k : Conversation N) → IsOneOf k all → Stands k.now k.accepted k.made
+    pub stand : (k : Conversation N) → IsOneOf k all → OccursInMessage k.now k.accepted k.made
     pub booked : List Entry
     pub book : last.book ≡ before ++ booked
     pub accepted : tags_by of Accepted booked ≡ all_accepted all
-    pub made : tags_by of Made booked ≡ all_made all
+    pub made : tags_by of Made booked ≡ all_produced all
     pub nonces : (earlier : List (List ℕ)) → Nonces a ≡ earlier ++ nonce (at a) ∷ [] → Nonces last ≡ earlier ++ map (λ (k : Conversation N). nonce k.now) all
     pub ends : (o : Option N) → last_now o all ≡ Some (at last)
 
@@ -63,15 +63,15 @@ module _ {N : Type 0} (at : WorldNow → N) (of : End) (nonce : N → List ℕ) 
   cut : (before part book : List Entry) (from : ℕ) → book ≡ before ++ part → length before ≡ from → drop from book ≡ part
   cut before part book from split is = ap (drop from) split ∙ drop_at before part from is
 
-  own_stands : (a : WorldNow) (from : ℕ) (part : List Entry) → drop from a.book ≡ part → Now a part
-      → (k : Conversation N) → k ≡ present_one at of a from → Stands k.now k.accepted k.made
-  own_stands a from part is now k e =
-      subst (λ (c : Conversation N). Stands c.now c.accepted c.made) (sym e) (subst (λ (l : List Entry). Now a l) (sym is) now)
+  own_occurs : (a : WorldNow) (from : ℕ) (part : List Entry) → drop from a.book ≡ part → Now a part
+      → (k : Conversation N) → k ≡ present_one at of a from → OccursInMessage k.now k.accepted k.made
+  own_occurs a from part is now k e =
+      subst (λ (c : Conversation N). OccursInMessage c.now c.accepted c.made) (sym e) (subst (λ (l : List Entry). Now a l) (sym is) now)
 
   -- the present conversation is the last one
   only_one : (a : WorldNow) (from : ℕ) (before part : List Entry) → a.book ≡ before ++ part → length before ≡ from → Now a part
       → Told a before a (present_one at of a from ∷ [])
-  unfolding all_accepted all_made last_now
+  unfolding all_accepted all_produced last_now
   only_one a from before part split is now =
       let own = present_one at of a from in
       let is_part = cut before part a.book from split is in
@@ -89,7 +89,7 @@ module _ {N : Type 0} (at : WorldNow → N) (of : End) (nonce : N → List ℕ) 
             ];
         stand = λ k is_one.
             elim (one_parts k own [] _ is_one refl) [
-              | inl e ↦ own_stands a from part is_part now k e
+              | inl e ↦ own_occurs a from part is_part now k e
               | inr there ↦ elim there [ ]
             ];
         booked = part;
@@ -117,7 +117,7 @@ module _ {N : Type 0} (at : WorldNow → N) (of : End) (nonce : N → List ℕ) 
     }
 
     one_before : Told a before last (present_one at of a from ∷ next)
-    unfolding all_accepted all_made last_now
+    unfolding all_accepted all_produced last_now
     one_before =
         let own = present_one at of a from in
         let is_part = cut before part a.book from split is in
@@ -135,7 +135,7 @@ module _ {N : Type 0} (at : WorldNow → N) (of : End) (nonce : N → List ℕ) 
               ];
           stand = λ k is_one.
               elim (one_parts k own next _ is_one refl) [
-                | inl e ↦ own_stands a from part is_part now k e
+                | inl e ↦ own_occurs a from part is_part now k e
                 | inr there ↦ t.stand k there
               ];
           booked = part ++ t.booked;
@@ -175,12 +175,12 @@ module _ {N : Type 0} (at : WorldNow → N) (of : End) (nonce : N → List ℕ) 
         nonces = λ earlier e. t.nonces earlier (listed ∙ (e ∙ ap (λ (n : List ℕ). earlier ++ n ∷ []) (sym same)));
         ends = t.ends;
       }
-  by_turn _ a b last from before part next (begins_next book stands unused listed) grows split is now used each =
+  by_turn _ a b last from before part next (starts_next book stands unused listed) grows split is now used each =
       let t = each (length a.book) a.book [] (book ∙ sym (append-nil a.book)) refl stands in
       one_before a b last from before part (next (length a.book)) t grows split is now used unused listed
 
   module _ (Good : WorldNow → Type 0)
-      (turns : (a : WorldNow) (e : Event) → Good a → Turns a (world_step a e).after (begins_another of a (world_step a e).after))
+      (turns : (a : WorldNow) (e : Event) → Good a → Turns a (world_step a e).after (starts_another of a (world_step a e).after))
       (grow : (a : WorldNow) (e : Event) → Grows a.conversations (world_step a e).after.conversations)
       (keeps : (a : WorldNow) (e : Event) → Good a → Good (world_step a e).after)
       (used : (a : WorldNow) → Good a → is_used a.conversations.begun (nonce (at a)) ≡ true) where
@@ -190,6 +190,6 @@ module _ {N : Type 0} (at : WorldNow → N) (of : End) (nonce : N → List ℕ) 
     walk a [] from before part good split is now = only_one a from before part split is now
     walk a (e ∷ rest) from before part good split is now =
         let b = (world_step a e).after in
-        by_turn (begins_another of a b) a b (run_after b rest) from before part (λ (n : ℕ). conversations_along at of b n (moments b rest))
+        by_turn (starts_another of a b) a b (run_after b rest) from before part (λ (n : ℕ). conversations_along at of b n (moments b rest))
         (turns a e good) (grow a e) split is now (used a good)
         (λ start earlier piece split_there is_there now_there. walk b rest start earlier piece (keeps a e good) split_there is_there now_there)

@@ -11,7 +11,7 @@ use Rattle.server_machine.specs.ServerTable as servers
 use Rattle.eap_world.specs.Run.{run_of}
 use Rattle.world_laws.specs.Agreement.{IsWhole, AgreeAnew}
 use Rattle.world_laws.specs.Records.{IsIn, tags_by}
-use Rattle.world_laws.specs.ToldTags.{NotByServer, PeerTold}
+use Rattle.world_laws.specs.TagOwners.{NotByServer, PeerTagOwner}
 use Rattle.world_laws.proofs.Asks.{AsksServer}
 use Rattle.world_laws.proofs.AsksByMethod.{peer_asks, server_asks}
 use Rattle.world_laws.proofs.Conversing.{BothConverse, run_converses}
@@ -21,13 +21,13 @@ use Rattle.world_laws.proofs.OneLogin.{first_is_in, in_one}
 use Rattle.world_laws.proofs.PastConversations.{accepted_now}
 use Rattle.world_laws.proofs.Resting.{AreOne}
 use Rattle.world_laws.proofs.Resting as resting
-use Rattle.world_laws.proofs.SucceedingEnds.{FirstIn, PeerSucceeds, ServerSucceeds, both_agree, both_succeed, first_in, own_theirs, peer_succeeds, server_holds, server_succeeds}
+use Rattle.world_laws.proofs.SucceedingEnds.{FirstIn, PeerSucceeds, ServerSucceeds, both_agree, both_succeed, first_in, own_theirs, peer_succeeds, server_knows_nonce, server_succeeds}
 use Rattle.tag_book.specs.Book.{first_broken, tags_verdict}
 use Rattle.eap_world.specs.Conversations.{front}
 use Rattle.eap_world.specs.Judgement.{is_success, verdict_of}
 use Rattle.eap_world.specs.World.{WorldNow}
 use Rattle.tag_book.specs.declared.book.End.TheVariants as end
-use Rattle.tag_book.specs.declared.book.Makers.TheVariants.{Other}
+use Rattle.tag_book.specs.declared.book.MadeBy.TheVariants.{Other}
 use Rattle.tag_book.specs.declared.book.TagsVerdict.TheVariants.{Honest}
 use Rattle.tag_book.specs.declared.book.Use.TheVariants.{Accepted, Made}
 use Rattle.eap_world.specs.declared.verdict.Verdict.{Verdict}
@@ -39,17 +39,17 @@ agree_if one other same a b c = rw (a, b, c) refl
 
 -- a peer that stands in SUCCESS has succeeded
 pub peer_won : (setup : Setup) (w : WorldNow) (h : BothConverse setup w) → is_success w.parties.peer.vars.state ≡ true
-    → PeerSucceeds (peers.own_nonce setup.peer h.peer_nonce) w.parties.peer h.peer.accepted h.peer.made
+    → PeerSucceeds (peers.setup_with_nonce setup.peer h.peer_nonce) w.parties.peer h.peer.accepted h.peer.made
 peer_won setup w h p_in =
     let stands = h.peer.now.stands in
-    peer_succeeds (peers.own_nonce setup.peer h.peer_nonce) w.parties.peer h.peer.accepted h.peer.made stands.tags (stands.decided (stands.sure p_in))
+    peer_succeeds (peers.setup_with_nonce setup.peer h.peer_nonce) w.parties.peer h.peer.accepted h.peer.made stands.tags (stands.decided (stands.sure p_in))
 
 -- a server that stands in SUCCESS has succeeded
 pub server_won : (setup : Setup) (w : WorldNow) (h : BothConverse setup w) → is_success w.parties.server.vars.state ≡ true
-    → ServerSucceeds (servers.own_nonce setup.server h.server_nonce) w.parties.server h.server.accepted h.server.made
+    → ServerSucceeds (servers.setup_with_nonce setup.server h.server_nonce) w.parties.server h.server.accepted h.server.made
 server_won setup w h s_in =
     let stands = h.server.now.stands in
-    server_succeeds (servers.own_nonce setup.server h.server_nonce) w.parties.server h.server.accepted h.server.made stands.tags (stands.sure s_in)
+    server_succeeds (servers.setup_with_nonce setup.server h.server_nonce) w.parties.server h.server.accepted h.server.made stands.tags (stands.sure s_in)
 
 -- both ends agree, where the server's tag that the peer asks is the server's, and each one that the server asks is the peer's
 pub agree_anew : (setup : Setup) (w : WorldNow) (h : BothConverse setup w) → w.conversations.fresh ≡ true
@@ -61,13 +61,13 @@ unfolding verdict_of
 agree_anew setup w h fresh p_in s_in p_asks p_made server_honest =
     let p = w.parties.peer in
     let s = w.parties.server in
-    let peer_setup = peers.own_nonce setup.peer h.peer_nonce in
-    let server_setup = servers.own_nonce setup.server h.server_nonce in
+    let peer_setup = peers.setup_with_nonce setup.peer h.peer_nonce in
+    let server_setup = servers.setup_with_nonce setup.server h.server_nonce in
     let p_stands = h.peer.now.stands in
     let s_stands = h.server.now.stands in
     let p_won = peer_won setup w h p_in in
     let s_won = server_won setup w h s_in in
-    let holds = server_holds server_setup s _ _ s_won in
+    let holds = server_knows_nonce server_setup s _ _ s_won in
     let s_held : h.server.held ≡ Some holds.foreign = sym h.server.now.held_is ∙ holds.is in
     let s_asks = server_asks setup.server h.server_nonce holds.foreign h.server.size h.server.held h.server.accepted h.server.made h.server.told s_held in
     let one = in_one setup.peer setup.server _ _ _ _ _ _ _ _ h.peer h.server refl refl refl refl fresh fresh
@@ -83,8 +83,8 @@ agree_anew setup w h fresh p_in s_in p_asks p_made server_honest =
     record {
       agree = agree_if (is_success p.vars.state) (is_success s.vars.state) _ p_in s_in (rw (p_stands.own, s_stands.own) same);
       hold = record {
-        rand_s = h.peer.now.held_is ∙ (one.peer_holds ∙ ap (λ (x : ServerSetup). Some (front x.nonce)) (sym s_stands.own));
-        rand_p = h.server.now.held_is ∙ (one.server_holds ∙ ap (λ (x : PeerSetup). Some (front x.nonce)) (sym p_stands.own));
+        rand_s = h.peer.now.held_is ∙ (one.peer_knows_nonce ∙ ap (λ (x : ServerSetup). Some (front x.nonce)) (sym s_stands.own));
+        rand_p = h.server.now.held_is ∙ (one.server_knows_nonce ∙ ap (λ (x : PeerSetup). Some (front x.nonce)) (sym p_stands.own));
         whole = are_own.whole;
       };
       theirs = own_theirs setup w h.peer_nonce h.server_nonce succeed;
@@ -102,5 +102,5 @@ fresh_ends_agree setup events whole honest fresh p_in s_in =
     let p_asks = peer_asks setup.peer h.peer_nonce w.parties.peer h.peer.accepted h.peer.made h.peer.size (peer_won setup w h p_in) in
     agree_anew setup w h fresh p_in s_in p_asks
     (honest_other end.Peer w.book none p_asks.tag
-    (accepted_now (PeerTold setup.peer) _ _ _ _ h.peer p_asks.tag (first_is_in p_asks.tag p_asks.rest h.peer.accepted p_asks.first)))
+    (accepted_now (PeerTagOwner setup.peer) _ _ _ _ h.peer p_asks.tag (first_is_in p_asks.tag p_asks.rest h.peer.accepted p_asks.first)))
     (λ t is alien. honest_other end.Server w.book none t is)

@@ -9,22 +9,22 @@ use Rattle.login_setup.specs.declared.event.Event.{Event}
 use Rattle.login_setup.specs.declared.setup.Setup.{Setup}
 use Rattle.peer_machine.specs.Inputs as peer_inputs
 use Rattle.server_machine.specs.Inputs as server_inputs
-use Rattle.eap_world.specs.Conversations.{Conversations, begins, beginning, front, hears, is_new, is_used, stands_in, waiting}
-use Rattle.world_laws.specs.Fresh.{Happening, came, began, FreshIsTold, came_of, clashes, happens_at, happens_in, happens_unless, history_after, history_of}
-use Rattle.eap_world.specs.World.{Call, WorldNow, call_octets, call_of, conversations_after, conversed_by, conversed_unless, first_skip, heard_in, run_after, skip_table, to_pass, to_peer, to_server, world_made, world_start, world_step}
+use Rattle.eap_world.specs.Conversations.{Conversations, begins, beginning, front, hears, is_new, is_used, occurs_in, waiting}
+use Rattle.world_laws.specs.Fresh.{Happening, came, began, FreshnessIsExact, received_of, clashes, happens_at, happens_in, happens_unless, history_after, history_of}
+use Rattle.eap_world.specs.World.{Call, WorldNow, call_octets, call_of, conversations_after, conversed_by, conversed_unless, first_skip, delivered_in_call, run_after, skip_table, to_pass, to_peer, to_server, initial_world, world_start, world_step}
 use Rattle.tag_book.specs.declared.book.End.{End}
 use Rattle.tag_book.specs.declared.book.End.TheVariants as end
-use Rattle.eap_world.specs.declared.conversations.Begun.{Begun}
+use Rattle.eap_world.specs.declared.conversations.ConversationStart.{ConversationStart}
 use Rattle.eap_world.specs.declared.conversations.Waiting.{Waiting}
 use Rattle.eap_world.specs.declared.told.Skip.{Skip}
-use Rattle.world_laws.proofs.Acting.{IsNext, begins_anew, goes_on, of_next, peer_next, server_next}
+use Rattle.world_laws.proofs.Acting.{IsNext, starts_anew, goes_on, of_next, peer_next, server_next}
 use Rattle.world_laws.proofs.NoncesLeft.{IsLeft, first, behind, was_left}
 
 -- ---- the two ways to clash
 
-abbrev heard_by : List ℕ → Happening → Bool
-heard_by nonce (came octets) = stands_in (front nonce) octets
-heard_by nonce (began other) = false
+abbrev delivered_by : List ℕ → Happening → Bool
+delivered_by nonce (came octets) = occurs_in (front nonce) octets
+delivered_by nonce (began other) = false
 
 abbrev used_by : List ℕ → Happening → Bool
 used_by nonce (came octets) = false
@@ -43,9 +43,9 @@ or_second true true c = refl
 or_second true false c = refl
 or_second false b c = refl
 
-split : (nonce : List ℕ) (all : List Happening) → list_any (clashes nonce) all ≡ (list_any (heard_by nonce) all || list_any (used_by nonce) all)
+split : (nonce : List ℕ) (all : List Happening) → list_any (clashes nonce) all ≡ (list_any (delivered_by nonce) all || list_any (used_by nonce) all)
 split nonce [] = refl
-split nonce (came octets ∷ rest) = ap (λ (b : Bool). stands_in (front nonce) octets || b) (split nonce rest) ∙ or_first (stands_in (front nonce) octets) _ _
+split nonce (came octets ∷ rest) = ap (λ (b : Bool). occurs_in (front nonce) octets || b) (split nonce rest) ∙ or_first (occurs_in (front nonce) octets) _ _
 split nonce (began other ∷ rest) =
     ap (λ (b : Bool). bytes_eq (front other) (front nonce) || b) (split nonce rest) ∙ or_second (bytes_eq (front other) (front nonce)) _ _
 
@@ -116,34 +116,34 @@ is_good_all before (h ∷ rest) each =
 
 -- ---- what the world keeps of it
 
-record Tells (t : Conversations) (all : List Happening) : Type 0 where
-  pub peer : (one : Waiting) → IsLeft one t.peer_left → one.heard ≡ list_any (heard_by one.nonce) all
-  pub server : (one : Waiting) → IsLeft one t.server_left → one.heard ≡ list_any (heard_by one.nonce) all
+record IsResult (t : Conversations) (all : List Happening) : Type 0 where
+  pub peer : (one : Waiting) → IsLeft one t.peer_left → one.heard ≡ list_any (delivered_by one.nonce) all
+  pub server : (one : Waiting) → IsLeft one t.server_left → one.heard ≡ list_any (delivered_by one.nonce) all
   pub used : (nonce : List ℕ) → is_used t.begun nonce ≡ list_any (used_by nonce) all
   pub fresh : t.fresh ≡ all_good [] all
 
-more_heard : (octets : List ℕ) (all : List Happening) (nonce : List ℕ) (b : Bool) → b ≡ list_any (heard_by nonce) all
-    → (b || stands_in (front nonce) octets) ≡ list_any (heard_by nonce) (all ++ came octets ∷ [])
-more_heard octets all nonce b e =
-    ap (λ (x : Bool). x || stands_in (front nonce) octets) e
-    ∙ (ap (λ (x : Bool). list_any (heard_by nonce) all || x) (sym (or_none (stands_in (front nonce) octets)))
-    ∙ sym (list_any-append (heard_by nonce) all (came octets ∷ [])))
+more_received : (octets : List ℕ) (all : List Happening) (nonce : List ℕ) (b : Bool) → b ≡ list_any (delivered_by nonce) all
+    → (b || occurs_in (front nonce) octets) ≡ list_any (delivered_by nonce) (all ++ came octets ∷ [])
+more_received octets all nonce b e =
+    ap (λ (x : Bool). x || occurs_in (front nonce) octets) e
+    ∙ (ap (λ (x : Bool). list_any (delivered_by nonce) all || x) (sym (or_none (occurs_in (front nonce) octets)))
+    ∙ sym (list_any-append (delivered_by nonce) all (came octets ∷ [])))
 
-left_heard : (octets : List ℕ) (left : List Waiting) (all : List Happening) → ((one : Waiting) → IsLeft one left → one.heard ≡ list_any (heard_by one.nonce) all)
-    → (one : Waiting) → IsLeft one (map (hears octets) left) → one.heard ≡ list_any (heard_by one.nonce) (all ++ came octets ∷ [])
-left_heard octets left all each one is =
+left_received : (octets : List ℕ) (left : List Waiting) (all : List Happening) → ((one : Waiting) → IsLeft one left → one.heard ≡ list_any (delivered_by one.nonce) all)
+    → (one : Waiting) → IsLeft one (map (hears octets) left) → one.heard ≡ list_any (delivered_by one.nonce) (all ++ came octets ∷ [])
+left_received octets left all each one is =
     let w = was_left octets left one is in
-    subst (λ (x : Waiting). x.heard ≡ list_any (heard_by x.nonce) (all ++ came octets ∷ [])) (sym w.is)
-    (more_heard octets all w.before.nonce w.before.heard (each w.before w.is_left))
+    subst (λ (x : Waiting). x.heard ≡ list_any (delivered_by x.nonce) (all ++ came octets ∷ [])) (sym w.is)
+    (more_received octets all w.before.nonce w.before.heard (each w.before w.is_left))
 
 none_more : (P : Happening → Bool) (all : List Happening) (h : Happening) → P h ≡ false → list_any P all ≡ list_any P (all ++ h ∷ [])
 none_more P all h e =
     sym (or_none (list_any P all)) ∙ (ap (λ (b : Bool). list_any P all || (b || false)) (sym e) ∙ sym (list_any-append P all (h ∷ [])))
 
-tells_came : (t : Conversations) (all : List Happening) (octets : List ℕ) → Tells t all → Tells (heard_in t (Some octets)) (all ++ came octets ∷ [])
-tells_came t all octets w = record {
-  peer = left_heard octets t.peer_left all w.peer;
-  server = left_heard octets t.server_left all w.server;
+implies_arrived : (t : Conversations) (all : List Happening) (octets : List ℕ) → IsResult t all → IsResult (delivered_in_call t (Some octets)) (all ++ came octets ∷ [])
+implies_arrived t all octets w = record {
+  peer = left_received octets t.peer_left all w.peer;
+  server = left_received octets t.server_left all w.server;
   used = λ nonce. w.used nonce ∙ none_more (used_by nonce) all (came octets) refl;
   fresh = w.fresh ∙ (and_all (all_good [] all) ∙ sym (one_more_good [] all (came octets)));
 }
@@ -153,32 +153,32 @@ not_either true b = refl
 not_either false b = refl
 
 -- a nonce is new where it clashes with nothing so far
-new_told : (t : Conversations) (all : List Happening) (one : Waiting) → one.heard ≡ list_any (heard_by one.nonce) all
+new_reported : (t : Conversations) (all : List Happening) (one : Waiting) → one.heard ≡ list_any (delivered_by one.nonce) all
     → is_used t.begun one.nonce ≡ list_any (used_by one.nonce) all
     → is_new t.begun one ≡ not (list_any (clashes one.nonce) all)
-new_told t all one heard used = rw (heard, used) (not_either _ _ ∙ ap not (sym (split one.nonce all)))
+new_reported t all one heard used = rw (heard, used) (not_either _ _ ∙ ap not (sym (split one.nonce all)))
 
-more_used : (all : List Happening) (begun_so : List Begun) (event : ℕ) (of : End) (one nonce : List ℕ) → is_used begun_so nonce ≡ list_any (used_by nonce) all
+more_used : (all : List Happening) (begun_so : List ConversationStart) (event : ℕ) (of : End) (one nonce : List ℕ) → is_used begun_so nonce ≡ list_any (used_by nonce) all
     → is_used (begun_so ++ beginning event of one ∷ []) nonce ≡ list_any (used_by nonce) (all ++ began one ∷ [])
 more_used all begun_so event of one nonce e =
-    list_any-append (λ (b : Begun). bytes_eq (front b.nonce) (front nonce)) begun_so (beginning event of one ∷ [])
+    list_any-append (λ (b : ConversationStart). bytes_eq (front b.nonce) (front nonce)) begun_so (beginning event of one ∷ [])
     ∙ (ap (λ (b : Bool). b || (bytes_eq (front one) (front nonce) || false)) e ∙ sym (list_any-append (used_by nonce) all (began one ∷ [])))
 
-more_fresh : (t : Conversations) (all : List Happening) (one : Waiting) → Tells t all → one.heard ≡ list_any (heard_by one.nonce) all
+more_fresh : (t : Conversations) (all : List Happening) (one : Waiting) → IsResult t all → one.heard ≡ list_any (delivered_by one.nonce) all
     → (t.fresh && is_new t.begun one) ≡ all_good [] (all ++ began one.nonce ∷ [])
 more_fresh t all one w heard =
     ap (λ (b : Bool). b && is_new t.begun one) w.fresh
-    ∙ (ap (λ (b : Bool). all_good [] all && b) (new_told t all one heard (w.used one.nonce)) ∙ sym (one_more_good [] all (began one.nonce)))
+    ∙ (ap (λ (b : Bool). all_good [] all && b) (new_reported t all one heard (w.used one.nonce)) ∙ sym (one_more_good [] all (began one.nonce)))
 
-fewer : (nonce : List ℕ) (all : List Happening) (one : Waiting) → one.heard ≡ list_any (heard_by one.nonce) all
-    → one.heard ≡ list_any (heard_by one.nonce) (all ++ began nonce ∷ [])
-fewer nonce all one e = e ∙ none_more (heard_by one.nonce) all (began nonce) refl
+fewer : (nonce : List ℕ) (all : List Happening) (one : Waiting) → one.heard ≡ list_any (delivered_by one.nonce) all
+    → one.heard ≡ list_any (delivered_by one.nonce) (all ++ began nonce ∷ [])
+fewer nonce all one e = e ∙ none_more (delivered_by one.nonce) all (began nonce) refl
 
-peer_anew : (t : Conversations) (all : List Happening) (event : ℕ) (one : Waiting) (left : List Waiting) → t.peer_left ≡ one ∷ left → Tells t all
-    → Tells (begins event end.Peer one (record t { peer_left = left })) (all ++ began one.nonce ∷ [])
+peer_anew : (t : Conversations) (all : List Happening) (event : ℕ) (one : Waiting) (left : List Waiting) → t.peer_left ≡ one ∷ left → IsResult t all
+    → IsResult (begins event end.Peer one (record t { peer_left = left })) (all ++ began one.nonce ∷ [])
 peer_anew t all event one left e w =
-    let of_peer : (x : Waiting) → IsLeft x (one ∷ left) → x.heard ≡ list_any (heard_by x.nonce) all =
-    subst (λ (l : List Waiting). (x : Waiting) → IsLeft x l → x.heard ≡ list_any (heard_by x.nonce) all) e w.peer in
+    let of_peer : (x : Waiting) → IsLeft x (one ∷ left) → x.heard ≡ list_any (delivered_by x.nonce) all =
+    subst (λ (l : List Waiting). (x : Waiting) → IsLeft x l → x.heard ≡ list_any (delivered_by x.nonce) all) e w.peer in
     record {
       peer = λ x is. fewer one.nonce all x (of_peer x (behind one left is));
       server = λ x is. fewer one.nonce all x (w.server x is);
@@ -186,11 +186,11 @@ peer_anew t all event one left e w =
       fresh = more_fresh t all one w (of_peer one (first left));
     }
 
-server_anew : (t : Conversations) (all : List Happening) (event : ℕ) (one : Waiting) (left : List Waiting) → t.server_left ≡ one ∷ left → Tells t all
-    → Tells (begins event end.Server one (record t { server_left = left })) (all ++ began one.nonce ∷ [])
+server_anew : (t : Conversations) (all : List Happening) (event : ℕ) (one : Waiting) (left : List Waiting) → t.server_left ≡ one ∷ left → IsResult t all
+    → IsResult (begins event end.Server one (record t { server_left = left })) (all ++ began one.nonce ∷ [])
 server_anew t all event one left e w =
-    let of_server : (x : Waiting) → IsLeft x (one ∷ left) → x.heard ≡ list_any (heard_by x.nonce) all =
-    subst (λ (l : List Waiting). (x : Waiting) → IsLeft x l → x.heard ≡ list_any (heard_by x.nonce) all) e w.server in
+    let of_server : (x : Waiting) → IsLeft x (one ∷ left) → x.heard ≡ list_any (delivered_by x.nonce) all =
+    subst (λ (l : List Waiting). (x : Waiting) → IsLeft x l → x.heard ≡ list_any (delivered_by x.nonce) all) e w.server in
     record {
       peer = λ x is. fewer one.nonce all x (w.peer x is);
       server = λ x is. fewer one.nonce all x (of_server x (behind one left is));
@@ -198,49 +198,49 @@ server_anew t all event one left e w =
       fresh = more_fresh t all one w (of_server one (first left));
     }
 
-tells_octets : (t : Conversations) (all : List Happening) (octets : Option (List ℕ)) → Tells t all → Tells (heard_in t octets) (all ++ came_of octets)
-tells_octets t all None w = rw (append-nil all) w
-tells_octets t all (Some octets) w = tells_came t all octets w
+implies_octets : (t : Conversations) (all : List Happening) (octets : Option (List ℕ)) → IsResult t all → IsResult (delivered_in_call t octets) (all ++ received_of octets)
+implies_octets t all None w = rw (append-nil all) w
+implies_octets t all (Some octets) w = implies_arrived t all octets w
 
 -- a call that goes on
-tells_on : (event : ℕ) (t : Conversations) (all : List Happening) (call : Call) → begins_anew call ≡ false → Tells t all
-    → Tells (conversations_after event t call) (all ++ happens_at call)
-tells_on event t all (to_peer (peer_inputs.octets octets)) same w = tells_came t all octets w
-tells_on event t all (to_peer peer_inputs.idle) same w = tells_octets t all None w
-tells_on event t all (to_peer peer_inputs.alt_accept) same w = tells_octets t all None w
-tells_on event t all (to_peer peer_inputs.alt_reject) same w = tells_octets t all None w
-tells_on event t all (to_peer (peer_inputs.restart nonce)) same w = absurd cc
-tells_on event t all (to_server server_inputs.start) same w = tells_octets t all None w
-tells_on event t all (to_server server_inputs.timeout) same w = tells_octets t all None w
-tells_on event t all (to_server (server_inputs.octets octets)) same w = tells_came t all octets w
-tells_on event t all (to_server (server_inputs.restart nonce)) same w = absurd cc
-tells_on event t all (to_pass input) same w = tells_octets t all (call_octets (to_pass input)) w
+implies_on : (event : ℕ) (t : Conversations) (all : List Happening) (call : Call) → starts_anew call ≡ false → IsResult t all
+    → IsResult (conversations_after event t call) (all ++ happens_at call)
+implies_on event t all (to_peer (peer_inputs.octets octets)) same w = implies_arrived t all octets w
+implies_on event t all (to_peer peer_inputs.idle) same w = implies_octets t all None w
+implies_on event t all (to_peer peer_inputs.alt_accept) same w = implies_octets t all None w
+implies_on event t all (to_peer peer_inputs.alt_reject) same w = implies_octets t all None w
+implies_on event t all (to_peer (peer_inputs.restart nonce)) same w = absurd cc
+implies_on event t all (to_server server_inputs.start) same w = implies_octets t all None w
+implies_on event t all (to_server server_inputs.timeout) same w = implies_octets t all None w
+implies_on event t all (to_server (server_inputs.octets octets)) same w = implies_arrived t all octets w
+implies_on event t all (to_server (server_inputs.restart nonce)) same w = absurd cc
+implies_on event t all (to_pass input) same w = implies_octets t all (call_octets (to_pass input)) w
 
-tells_call : (event : ℕ) (t : Conversations) (all : List Happening) (call : Call) → IsNext t call → Tells t all
-    → Tells (conversations_after event t call) (all ++ happens_at call)
-tells_call event t all call (goes_on _ later same) w = tells_on event t all call same w
-tells_call event t all _ (peer_next one left next) w = rw next (peer_anew t all event one left next w)
-tells_call event t all _ (server_next one left next) w = rw next (server_anew t all event one left next w)
+implies_call : (event : ℕ) (t : Conversations) (all : List Happening) (call : Call) → IsNext t call → IsResult t all
+    → IsResult (conversations_after event t call) (all ++ happens_at call)
+implies_call event t all call (goes_on _ later same) w = implies_on event t all call same w
+implies_call event t all _ (peer_next one left next) w = rw next (peer_anew t all event one left next w)
+implies_call event t all _ (server_next one left next) w = rw next (server_anew t all event one left next w)
 
-tells_unless : (event : ℕ) (t : Conversations) (all : List Happening) (skip : Option Skip) (call : Option Call)
-    → ((one : Call) → call ≡ Some one → IsNext t one) → Tells t all → Tells (conversed_unless event t skip call) (all ++ happens_unless skip call)
-tells_unless event t all (Some skip) call next w = rw (append-nil all) w
-tells_unless event t all None None next w = rw (append-nil all) w
-tells_unless event t all None (Some call) next w = tells_call event t all call (next call refl) w
+implies_unless : (event : ℕ) (t : Conversations) (all : List Happening) (skip : Option Skip) (call : Option Call)
+    → ((one : Call) → call ≡ Some one → IsNext t one) → IsResult t all → IsResult (conversed_unless event t skip call) (all ++ happens_unless skip call)
+implies_unless event t all (Some skip) call next w = rw (append-nil all) w
+implies_unless event t all None None next w = rw (append-nil all) w
+implies_unless event t all None (Some call) next w = implies_call event t all call (next call refl) w
 
-step_tells : (w : WorldNow) (e : Event) (all : List Happening) → Tells w.conversations all → Tells (world_step w e).after.conversations (all ++ happens_in w e)
+step_implies : (w : WorldNow) (e : Event) (all : List Happening) → IsResult w.conversations all → IsResult (world_step w e).after.conversations (all ++ happens_in w e)
 unfolding conversed_by world_step
-step_tells w e all tells =
-    tells_unless (w.counts.events + 1) w.conversations all (first_skip (skip_table w.parties w.conversations w.sent e)) (call_of w.conversations w.sent e)
+step_implies w e all tells =
+    implies_unless (w.counts.events + 1) w.conversations all (first_skip (skip_table w.parties w.conversations w.sent e)) (call_of w.conversations w.sent e)
     (of_next w.conversations w.sent e) tells
 
-after_tells : (w : WorldNow) (events : List Event) (all : List Happening) → Tells w.conversations all
-    → Tells (run_after w events).conversations (all ++ history_after w events)
+after_implies : (w : WorldNow) (events : List Event) (all : List Happening) → IsResult w.conversations all
+    → IsResult (run_after w events).conversations (all ++ history_after w events)
 unfolding run_after history_after
-after_tells w [] all tells = rw (append-nil all) tells
-after_tells w (e ∷ rest) all tells =
-    subst (Tells (run_after (world_step w e).after rest).conversations) (append_assoc all (happens_in w e) (history_after (world_step w e).after rest))
-    (after_tells (world_step w e).after rest (all ++ happens_in w e) (step_tells w e all tells))
+after_implies w [] all tells = rw (append-nil all) tells
+after_implies w (e ∷ rest) all tells =
+    subst (IsResult (run_after (world_step w e).after rest).conversations) (append_assoc all (happens_in w e) (history_after (world_step w e).after rest))
+    (after_implies (world_step w e).after rest (all ++ happens_in w e) (step_implies w e all tells))
 
 first_unheard : (nonce : List ℕ) (rest : List Waiting) (one : Waiting) (all : List Waiting) → IsLeft one all → all ≡ waiting nonce ∷ rest
     → (IsLeft one rest → one.heard ≡ false) → one.heard ≡ false
@@ -255,18 +255,18 @@ start_fresh : (b : Bool) → not b ≡ (not (b || false) && true)
 start_fresh true = refl
 start_fresh false = refl
 
-start_tells : (setup : Setup) → Tells (world_start (world_made setup)).after.conversations (began setup.peer.nonce ∷ began setup.server.nonce ∷ [])
+start_implies : (setup : Setup) → IsResult (world_start (initial_world setup)).after.conversations (began setup.peer.nonce ∷ began setup.server.nonce ∷ [])
 unfolding all_good world_start
-start_tells setup = record {
+start_implies setup = record {
   peer = unheard setup.later.peer;
   server = unheard setup.later.server;
   used = λ nonce. refl;
   fresh = start_fresh (bytes_eq (front setup.peer.nonce) (front setup.server.nonce));
 }
 
-pub fresh_is_told : FreshIsTold
-fresh_is_told setup events =
-    let w = after_tells (world_start (world_made setup)).after events _ (start_tells setup) in (
+pub freshness_is_exact : FreshnessIsExact
+freshness_is_exact setup events =
+    let w = after_implies (world_start (initial_world setup)).after events _ (start_implies setup) in (
       λ fresh. record { each = good_is [] (history_of setup events) (sym w.fresh ∙ fresh) },
       λ is. w.fresh ∙ is_good_all [] (history_of setup events) is.each,
     )

@@ -22,14 +22,14 @@ use Rattle.server_machine.specs.ServerTable.{ServerNow, current_report, server_r
 use Rattle.eap_world.specs.Judgement.{agreement_of, peer_agrees, server_agrees, is_welcome}
 use Rattle.eap_world.specs.World.{WorldNow}
 use Rattle.world_laws.specs.Agreement.{AreTheirs}
-use Rattle.world_laws.specs.GpskLogins.{TakesFirstSuite}
-use Rattle.world_laws.specs.GpskPeerStands.{GpskBegun, gpsk2_record}
-use Rattle.world_laws.specs.GpskServerStands.{GpskChecked, gpsk2_taken}
+use Rattle.world_laws.specs.GpskLogins.{PicksFirstSuite}
+use Rattle.world_laws.specs.GpskPeerInvariant.{GpskStarted, gpsk2_record}
+use Rattle.world_laws.specs.GpskServerInvariant.{GpskChecked, gpsk2_of_login}
 use Rattle.world_laws.specs.Records.{IsIn}
 use Rattle.world_laws.proofs.Among.{among_one, among_two}
 use Rattle.world_laws.proofs.EqualReports.{reports_agree}
 use Rattle.world_laws.proofs.Fields.{fronts, sized_fronts, suite_fronts}
-use Rattle.world_laws.proofs.Leads.{own_key, own_name}
+use Rattle.world_laws.proofs.Results.{own_key, own_name}
 
 -- both ends speak of the same login
 pub record IsSame (p : peer.Login) (list : List ℕ) (s : server.Login) : Type 0 where
@@ -43,7 +43,7 @@ pub record IsSame (p : peer.Login) (list : List ℕ) (s : server.Login) : Type 0
 
 -- equal octets before the MACs of two GPSK-2
 pub covers_same : (p : peer.Login) (s : server.Login) (list pd : List ℕ) → length p.nonce ≡ 32 → length s.rand_p ≡ 32 → length p.rand_s ≡ 32 → length s.nonce ≡ 32
-    → p.cred.psk ≡ s.psk → covered_of (gpsk2_taken s pd) ≡ covered_of (peer.gpsk2_of p list) → IsSame p list s
+    → p.cred.psk ≡ s.psk → covered_of (gpsk2_of_login s pd) ≡ covered_of (peer.gpsk2_of p list) → IsSame p list s
 unfolding covered_of
 covers_same p s list pd size_1 size_2 size_3 size_4 psk e =
     let t0 = sized_fronts p.cred.id_p _ s.id_p _ (sym e) in
@@ -59,7 +59,7 @@ longer first second rest e =
     let sizes : length {A = ℕ} [] ≡ length (first ++ (field_with_length second ++ rest)) = ap length e in
     absurd (omega (arith, length-append first (field_with_length second ++ rest)))
 
-not_gpsk4 : (p : peer.Login) (s : server.Login) (pd : List ℕ) → covered_of (gpsk2_taken s pd) ≡ covered_of (peer.gpsk4_of p) → ⊥
+not_gpsk4 : (p : peer.Login) (s : server.Login) (pd : List ℕ) → covered_of (gpsk2_of_login s pd) ≡ covered_of (peer.gpsk4_of p) → ⊥
 unfolding covered_of
 not_gpsk4 p s pd e =
     let rest : s.id_p ++ (field_with_length s.own.id_s ++ (s.rand_p ++ (s.nonce ++ (field_with_length (suite_list s.own.suites) ++ (suite_octets s.suite ++ field_with_length pd))))) ≡ [] = cc in
@@ -87,7 +87,7 @@ covers_more id_p id_s rand_p rand_s list suite pd e =
     ))
 
 -- the GPSK-2 that the server accepted isn't the GPSK-3 that it made itself
-pub not_own : (s : server.Login) (pd : List ℕ) → IsIn (sk_record s.psk (gpsk2_taken s pd)) (sk_record s.psk (server.gpsk3_of s) ∷ []) → ⊥
+pub not_own : (s : server.Login) (pd : List ℕ) → IsIn (sk_record s.psk (gpsk2_of_login s pd)) (sk_record s.psk (server.gpsk3_of s) ∷ []) → ⊥
 unfolding covered_of
 not_own s pd is_in =
     covers_more s.id_p s.own.id_s s.rand_p s.nonce (suite_list s.own.suites) (suite_octets s.suite) pd
@@ -97,7 +97,7 @@ pub same_reports : (p : peer.Login) (list : List ℕ) (s : server.Login) → IsS
 unfolding peer.report_of server.report_of peer.keys_of server.keys_of
 same_reports p list s same = rw (same.psk, same.id_p, same.id_s, same.rand_p, same.rand_s, same.suite) refl
 
-module _ (setup : PeerSetup) (login : peer.Login) (list : List ℕ) (facts : GpskBegun setup login list) where
+module _ (setup : PeerSetup) (login : peer.Login) (list : List ℕ) (facts : GpskStarted setup login list) where
   by_peer : peer_agrees setup (peer.report_of login) ≡ true
   unfolding peer.report_of
   by_peer = and_from _ _ facts.allowed (and_from _ _ facts.accepted (picked_is_allowed setup.suites list login.suite facts.picked))
@@ -115,11 +115,11 @@ module _ (setup : ServerSetup) (login : server.Login) (facts : GpskChecked setup
   unfolding server_report_of
   server_reported now is_current in_view = ap (current_report now.views) is_current ∙ ap gpsk_report in_view
 
-module _ (peer_setup : PeerSetup) (server_setup : ServerSetup) (p : peer.Login) (list : List ℕ) (begun : GpskBegun peer_setup p list)
+module _ (peer_setup : PeerSetup) (server_setup : ServerSetup) (p : peer.Login) (list : List ℕ) (begun : GpskStarted peer_setup p list)
     (s : server.Login) (pd : List ℕ) (checked : GpskChecked server_setup s false)
     (peer_nonce : length peer_setup.nonce ≡ 32) (server_nonce : length server_setup.nonce ≡ 32) where
   -- the GPSK-2 that the server accepted is one that the peer made
-  pub same_login : IsIn (sk_record s.psk (gpsk2_taken s pd)) (gpsk2_record p list ∷ sk_record p.cred.psk (peer.gpsk4_of p) ∷ []) → IsSame p list s
+  pub same_login : IsIn (sk_record s.psk (gpsk2_of_login s pd)) (gpsk2_record p list ∷ sk_record p.cred.psk (peer.gpsk4_of p) ∷ []) → IsSame p list s
   same_login is_in =
       elim (among_two _ _ _ is_in) [
         | inl first ↦ covers_same p s list pd
@@ -139,7 +139,7 @@ module _ (peer_setup : PeerSetup) (server_setup : ServerSetup) (p : peer.Login) 
       rw (peer_reported peer_setup p list begun now is_selected in_view, server_reported server_setup s checked other is_current in_other) agreed
 
 -- what both report is their own: names, key and suite
-module _ (setup : Setup) (w : WorldNow) (login : peer.Login) (list : List ℕ) (facts : GpskBegun setup.peer login list)
+module _ (setup : Setup) (w : WorldNow) (login : peer.Login) (list : List ℕ) (facts : GpskStarted setup.peer login list)
     (other : server.Login) (pd : List ℕ) (checked : GpskChecked setup.server other false) (same : IsSame login list other) where
   server_name : login.id_s ≡ setup.server.name
   unfolding side_of
@@ -150,7 +150,7 @@ module _ (setup : Setup) (w : WorldNow) (login : peer.Login) (list : List ℕ) (
   unfolding side_of
   own_list = same.offered ∙ ap (λ own. suite_list own.suites) checked.own
 
-  gpsk_suite : TakesFirstSuite setup (peer.report_of login)
+  gpsk_suite : PicksFirstSuite setup (peer.report_of login)
   unfolding peer.report_of
   gpsk_suite = record {
     suite = login.suite;

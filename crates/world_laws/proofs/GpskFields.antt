@@ -5,7 +5,7 @@ use Rattle.std.proofs.lemmas.Option.{cond_some, same_Some}
 use Rattle.gpsk_messages.specs.Message.{Message, gpsk1, gpsk2, gpsk3, gpsk4, fail, protected_fail, list_of}
 use Rattle.eap_packet.specs.declared.cause.Cause.{Cause}
 use Rattle.eap_packet.specs.declared.cause.Cause.TheVariants.{ListTooLong}
-use Rattle.gpsk_messages.specs.Reading.{exact_at, gpsk1_at, gpsk2_at, gpsk3_at, gpsk4_at, fail_at, protected_fail_at, fields_at, with_mac, takes_mac, loose_of, outcome_of, read_of}
+use Rattle.gpsk_messages.specs.Reading.{exact_at, gpsk1_at, gpsk2_at, gpsk3_at, gpsk4_at, fail_at, protected_fail_at, fields_at, with_mac, accepts_mac, loose_of, outcome_of, read_of}
 use Rattle.gpsk_messages.proofs.FieldLaws.{step_of}
 
 exact_size : (count : ℕ) (octets : List ℕ) (x : List ℕ × List ℕ) → exact_at count octets ≡ Some x → length x.0 ≡ count
@@ -107,7 +107,7 @@ unfolding loose_of
 loose_rands ks [] message e = absurd cc
 loose_rands ks (op ∷ octets) message e =
     let fields = step_of _ _ _ e in
-    let g = cond_some {A = Message} (takes_mac ks fields.0.0 (length fields.0.1)) (with_mac fields.0.0 fields.0.1) message fields.2 in
+    let g = cond_some {A = Message} (accepts_mac ks fields.0.0 (length fields.0.1)) (with_mac fields.0.0 fields.0.1) message fields.2 in
     subst HasRands g.1 (with_mac_rands fields.0.0 fields.0.1 (fields_rands op octets fields.0 fields.1))
 
 pub judged_loose : (loose : Option Message) (message : Message) → outcome_of loose ≡ Ok message → loose ≡ Some message

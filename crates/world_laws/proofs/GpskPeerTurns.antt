@@ -16,27 +16,27 @@ use Rattle.eap_method.specs.GpskTags.{sk_record}
 use Rattle.eap_method.specs.Peer.{credential_for}
 use Rattle.eap_method.specs.Turns.{PeerOutcome, body_of}
 use Rattle.method_laws.specs.GpskPeerRows as gpsk_row
-use Rattle.world_laws.specs.GpskPeerStands.{GpskPeerTags, gpsk_unset, gpsk_fresh, gpsk_waits, gpsk_confirmed, gpsk_failed, gpsk_barred, gpsk2_record, gpsk3_taken, gpsk_rand_s}
+use Rattle.world_laws.specs.GpskPeerInvariant.{GpskPeerTags, gpsk_unset, gpsk_fresh, gpsk_waits, gpsk_confirmed, gpsk_failed, gpsk_barred, gpsk2_record, gpsk3_of_login, gpsk_rand_s}
 use Rattle.world_laws.specs.Records.{AreFew, IsIn}
 use Rattle.world_laws.specs.SingleSteps.{identifier_of}
 use Rattle.world_laws.proofs.Among.{among_one, among_two}
 use Rattle.world_laws.proofs.GpskFields.{read_rands}
-use Rattle.world_laws.proofs.GpskNonces.{read_stands}
-use Rattle.world_laws.proofs.Hearing.{Hears, as_before, hears_now}
+use Rattle.world_laws.proofs.GpskNonces.{read_occurs}
+use Rattle.world_laws.proofs.Receiving.{Receives, as_before, receives_now}
 use Rattle.world_laws.proofs.PeerTurns.{Answers, Turned, discards_none, drops, replies, replies_one}
-use Rattle.world_laws.proofs.StandsIn.{front_within}
+use Rattle.world_laws.proofs.Occurrence.{front_within}
 
 -- ---- the nonce
 
 module _ (octets : List ℕ) where
-  pub gpsk_heard : (view : gpsk.View) (out : PeerOutcome gpsk.View) → gpsk_row.GpskPeerRow view octets out
-      → Hears (Some (body_of octets)) (gpsk_rand_s view) (gpsk_rand_s out.after)
-  gpsk_heard view _ (gpsk_row.drops c) = as_before refl
-  gpsk_heard view _ (gpsk_row.answers cred nonce id_s rand_s list suite in_view is_read is_accepted picked) =
-      hears_now (body_of octets) _ refl refl (front_within 16 rand_s (body_of octets) (read_stands _ (body_of octets) _ is_read))
-  gpsk_heard view _ (gpsk_row.confirms login _ _ _ _ _ _ in_view _ _ _ _ _ _ _ _) = as_before (sym (ap gpsk_rand_s in_view))
-  gpsk_heard view _ (gpsk_row.repeats_fail login _ in_view _) = as_before (sym (ap gpsk_rand_s in_view))
-  gpsk_heard view _ (gpsk_row.repeats_protected login _ _ in_view _ _ _) = as_before (sym (ap gpsk_rand_s in_view))
+  pub gpsk_from_sender : (view : gpsk.View) (out : PeerOutcome gpsk.View) → gpsk_row.GpskPeerRow view octets out
+      → Receives (Some (body_of octets)) (gpsk_rand_s view) (gpsk_rand_s out.after)
+  gpsk_from_sender view _ (gpsk_row.drops c) = as_before refl
+  gpsk_from_sender view _ (gpsk_row.answers cred nonce id_s rand_s list suite in_view is_read is_accepted picked) =
+      receives_now (body_of octets) _ refl refl (front_within 16 rand_s (body_of octets) (read_occurs _ (body_of octets) _ is_read))
+  gpsk_from_sender view _ (gpsk_row.confirms login _ _ _ _ _ _ in_view _ _ _ _ _ _ _ _) = as_before (sym (ap gpsk_rand_s in_view))
+  gpsk_from_sender view _ (gpsk_row.repeats_fail login _ in_view _) = as_before (sym (ap gpsk_rand_s in_view))
+  gpsk_from_sender view _ (gpsk_row.repeats_protected login _ _ in_view _ _ _) = as_before (sym (ap gpsk_rand_s in_view))
 
 -- a view that has made no tag holds none
 pub gpsk_none : (setup : PeerSetup) (view : gpsk.View) (accepted made : List TagRecord) → GpskPeerTags setup view accepted made → made ≡ [] → gpsk_rand_s view ≡ None
@@ -58,10 +58,10 @@ gpsk_responds view bytes _ (gpsk_row.repeats_protected _ _ _ _ _ _ _) = replies_
 
 -- ---- the tags
 
-pub gpsk_begun : (setup : PeerSetup) (allowed : Bool) → is_among setup.methods gpsk_kind ≡ allowed
+pub gpsk_started : (setup : PeerSetup) (allowed : Bool) → is_among setup.methods gpsk_kind ≡ allowed
     → GpskPeerTags setup (if allowed then gpsk.fresh (credential_for setup gpsk_kind) setup.nonce else gpsk.unset) [] []
-gpsk_begun setup true allowed = gpsk_fresh allowed
-gpsk_begun setup false allowed = gpsk_unset
+gpsk_started setup true allowed = gpsk_fresh allowed
+gpsk_started setup false allowed = gpsk_unset
 
 module _ (setup : PeerSetup) (accepted made : List TagRecord) where
   abbrev pub GpskTurned : PeerOutcome gpsk.View → Type 0
@@ -89,7 +89,7 @@ module _ (setup : PeerSetup) where
     unfolding covered_of
     gpsk_confirms pd mac message _ _ (gpsk_waits _ list facts) has_mac same =
         (let right = ap (λ (m : Message). gpsk_tag_of login.suite (gpsk.keys_of login).sk (covered_of m)) same ∙ has_mac in
-        let taken : gpsk3_taken login pd ≡ message = ap (λ (t : List ℕ). gpsk3 login.nonce login.rand_s login.id_s login.suite pd t) right ∙ same in
+        let taken : gpsk3_of_login login pd ≡ message = ap (λ (t : List ℕ). gpsk3 login.nonce login.rand_s login.id_s login.suite pd t) right ∙ same in
         subst (λ (m : Message). GpskPeerTags setup (gpsk.over login true) (sk_record login.cred.psk m ∷ [])
         (gpsk2_record login list ∷ sk_record login.cred.psk (gpsk.gpsk4_of login) ∷ []))
         taken (gpsk_confirmed login list pd facts))
@@ -117,7 +117,7 @@ module _ (setup : PeerSetup) where
         (gpsk_answers cred nonce id_s rand_s list _ suite accepted made (at_gpsk setup accepted made view _ in_view told)
         is_read is_accepted picked)
         (λ e. absurd (true≢false e))
-    gpsk_turned view _ told (gpsk_row.confirms login rand_p rand_s id_s suite pd mac in_view _ _ own_nonce their_nonce their_name one_suite _ has_mac) =
+    gpsk_turned view _ told (gpsk_row.confirms login rand_p rand_s id_s suite pd mac in_view _ _ setup_with_nonce their_nonce their_name one_suite _ has_mac) =
         replies _ _ _ _ _
         (gpsk_confirms login pd mac (gpsk3 rand_p rand_s id_s suite pd mac) accepted made (at_gpsk setup accepted made view _ in_view told) has_mac cc)
         (λ _. (login, refl))
@@ -130,8 +130,8 @@ module _ (setup : PeerSetup) where
 
 -- at most two are accepted and at most two made
 pub gpsk_few : (setup : PeerSetup) (view : gpsk.View) (accepted made : List TagRecord) → GpskPeerTags setup view accepted made → AreFew accepted made
-gpsk_few setup _ _ _ gpsk_unset = record { few_accepted = omega arith; few_made = omega arith }
-gpsk_few setup _ _ _ told = record { few_accepted = omega arith; few_made = omega arith }
+gpsk_few setup _ _ _ gpsk_unset = record { few_accepted = omega arith; few_produced = omega arith }
+gpsk_few setup _ _ _ told = record { few_accepted = omega arith; few_produced = omega arith }
 
 -- each is of the method
 pub gpsk_method : (setup : PeerSetup) (view : gpsk.View) (accepted made : List TagRecord) (t : TagRecord) → GpskPeerTags setup view accepted made → IsIn t made

@@ -17,29 +17,29 @@ use Rattle.eap_method.specs.GpskTags.{sk_record, suite_list}
 use Rattle.eap_method.specs.Server.{side_of}
 use Rattle.eap_method.specs.Turns.{ServerOutcome, body_of}
 use Rattle.method_laws.specs.GpskServerRows as gpsk_row
-use Rattle.world_laws.specs.GpskServerStands.{GpskChecked, GpskServerTags, gpsk_asked, gpsk_refusing, gpsk_refused, gpsk_barring, gpsk_checked, gpsk_barred, gpsk_confirmed, gpsk2_taken, gpsk_rand_p}
+use Rattle.world_laws.specs.GpskServerInvariant.{GpskChecked, GpskServerTags, gpsk_asked, gpsk_refusing, gpsk_refused, gpsk_barring, gpsk_checked, gpsk_barred, gpsk_confirmed, gpsk2_of_login, gpsk_rand_p}
 use Rattle.world_laws.specs.Records.{AreFew, IsIn}
 use Rattle.world_laws.proofs.Among.{among_one}
 use Rattle.world_laws.proofs.GpskFields.{read_rands}
-use Rattle.world_laws.proofs.GpskNonces.{read_stands}
-use Rattle.world_laws.proofs.Hearing.{Hears, as_before, hears_now}
+use Rattle.world_laws.proofs.GpskNonces.{read_occurs}
+use Rattle.world_laws.proofs.Receiving.{Receives, as_before, receives_now}
 use Rattle.world_laws.proofs.ServerTurns.{Asks, IsRequest, Turned, asks_no_more, asks_none, asks_one, drops, ends, request_is, requests}
-use Rattle.world_laws.proofs.StandsIn.{front_within}
+use Rattle.world_laws.proofs.Occurrence.{front_within}
 
 -- ---- the nonce
 
 module _ (users : List User) (next_id : ℕ) (octets : List ℕ) where
-  pub gpsk_heard : (view : gpsk.View) (out : ServerOutcome gpsk.View) → gpsk_row.GpskServerRow users next_id view octets out
-      → Hears (Some (body_of octets)) (gpsk_rand_p view) (gpsk_rand_p out.after)
-  gpsk_heard view _ (gpsk_row.drops c) = as_before refl
-  gpsk_heard view _ (gpsk_row.refuses own nonce _ _ _ _ _ _ _ _ in_view _ _ _ _ _ _ _) = as_before (sym (ap gpsk_rand_p in_view))
-  gpsk_heard view _ (gpsk_row.bars own nonce id_p _ rand_p _ _ suite pd mac user in_view is_read _ _ _ _ _ _ _ _ _) =
-      hears_now (body_of octets) _ refl refl (front_within 16 rand_p (body_of octets) (read_stands _ (body_of octets) _ is_read))
-  gpsk_heard view _ (gpsk_row.checks own nonce id_p _ rand_p _ _ suite pd mac user in_view is_read _ _ _ _ _ _ _ _ _) =
-      hears_now (body_of octets) _ refl refl (front_within 16 rand_p (body_of octets) (read_stands _ (body_of octets) _ is_read))
-  gpsk_heard view _ (gpsk_row.ends_refusing own nonce _ in_view _ _) = as_before (sym (ap gpsk_rand_p in_view))
-  gpsk_heard view _ (gpsk_row.ends_barring login _ _ in_view _ _ _ _) = as_before (sym (ap gpsk_rand_p in_view))
-  gpsk_heard view _ (gpsk_row.ends_checked login _ _ in_view _ _ _) = as_before (sym (ap gpsk_rand_p in_view))
+  pub gpsk_from_sender : (view : gpsk.View) (out : ServerOutcome gpsk.View) → gpsk_row.GpskServerRow users next_id view octets out
+      → Receives (Some (body_of octets)) (gpsk_rand_p view) (gpsk_rand_p out.after)
+  gpsk_from_sender view _ (gpsk_row.drops c) = as_before refl
+  gpsk_from_sender view _ (gpsk_row.refuses own nonce _ _ _ _ _ _ _ _ in_view _ _ _ _ _ _ _) = as_before (sym (ap gpsk_rand_p in_view))
+  gpsk_from_sender view _ (gpsk_row.bars own nonce id_p _ rand_p _ _ suite pd mac user in_view is_read _ _ _ _ _ _ _ _ _) =
+      receives_now (body_of octets) _ refl refl (front_within 16 rand_p (body_of octets) (read_occurs _ (body_of octets) _ is_read))
+  gpsk_from_sender view _ (gpsk_row.checks own nonce id_p _ rand_p _ _ suite pd mac user in_view is_read _ _ _ _ _ _ _ _ _) =
+      receives_now (body_of octets) _ refl refl (front_within 16 rand_p (body_of octets) (read_occurs _ (body_of octets) _ is_read))
+  gpsk_from_sender view _ (gpsk_row.ends_refusing own nonce _ in_view _ _) = as_before (sym (ap gpsk_rand_p in_view))
+  gpsk_from_sender view _ (gpsk_row.ends_barring login _ _ in_view _ _ _ _) = as_before (sym (ap gpsk_rand_p in_view))
+  gpsk_from_sender view _ (gpsk_row.ends_checked login _ _ in_view _ _ _) = as_before (sym (ap gpsk_rand_p in_view))
 
 -- a view that has accepted no tag holds none
 pub gpsk_none : (setup : ServerSetup) (view : gpsk.View) (accepted made : List TagRecord) → GpskServerTags setup view accepted made → accepted ≡ []
@@ -89,7 +89,7 @@ module _ (setup : ServerSetup) where
   -- a message with the MAC of its covered octets
   gpsk2_same : (login : gpsk.Login) (pd mac : List ℕ) (message : Message)
       → gpsk2 login.id_p login.own.id_s login.rand_p login.nonce (suite_list login.own.suites) login.suite pd mac ≡ message
-      → gpsk_tag_of login.suite (gpsk.keys_of login).sk (covered_of message) ≡ mac → gpsk2_taken login pd ≡ message
+      → gpsk_tag_of login.suite (gpsk.keys_of login).sk (covered_of message) ≡ mac → gpsk2_of_login login pd ≡ message
   unfolding covered_of
   gpsk2_same login pd mac message same has_mac =
       ap (λ (t : List ℕ). gpsk2 login.id_p login.own.id_s login.rand_p login.nonce (suite_list login.own.suites) login.suite pd t)
@@ -150,7 +150,7 @@ module _ (setup : ServerSetup) where
         let right = ap (λ (m : Message). gpsk_tag_of login.suite (gpsk.keys_of login).sk (covered_of m)) same ∙ has_mac in
         let taken : gpsk.bars_with login ≡ protected_fail code mac = ap (λ (t : List ℕ). protected_fail gpsk.authorization_failure t) right ∙ same in
         subst (λ (m : Message). GpskServerTags setup (gpsk.over login false)
-        (sk_record login.psk (gpsk2_taken login pd) ∷ sk_record login.psk m ∷ []) (sk_record login.psk (gpsk.bars_with login) ∷ []))
+        (sk_record login.psk (gpsk2_of_login login pd) ∷ sk_record login.psk m ∷ []) (sk_record login.psk (gpsk.bars_with login) ∷ []))
         taken (gpsk_barred login pd facts))
 
     gpsk_ends_well : (last_pd mac : List ℕ) (accepted made : List TagRecord) → GpskServerTags setup (gpsk.checked login) accepted made
@@ -159,7 +159,7 @@ module _ (setup : ServerSetup) where
     unfolding covered_of
     gpsk_ends_well last_pd mac _ _ (gpsk_checked _ pd facts) has_mac =
         subst (λ (t : List ℕ). GpskServerTags setup (gpsk.over login true)
-        (sk_record login.psk (gpsk2_taken login pd) ∷ sk_record login.psk (gpsk4 last_pd t) ∷ []) (sk_record login.psk (gpsk.gpsk3_of login) ∷ []))
+        (sk_record login.psk (gpsk2_of_login login pd) ∷ sk_record login.psk (gpsk4 last_pd t) ∷ []) (sk_record login.psk (gpsk.gpsk3_of login) ∷ []))
         has_mac (gpsk_confirmed login pd last_pd facts)
 
   module _ (next_id : ℕ) (octets : List ℕ) (accepted made : List TagRecord) where
@@ -169,12 +169,12 @@ module _ (setup : ServerSetup) where
     gpsk_turned view _ told (gpsk_row.refuses own nonce _ _ _ _ _ _ _ _ in_view _ _ _ _ _ _ _) =
         requests _ _ _ (gpsk_refuses own nonce accepted made (at_gpsk setup accepted made view _ in_view told))
     gpsk_turned view _ told (gpsk_row.bars own nonce id_p _ rand_p _ _ suite pd mac user in_view is_read _
-        own_name own_nonce own_list offered known barred _ has_mac) =
+        own_name setup_with_nonce own_list offered known barred _ has_mac) =
         requests _ _ _
         (gpsk_bars id_p rand_p pd mac _ suite user known _ own nonce accepted made (at_gpsk setup accepted made view _ in_view told)
         (record { same = cc; has_mac = has_mac; is_read = is_read; offered = offered }) barred)
     gpsk_turned view _ told (gpsk_row.checks own nonce id_p _ rand_p _ _ suite pd mac user in_view is_read _
-        own_name own_nonce own_list offered known welcome _ has_mac) =
+        own_name setup_with_nonce own_list offered known welcome _ has_mac) =
         requests _ _ _
         (gpsk_checks id_p rand_p pd mac _ suite user known _ own nonce accepted made (at_gpsk setup accepted made view _ in_view told)
         (record { same = cc; has_mac = has_mac; is_read = is_read; offered = offered }) welcome)
@@ -190,8 +190,8 @@ module _ (setup : ServerSetup) where
 
 -- at most two are accepted and at most two made
 pub gpsk_few : (setup : ServerSetup) (view : gpsk.View) (accepted made : List TagRecord) → GpskServerTags setup view accepted made → AreFew accepted made
-gpsk_few setup _ _ _ gpsk_refused = record { few_accepted = omega arith; few_made = omega arith }
-gpsk_few setup _ _ _ told = record { few_accepted = omega arith; few_made = omega arith }
+gpsk_few setup _ _ _ gpsk_refused = record { few_accepted = omega arith; few_produced = omega arith }
+gpsk_few setup _ _ _ told = record { few_accepted = omega arith; few_produced = omega arith }
 
 -- each is of the method
 pub gpsk_method : (setup : ServerSetup) (view : gpsk.View) (accepted made : List TagRecord) (t : TagRecord) → GpskServerTags setup view accepted made → IsIn t made

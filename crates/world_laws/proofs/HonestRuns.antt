@@ -5,7 +5,7 @@ use Rattle.std.specs.Prelude.{if◌then◌else◌, ◌&&◌}
 use Rattle.login_setup.specs.declared.event.Event.{Event}
 use Rattle.login_setup.specs.declared.setup.Setup.{Setup}
 use Rattle.tag_book.specs.Book.{first_broken, tags_verdict, tags_verdict_either}
-use Rattle.tag_book.specs.declared.book.Makers.TheVariants.{Either}
+use Rattle.tag_book.specs.declared.book.MadeBy.TheVariants.{Either}
 use Rattle.tag_book.specs.declared.book.TagsVerdict.TheVariants.{Honest}
 use Rattle.eap_world.specs.Judgement.{verdict_of, is_success}
 use Rattle.eap_world.specs.declared.verdict.Verdict.{Verdict}
@@ -14,7 +14,7 @@ use Rattle.eap_world.specs.World.{WorldNow}
 use Rattle.tag_book.specs.declared.book.End.TheVariants as end
 use Rattle.eap_world.specs.Run.{run_of}
 use Rattle.world_laws.specs.Agreement.{AreApart, HonestEndsAgree, IsWhole}
-use Rattle.world_laws.proofs.EndsStand.{BothStandFirst, every_run_so_far, stand_first}
+use Rattle.world_laws.proofs.EndInvariants.{BothInvariantFirst, every_run_so_far, invariant_first}
 use Rattle.world_laws.proofs.FreshAgree.{fresh_ends_agree}
 use Rattle.world_laws.proofs.HonestOfEither.{honest_of_either, none_if_honest}
 use Rattle.world_laws.proofs.SucceedingEnds.{both_agree, ends_succeed}
@@ -25,15 +25,15 @@ agree_if : (one other same : Bool) → one ≡ true → other ≡ true → same 
 agree_if one other same a b c = rw (a, b, c) refl
 
 -- a world whose ends stand so, whose book is honest of either end and whose ends both succeed, agrees
-stand_agree : (setup : Setup) → IsWhole setup → (w : WorldNow) → BothStandFirst setup w.parties w.book
+invariant_agree : (setup : Setup) → IsWhole setup → (w : WorldNow) → BothInvariantFirst setup w.parties w.book
     → tags_verdict_either w.book ≡ Honest → is_success w.parties.peer.vars.state ≡ true → is_success w.parties.server.vars.state ≡ true → verdict_of w ≡ Agree
 unfolding verdict_of
-stand_agree setup whole w both honest p_in s_in =
+invariant_agree setup whole w both honest p_in s_in =
     let none = none_if_honest (first_broken Either [] w.book) honest in
-    let succeed = ends_succeed setup.peer setup.server w.parties.peer w.parties.server _ _ _ _ whole.peer_nonce whole.server_nonce both.peer_stands both.server_stands
+    let succeed = ends_succeed setup.peer setup.server w.parties.peer w.parties.server _ _ _ _ whole.peer_nonce whole.server_nonce both.peer_invariant both.server_invariant
     (honest_tags end.Peer w.book none) (honest_tags end.Server w.book none) p_in s_in in
     let same = both_agree setup.peer setup.server w.parties.peer w.parties.server whole.peer_nonce whole.server_nonce succeed in
-    agree_if (is_success w.parties.peer.vars.state) (is_success w.parties.server.vars.state) _ p_in s_in (rw (both.peer_stands.own, both.server_stands.own) same)
+    agree_if (is_success w.parties.peer.vars.state) (is_success w.parties.server.vars.state) _ p_in s_in (rw (both.peer_invariant.own, both.server_invariant.own) same)
 
 -- ---- the verdict
 
@@ -65,7 +65,7 @@ not_apart w agree apart = let both = both_in w Apart apart (λ e. cc e) in not_b
 module _ (setup : Setup) (events : List Event) (whole : IsWhole setup) where
   reflected_agrees : (let w = run_of setup events in tags_verdict_either w.book ≡ Honest → length w.conversations.begun ≡ 2
       → is_success w.parties.peer.vars.state ≡ true → is_success w.parties.server.vars.state ≡ true → verdict_of w ≡ Agree)
-  reflected_agrees honest two = stand_agree setup whole _ (stand_first setup _ (every_run_so_far setup events) two) honest
+  reflected_agrees honest two = invariant_agree setup whole _ (invariant_first setup _ (every_run_so_far setup events) two) honest
 
   honest_agrees : (let w = run_of setup events in tags_verdict w.book ≡ Honest → AreApart w.conversations
       → is_success w.parties.peer.vars.state ≡ true → is_success w.parties.server.vars.state ≡ true → verdict_of w ≡ Agree)

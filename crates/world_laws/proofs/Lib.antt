@@ -9,7 +9,7 @@ pub mod Asks
 -- An end asks so of the other by either method; and an end in SUCCESS has accepted a tag.
 pub mod AsksByMethod
 -- An end that has no later nonces never begins a second conversation.
-pub mod BeginsOnce
+pub mod StartsOnce
 -- The conversations of every run match, and the success of one end tells of the other.
 pub mod Conversations
 -- In every run the conversations of both ends are as told.
@@ -23,7 +23,7 @@ pub mod EachOf
 -- What each event does to the conversations of both ends: the present one goes on, or the next one begins.
 pub mod EachTurn
 -- In every run both ends stand as their views tell, in their present conversations.
-pub mod EndsStand
+pub mod EndInvariants
 -- Equal reports that both policies allow agree.
 pub mod EqualReports
 -- Every run sends few packets, and its book holds few tags.
@@ -43,17 +43,17 @@ pub mod GpskLogins
 -- The nonces of GPSK-1 and GPSK-2 stand in their octets.
 pub mod GpskNonces
 -- What a tag that the peer made by EAP-GPSK tells of the conversation in which it did: both nonces, whole.
-pub mod GpskPeerTells
+pub mod GpskPeerOwners
 -- Each turn of a peer's method EAP-GPSK: of what came it holds RAND_Server alone, it answers the Request, and its view tells the tags.
 pub mod GpskPeerTurns
 -- What a tag that the server made by EAP-GPSK tells of the conversation in which it did; and what each end asks by its first tag.
-pub mod GpskServerTells
+pub mod GpskServerOwners
 -- Each turn of a server's method EAP-GPSK: of what came it holds RAND_Peer alone, it asks with the next Identifier, and its view tells the tags.
 pub mod GpskServerTurns
 -- By EAP-GPSK two conversations of which one rests on the other hold the whole of each other's nonces.
 pub mod GpskWhole
 -- What an end holds of the other's nonce after a call: what it held before, or what came in it.
-pub mod Hearing
+pub mod Receiving
 -- A book that is honest by the other end's tags alone is honest by those of either end.
 pub mod HonestOfEither
 -- Over an honest book each tag that an end accepted is one that the other end made.
@@ -63,7 +63,7 @@ pub mod HonestRuns
 -- What each party sent last is the last packet to the port where its packets go.
 pub mod LastSent
 -- To what the login of a conversation leads, beside what the other end reports.
-pub mod Leads
+pub mod Results
 -- Each conversation in SUCCESS rests on one of the other end, and no two of an end on the same.
 pub mod Matching
 -- The nonces that an end has left, those with which conversations have begun, and which nonce is new.
@@ -83,9 +83,9 @@ pub mod PastConversations
 -- The peer by the method of a Type: what holds of the turns, the nonce and the tags of each method holds of a Type's.
 pub mod PeerByMethod
 -- What the peer hears of the server's nonce stands in what came.
-pub mod PeerHears
+pub mod PeerReceives
 -- Every input of the peer keeps what stands of it, but for the begin of a new conversation.
-pub mod PeerKeeps
+pub mod PeerPreserves
 -- What the peer sends: a Response to what came, new or as it was sent before.
 pub mod PeerSpeaks
 -- What is asked of a turn of a peer's method: each Response has the Identifier of the Request, and the view after it tells the tags.
@@ -105,13 +105,13 @@ pub mod PskMatching
 -- The nonces of PSK-1 and PSK-2 stand in their octets.
 pub mod PskNonces
 -- What a tag that the peer made by EAP-PSK tells of the conversation in which it did: both nonces.
-pub mod PskPeerTells
+pub mod PskPeerOwners
 -- Each turn of a peer's method EAP-PSK: of what came it holds RAND_S alone, it answers the Request, and its view tells the tags.
 pub mod PskPeerTurns
 -- No end takes its own tags for the other's, in whichever conversation it made them, where the peer succeeds by EAP-PSK.
 pub mod PskReflected
 -- What a tag that the server made by EAP-PSK tells of the conversation in which it did; and what each end asks by its first tag.
-pub mod PskServerTells
+pub mod PskServerOwners
 -- Each turn of a server's method EAP-PSK: of what came it holds RAND_P alone, it asks with the next Identifier, and its view tells the tags.
 pub mod PskServerTurns
 -- A tag that the server accepted and can't have made is the peer's.
@@ -121,9 +121,9 @@ pub mod Resting
 -- The server by the method of a Type: what holds of the turns, the offer, the nonce and the tags of each method holds of a Type's.
 pub mod ServerByMethod
 -- What the server hears of the peer's nonce stands in what came.
-pub mod ServerHears
+pub mod ServerAccepts
 -- Every input of the server after its start keeps what stands of it, but for the begin of a new conversation.
-pub mod ServerKeeps
+pub mod ServerPreserves
 -- What the server sends: a Request with the next Identifier, the last one again, or its end.
 pub mod ServerSpeaks
 -- What is asked of a turn of a server's method: each Request has the next Identifier, and the view after it tells the tags.
@@ -133,20 +133,20 @@ pub mod SingleSteps
 -- An event that is skipped changes nothing but the number of events.
 pub mod Skips
 -- Octets that stand in others, one after the other.
-pub mod StandsIn
+pub mod Occurrence
 -- Two ends in SUCCESS agree, and what they report is their own, where each accepted tag is one that either end made: an end in
 -- SUCCESS can't have made the tag itself that the login rests on.
 pub mod SucceedingEnds
 -- The tags of each end in a book that grows, and what its honesty says of them.
 pub mod TagsOfEnds
 -- What holds of each answer of a table, and of each delivery as it is heard, holds of all that an end takes.
-pub mod Taking
+pub mod Accepting
 -- The Type-Data of a packet stands in the octets that begin with it.
 pub mod TypeData
 -- The version of a scenario's text stays in its world.
 pub mod Versions
 -- In every run, what two ends that both stand in SUCCESS report over an honest book is their own: names, key and suite.
-pub mod Whose
+pub mod Owner
 -- The Identity round (RFC 3748 section 2), computed from the definitions alone.
 mod Worked
 -- A proposal that is refused between ends that read Expanded Types, computed from the definitions alone.

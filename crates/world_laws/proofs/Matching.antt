@@ -10,17 +10,17 @@ use Rattle.peer_machine.specs.PeerTable.{peer_reports}
 use Rattle.tag_book.specs.Book.{first_broken, tags_verdict, tags_verdict_either}
 use Rattle.eap_world.specs.Conversations.{front}
 use Rattle.world_laws.specs.ByMethod.{server_login}
-use Rattle.world_laws.specs.EachConversation.{AreTwoOf, IsOneOf, OfPeer, OfServer, all_made, peer_holds, peer_nonce, server_holds, server_nonce}
-use Rattle.world_laws.specs.Matching.{AreAll, AreOfOne, HasSameKeys, HoldNonces, NoTwoAlike, PeerMatches, PeerRests, ReportsAgree, RestsOn, ServerMatches, ServerRests}
-use Rattle.world_laws.specs.PeerStands.{PeerStands}
+use Rattle.world_laws.specs.EachConversation.{AreTwoOf, IsOneOf, OfPeer, OfServer, all_produced, peer_knows_nonce, peer_nonce, server_knows_nonce, server_nonce}
+use Rattle.world_laws.specs.Matching.{AreAll, AreOfOne, HasSameKeys, HaveNonces, NoTwoAlike, PeerMatches, PeerRests, ReportsAgree, RestsOn, ServerMatches, ServerRests}
+use Rattle.world_laws.specs.PeerInvariant.{PeerInvariant}
 use Rattle.world_laws.specs.Records.{IsIn, tags_by}
-use Rattle.world_laws.specs.ServerStands.{ServerStands}
-use Rattle.world_laws.specs.ToldTags.{MadeByPeer, MadeByServer, NotByServer, PeerTold, ServerTold}
+use Rattle.world_laws.specs.ServerInvariant.{ServerInvariant}
+use Rattle.world_laws.specs.TagOwners.{OnlyByPeer, OnlyByServer, NotByServer, PeerTagOwner, ServerTagOwner}
 use Rattle.world_laws.proofs.Asks.{AsksPeer, AsksServer}
 use Rattle.world_laws.proofs.AsksByMethod.{peer_asks, server_asks}
 use Rattle.world_laws.proofs.HonestOfEither.{honest_of_either, none_if_honest}
 use Rattle.world_laws.proofs.HonestOther.{honest_other}
-use Rattle.world_laws.proofs.OneLogin.{first_is_in, one_held}
+use Rattle.world_laws.proofs.OneLogin.{first_is_in, one_stored}
 use Rattle.world_laws.proofs.OneOf.{accepted_in, first_of, made_in, same_or_two, second_of}
 use Rattle.world_laws.proofs.Resting as resting
 use Rattle.world_laws.proofs.SucceedingEnds.{PeerSucceeds, ServerSucceeds, both_agree, both_succeed, first_in, peer_succeeds, server_succeeds}
@@ -29,7 +29,7 @@ use Rattle.world_laws.proofs.TagsOfEnds.{honest_tags}
 use Rattle.eap_world.specs.Judgement.{is_success}
 use Rattle.eap_world.specs.World.{WorldNow}
 use Rattle.tag_book.specs.declared.book.End.TheVariants as end
-use Rattle.tag_book.specs.declared.book.Makers.TheVariants.{Either, Other}
+use Rattle.tag_book.specs.declared.book.MadeBy.TheVariants.{Either, Other}
 use Rattle.tag_book.specs.declared.book.TagsVerdict.TheVariants.{Honest}
 use Rattle.tag_book.specs.declared.book.Use.TheVariants.{Accepted, Made}
 
@@ -37,11 +37,11 @@ use Rattle.tag_book.specs.declared.book.Use.TheVariants.{Accepted, Made}
 
 pub record PeerKnown (setup : PeerSetup) (p : OfPeer) : Type 0 where
   pub size : length (peer_nonce p) ≡ 32
-  pub stands : PeerStands (peers.own_nonce setup (peer_nonce p)) p.now p.accepted p.made
+  pub stands : PeerInvariant (peers.setup_with_nonce setup (peer_nonce p)) p.now p.accepted p.made
 
 pub record ServerKnown (setup : ServerSetup) (s : OfServer) : Type 0 where
   pub size : length (server_nonce s) ≡ 32
-  pub stands : ServerStands (servers.own_nonce setup (server_nonce s)) s.now s.accepted s.made
+  pub stands : ServerInvariant (servers.setup_with_nonce setup (server_nonce s)) s.now s.accepted s.made
 
 -- ---- what a conversation that rests on another tells of it
 
@@ -52,58 +52,58 @@ is_first accepted made tag more first r = (first_in accepted made r.tag r.more r
 -- what a server in SUCCESS holds, and asks of the peer
 pub record Asking (setup : ServerSetup) (s : OfServer) : Type 0 where
   pub foreign : List ℕ
-  pub holds : server_holds s ≡ Some foreign
+  pub holds : server_knows_nonce s ≡ Some foreign
   pub asks : AsksPeer setup (server_nonce s) foreign s.accepted
 
 module _ (setup : Setup) where
-  pub peer_told : (p : OfPeer) → PeerKnown setup.peer p → PeerTold setup.peer (peer_nonce p) (peer_holds p) p.accepted p.made
-  peer_told p known = record { selected = p.now.vars.selected; views = p.now.views; tags = known.stands.tags; held_is = refl }
+  pub peer_result : (p : OfPeer) → PeerKnown setup.peer p → PeerTagOwner setup.peer (peer_nonce p) (peer_knows_nonce p) p.accepted p.made
+  peer_result p known = record { selected = p.now.vars.selected; views = p.now.views; tags = known.stands.tags; held_is = refl }
 
-  pub server_told : (s : OfServer) → ServerKnown setup.server s → ServerTold setup.server (server_nonce s) (server_holds s) s.accepted s.made
-  server_told s known = record { current = s.now.vars.current; views = s.now.views; tags = known.stands.tags; held_is = refl }
+  pub server_result : (s : OfServer) → ServerKnown setup.server s → ServerTagOwner setup.server (server_nonce s) (server_knows_nonce s) s.accepted s.made
+  server_result s known = record { current = s.now.vars.current; views = s.now.views; tags = known.stands.tags; held_is = refl }
 
   pub peer_won : (p : OfPeer) → PeerKnown setup.peer p → is_success p.now.vars.state ≡ true
-      → PeerSucceeds (peers.own_nonce setup.peer (peer_nonce p)) p.now p.accepted p.made
+      → PeerSucceeds (peers.setup_with_nonce setup.peer (peer_nonce p)) p.now p.accepted p.made
   peer_won p known p_in =
-      peer_succeeds (peers.own_nonce setup.peer (peer_nonce p)) p.now p.accepted p.made known.stands.tags (known.stands.decided (known.stands.sure p_in))
+      peer_succeeds (peers.setup_with_nonce setup.peer (peer_nonce p)) p.now p.accepted p.made known.stands.tags (known.stands.decided (known.stands.sure p_in))
 
   pub server_won : (s : OfServer) → ServerKnown setup.server s → is_success s.now.vars.state ≡ true
-      → ServerSucceeds (servers.own_nonce setup.server (server_nonce s)) s.now s.accepted s.made
-  server_won s known s_in = server_succeeds (servers.own_nonce setup.server (server_nonce s)) s.now s.accepted s.made known.stands.tags (known.stands.sure s_in)
+      → ServerSucceeds (servers.setup_with_nonce setup.server (server_nonce s)) s.now s.accepted s.made
+  server_won s known s_in = server_succeeds (servers.setup_with_nonce setup.server (server_nonce s)) s.now s.accepted s.made known.stands.tags (known.stands.sure s_in)
 
   -- what a server asks that holds a nonce
-  pub server_asking : (s : OfServer) → ServerKnown setup.server s → (foreign : List ℕ) → server_holds s ≡ Some foreign
+  pub server_asking : (s : OfServer) → ServerKnown setup.server s → (foreign : List ℕ) → server_knows_nonce s ≡ Some foreign
       → AsksPeer setup.server (server_nonce s) foreign s.accepted
   server_asking s known foreign holds =
-      server_asks setup.server (server_nonce s) foreign known.size (server_holds s) s.accepted s.made (server_told s known) holds
+      server_asks setup.server (server_nonce s) foreign known.size (server_knows_nonce s) s.accepted s.made (server_result s known) holds
 
   pub server_in : (s : OfServer) → ServerKnown setup.server s → is_success s.now.vars.state ≡ true → Asking setup.server s
   server_in s known s_in =
-      let held = success.server_holds (servers.own_nonce setup.server (server_nonce s)) s.now s.accepted s.made (server_won s known s_in) in
+      let held = success.server_knows_nonce (servers.setup_with_nonce setup.server (server_nonce s)) s.now s.accepted s.made (server_won s known s_in) in
       record { foreign = held.foreign; holds = held.is; asks = server_asking s known held.foreign held.is }
 
   pub peer_in : (p : OfPeer) → PeerKnown setup.peer p → is_success p.now.vars.state ≡ true → AsksServer (peer_nonce p) p.accepted
   peer_in p known p_in = peer_asks setup.peer (peer_nonce p) p.now p.accepted p.made known.size (peer_won p known p_in)
 
   -- a tag tells both nonces of the peer's conversation that made it, and the peer's of the server's
-  pub made_by : (p : OfPeer) → PeerKnown setup.peer p → (t : TagRecord) (own foreign : List ℕ) → MadeByPeer t own foreign → IsIn t p.made
-      → (front (peer_nonce p) ≡ own) × (peer_holds p ≡ Some foreign)
-  made_by p known t own foreign made is = made.tells setup.peer (peer_nonce p) (peer_holds p) p.accepted p.made known.size (peer_told p known) is
+  pub made_by : (p : OfPeer) → PeerKnown setup.peer p → (t : TagRecord) (own foreign : List ℕ) → OnlyByPeer t own foreign → IsIn t p.made
+      → (front (peer_nonce p) ≡ own) × (peer_knows_nonce p ≡ Some foreign)
+  made_by p known t own foreign made is = made.tells setup.peer (peer_nonce p) (peer_knows_nonce p) p.accepted p.made known.size (peer_result p known) is
 
-  pub made_at : (s : OfServer) → ServerKnown setup.server s → (t : TagRecord) (foreign : List ℕ) → MadeByServer t foreign → IsIn t s.made
-      → server_holds s ≡ Some foreign
-  made_at s known t foreign made is = made.tells setup.server (server_nonce s) (server_holds s) s.accepted s.made (server_told s known) is
+  pub made_at : (s : OfServer) → ServerKnown setup.server s → (t : TagRecord) (foreign : List ℕ) → OnlyByServer t foreign → IsIn t s.made
+      → server_knows_nonce s ≡ Some foreign
+  made_at s known t foreign made is = made.tells setup.server (server_nonce s) (server_knows_nonce s) s.accepted s.made (server_result s known) is
 
   -- one of the server in SUCCESS that rests on one of the peer
   pub server_on : (s : OfServer) (known : ServerKnown setup.server s) → (s_in : is_success s.now.vars.state ≡ true) → (p : OfPeer) → PeerKnown setup.peer p
-      → RestsOn s.accepted p.made → (front (peer_nonce p) ≡ (server_in s known s_in).foreign) × (peer_holds p ≡ Some (front (server_nonce s)))
+      → RestsOn s.accepted p.made → (front (peer_nonce p) ≡ (server_in s known s_in).foreign) × (peer_knows_nonce p ≡ Some (front (server_nonce s)))
   server_on s known s_in p p_known r =
       let a = server_in s known s_in in
       made_by p p_known a.asks.tag a.foreign (front (server_nonce s)) a.asks.made (is_first s.accepted p.made a.asks.tag a.asks.rest a.asks.first r)
 
   -- one of the peer in SUCCESS that rests on one of the server
   pub peer_on : (p : OfPeer) → PeerKnown setup.peer p → is_success p.now.vars.state ≡ true → (s : OfServer) → ServerKnown setup.server s
-      → RestsOn p.accepted s.made → server_holds s ≡ Some (front (peer_nonce p))
+      → RestsOn p.accepted s.made → server_knows_nonce s ≡ Some (front (peer_nonce p))
   peer_on p known p_in s s_known r =
       let a = peer_in p known p_in in
       made_at s s_known a.tag (front (peer_nonce p)) a.made (is_first p.accepted s.made a.tag a.rest a.first r)
@@ -126,8 +126,8 @@ module _ (setup : Setup) where
   pub reports_agree : (p : OfPeer) → PeerKnown setup.peer p → is_success p.now.vars.state ≡ true → (s : OfServer) → ServerKnown setup.server s
       → is_success s.now.vars.state ≡ true → RestsOn p.accepted s.made → RestsOn s.accepted p.made → ReportsAgree p s
   reports_agree p known p_in s s_known s_in on back =
-      let peer_setup = peers.own_nonce setup.peer (peer_nonce p) in
-      let server_setup = servers.own_nonce setup.server (server_nonce s) in
+      let peer_setup = peers.setup_with_nonce setup.peer (peer_nonce p) in
+      let server_setup = servers.setup_with_nonce setup.server (server_nonce s) in
       let succeed = both_succeed peer_setup server_setup p.now s.now known.size s_known.size _ _ _ _ (peer_won p known p_in) (server_won s s_known s_in)
       (λ _. first_in p.accepted s.made on.tag on.more on.first on.is_made) (first_in s.accepted p.made back.tag back.more back.first back.is_made) in
       rw (known.stands.own, s_known.stands.own) (both_agree peer_setup server_setup p.now s.now known.size s_known.size succeed)
@@ -150,12 +150,12 @@ module _ (setup : Setup) (last : WorldNow) (ps : List OfPeer) (ss : List OfServe
     peers_apart = λ p q are p_in q_in s is_one on also.
         (let known = all.servers s is_one in
         all.peers_two fresh p q are
-        (one_held (server_holds s) _ _ (peer_on setup p (all.peers p (first_of p q ps are)) p_in s known on)
+        (one_stored (server_knows_nonce s) _ _ (peer_on setup p (all.peers p (first_of p q ps are)) p_in s known on)
         (peer_on setup q (all.peers q (second_of p q ps are)) q_in s known also)));
     servers_apart = λ s t are s_in t_in p is_one on also.
         (let known = all.peers p is_one in
         all.servers_two fresh s t are
-        (one_held (peer_holds p) _ _ (server_on setup s (all.servers s (first_of s t ss are)) s_in p known on).1
+        (one_stored (peer_knows_nonce p) _ _ (server_on setup s (all.servers s (first_of s t ss are)) s_in p known on).1
         (server_on setup t (all.servers t (second_of s t ss are)) t_in p known also).1));
     server_on_one = λ s is_one s_in p q are on also.
         (let known = all.servers s is_one in
@@ -183,20 +183,20 @@ module _ (setup : Setup) (last : WorldNow) (ps : List OfPeer) (ss : List OfServe
   -- a tag that no conversation of the server can have made is none that it made
   pub not_servers : (t : TagRecord) → NotByServer setup.server t → IsIn t (tags_by end.Server Made last.book) → ⊥
   not_servers t alien is =
-      let m = made_in t ss (subst (λ (l : List TagRecord). IsIn t l) all.are.server_made is) in
+      let m = made_in t ss (subst (λ (l : List TagRecord). IsIn t l) all.are.initial_server is) in
       let known = all.servers m.by m.is_one in
-      alien.none (server_nonce m.by) (server_holds m.by) m.by.accepted m.by.made known.size (server_told setup m.by known) m.is_in
+      alien.none (server_nonce m.by) (server_knows_nonce m.by) m.by.accepted m.by.made known.size (server_result setup m.by known) m.is_in
 
   by_peer : tags_verdict_either last.book ≡ Honest → (t : TagRecord) → NotByServer setup.server t → IsIn t (tags_by end.Server Accepted last.book)
-      → IsIn t (all_made ps)
+      → IsIn t (all_produced ps)
   by_peer honest t alien is =
       elim ((honest_tags end.Server last.book (none_if_honest (first_broken Either [] last.book) honest)).each t is) [
-        | inl made ↦ subst (λ (l : List TagRecord). IsIn t l) all.are.peer_made made
+        | inl made ↦ subst (λ (l : List TagRecord). IsIn t l) all.are.initial_peer made
         | inr own ↦ absurd (not_servers t alien own)
       ]
 
   -- one of the server that holds a nonce rests on one of the peer
-  answered : tags_verdict_either last.book ≡ Honest → (s : OfServer) → IsOneOf s ss → (foreign : List ℕ) → server_holds s ≡ Some foreign → ServerRests ps s
+  answered : tags_verdict_either last.book ≡ Honest → (s : OfServer) → IsOneOf s ss → (foreign : List ℕ) → server_knows_nonce s ≡ Some foreign → ServerRests ps s
   answered honest s is_one foreign holds =
       let asks = server_asking setup s (all.servers s is_one) foreign holds in
       let listed : IsIn asks.tag (tags_by end.Server Accepted last.book) =
@@ -236,7 +236,7 @@ module _ (setup : Setup) (last : WorldNow) (ps : List OfPeer) (ss : List OfServe
             ((server_on setup s known s_in p (all.peers p p_is) rests).0 ∙ sym (server_on setup s known s_in r.on on_known r.rests).0));
         by_no_other = λ t t_is t_in rests.
             (the_same_server fresh t s t_is is_one
-            (one_held (peer_holds r.on) _ _ (server_on setup t (all.servers t t_is) t_in r.on on_known rests).1 r.hold.rand_s));
+            (one_stored (peer_knows_nonce r.on) _ _ (server_on setup t (all.servers t t_is) t_in r.on on_known rests).1 r.hold.rand_s));
       }
 
   -- ---- the peer's
@@ -246,9 +246,9 @@ module _ (setup : Setup) (last : WorldNow) (ps : List OfPeer) (ss : List OfServe
     pub on : OfServer
     pub is_one : IsOneOf on ss
     pub rests : RestsOn p.accepted on.made
-    pub rand_p : server_holds on ≡ Some (front (peer_nonce p))
+    pub rand_p : server_knows_nonce on ≡ Some (front (peer_nonce p))
 
-  pub rests_on : (p : OfPeer) → IsOneOf p ps → (asks : AsksServer (peer_nonce p) p.accepted) → IsIn asks.tag (all_made ss) → RestsSo p
+  pub rests_on : (p : OfPeer) → IsOneOf p ps → (asks : AsksServer (peer_nonce p) p.accepted) → IsIn asks.tag (all_produced ss) → RestsSo p
   rests_on p is_one asks is =
       let m = made_in asks.tag ss is in
       record {
@@ -273,8 +273,8 @@ module _ (setup : Setup) (last : WorldNow) (ps : List OfPeer) (ss : List OfServe
       subst (λ (l : List TagRecord). IsIn asks.tag l) (sym all.are.peer_accepted)
       (accepted_in asks.tag p ps is_one (first_is_in asks.tag asks.rest p.accepted asks.first))
 
-  pub by_server : (t : TagRecord) → IsIn t (tags_by end.Server Made last.book) → IsIn t (all_made ss)
-  by_server t is = subst (λ (l : List TagRecord). IsIn t l) all.are.server_made is
+  pub by_server : (t : TagRecord) → IsIn t (tags_by end.Server Made last.book) → IsIn t (all_produced ss)
+  by_server t is = subst (λ (l : List TagRecord). IsIn t l) all.are.initial_server is
 
   pub peers_rest : tags_verdict last.book ≡ Honest → (p : OfPeer) → IsOneOf p ps → is_success p.now.vars.state ≡ true → PeerRests ss p
   peers_rest honest p is_one p_in =
@@ -287,15 +287,15 @@ module _ (setup : Setup) (last : WorldNow) (ps : List OfPeer) (ss : List OfServe
     -- one of the server that holds the nonce of one of the peer rests on that one, which holds its nonce
     pub record Back (s : OfServer) : Type 0 where
       pub back : RestsOn s.accepted p.made
-      pub hold : HoldNonces p s
+      pub hold : HaveNonces p s
 
-    pub back_on : (s : OfServer) → IsOneOf s ss → server_holds s ≡ Some (front (peer_nonce p)) → Back s
+    pub back_on : (s : OfServer) → IsOneOf s ss → server_knows_nonce s ≡ Some (front (peer_nonce p)) → Back s
     back_on s is rand_p =
         let r = answered honest s is (front (peer_nonce p)) rand_p in
-        let same = the_same fresh r.on p r.is_one is_one (one_held (server_holds s) _ _ r.hold.rand_p rand_p) in
+        let same = the_same fresh r.on p r.is_one is_one (one_stored (server_knows_nonce s) _ _ r.hold.rand_p rand_p) in
         record {
           back = subst (λ (q : OfPeer). RestsOn s.accepted q.made) same r.rests;
-          hold = subst (λ (q : OfPeer). HoldNonces q s) same r.hold;
+          hold = subst (λ (q : OfPeer). HaveNonces q s) same r.hold;
         }
 
     pub peer_matches : is_success p.now.vars.state ≡ true → PeerRests ss p → PeerMatches ps ss p
@@ -311,12 +311,12 @@ module _ (setup : Setup) (last : WorldNow) (ps : List OfPeer) (ss : List OfServe
           hold = b.hold;
           no_other = λ s s_is rests.
               (the_same_server fresh s r.on s_is r.is_one
-              (one_held (peer_holds p) _ _ (back_on s s_is (peer_on setup p known p_in s (all.servers s s_is) rests)).hold.rand_s b.hold.rand_s));
+              (one_stored (peer_knows_nonce p) _ _ (back_on s s_is (peer_on setup p known p_in s (all.servers s s_is) rests)).hold.rand_s b.hold.rand_s));
           by_no_other = λ q q_is q_in rests.
-              (the_same fresh q p q_is is_one (one_held (server_holds r.on) _ _ (peer_on setup q (all.peers q q_is) q_in r.on on_known rests) r.rand_p));
+              (the_same fresh q p q_is is_one (one_stored (server_knows_nonce r.on) _ _ (peer_on setup q (all.peers q q_is) q_in r.on on_known rests) r.rand_p));
           back_by_no_other = λ s s_is s_in rests.
               (the_same_server fresh s r.on s_is r.is_one
-              (one_held (peer_holds p) _ _ (server_on setup s (all.servers s s_is) s_in p known rests).1 b.hold.rand_s));
+              (one_stored (peer_knows_nonce p) _ _ (server_on setup s (all.servers s s_is) s_in p known rests).1 b.hold.rand_s));
           agree = λ s_in. reports_agree setup p known p_in r.on on_known s_in r.rests b.back;
         }
 
@@ -332,12 +332,12 @@ module _ (setup : Setup) (last : WorldNow) (ps : List OfPeer) (ss : List OfServe
       let on : RestsOn p.accepted s.made = subst (λ (t : OfServer). RestsOn p.accepted t.made) (sym same) m.rests in
       (on, reports_agree setup p (all.peers p p_is) p_in s (all.servers s s_is) s_in on rests)
 
-  pub servers_lead : (p : OfPeer) → IsOneOf p ps → is_success p.now.vars.state ≡ true → (s : OfServer) → IsOneOf s ss
+  pub servers_agree : (p : OfPeer) → IsOneOf p ps → is_success p.now.vars.state ≡ true → (s : OfServer) → IsOneOf s ss
       → RestsOn p.accepted s.made → RestsOn s.accepted p.made → server_login s.now.vars.current s.now.views ≡ peer_reports p.now
-  servers_lead p p_is p_in s s_is rests back =
+  servers_agree p p_is p_in s s_is rests back =
       let known = all.peers p p_is in
       let s_known = all.servers s s_is in
-      let led = resting.peers_login (peers.own_nonce setup.peer (peer_nonce p)) (servers.own_nonce setup.server (server_nonce s)) known.size s_known.size
+      let led = resting.peers_login (peers.setup_with_nonce setup.peer (peer_nonce p)) (servers.setup_with_nonce setup.server (server_nonce s)) known.size s_known.size
       p.now p.accepted p.made (peer_won setup p known p_in) s.now.vars.current s.now.views s.accepted s.made s_known.stands.tags
       (first_in p.accepted s.made rests.tag rests.more rests.first rests.is_made) (first_in s.accepted p.made back.tag back.more back.first back.is_made) in
       led.login.same ∙ sym led.holds
@@ -346,7 +346,7 @@ module _ (setup : Setup) (last : WorldNow) (ps : List OfPeer) (ss : List OfServe
   same_keys s s_is s_in p p_is rests =
       let known = all.peers p p_is in
       let s_known = all.servers s s_is in
-      let led = resting.servers_login (peers.own_nonce setup.peer (peer_nonce p)) (servers.own_nonce setup.server (server_nonce s)) known.size s_known.size
+      let led = resting.servers_login (peers.setup_with_nonce setup.peer (peer_nonce p)) (servers.setup_with_nonce setup.server (server_nonce s)) known.size s_known.size
       p.now.vars.selected p.now.views p.accepted p.made known.stands.tags s.now s.accepted s.made (server_won setup s s_known s_in)
       (first_in s.accepted p.made rests.tag rests.more rests.first rests.is_made) in
-      record { report = led.report; holds = led.holds; theirs = led.leads_to.theirs; leads = led.leads_to.leads; same = led.leads_to.same }
+      record { report = led.report; holds = led.holds; theirs = led.results_to.theirs; leads = led.results_to.leads; same = led.results_to.same }

@@ -7,9 +7,9 @@ use Rattle.std.proofs.lemmas.Bool.{and_from, and_parts, or_left, or_right}
 use Rattle.std.proofs.lemmas.List.Folds.{list_any-append}
 use Rattle.std.proofs.lemmas.Slice.Eq.{bytes_eq-Decides}
 use Rattle.tag_book.specs.Book.{same_end}
-use Rattle.eap_world.specs.Conversations.{front, has_begun, hears, is_new, is_used, stands_in}
+use Rattle.eap_world.specs.Conversations.{front, has_initiated, hears, is_new, is_used, occurs_in}
 use Rattle.tag_book.specs.declared.book.End.{End}
-use Rattle.eap_world.specs.declared.conversations.Begun.{Begun}
+use Rattle.eap_world.specs.declared.conversations.ConversationStart.{ConversationStart}
 use Rattle.eap_world.specs.declared.conversations.Waiting.{Waiting}
 
 -- ---- nonces that are left
@@ -51,12 +51,12 @@ marked_after octets left held m = record {
   each = λ x one e is same.
       (let w = was_left octets left one is in
       ap (λ (o : Waiting). o.heard) w.is
-      ∙ or_left w.before.heard (stands_in (front w.before.nonce) octets)
+      ∙ or_left w.before.heard (occurs_in (front w.before.nonce) octets)
       (m.each x w.before e w.is_left (sym (ap (λ (o : Waiting). front o.nonce) w.is) ∙ same)));
 }
 
 -- a nonce that is heard in these octets is marked by them
-pub marked_now : (octets x : List ℕ) (left : List Waiting) (held : Option (List ℕ)) → held ≡ Some x → stands_in x octets ≡ true
+pub marked_now : (octets x : List ℕ) (left : List Waiting) (held : Option (List ℕ)) → held ≡ Some x → occurs_in x octets ≡ true
     → IsMarked (map (hears octets) left) held
 marked_now octets x left held is_held stands = record {
   each = λ y one e is same.
@@ -64,44 +64,44 @@ marked_now octets x left held is_held stands = record {
       let heard : x ≡ y = cc in
       let front_is : front w.before.nonce ≡ x = sym (ap (λ (o : Waiting). front o.nonce) w.is) ∙ (same ∙ sym heard) in
       ap (λ (o : Waiting). o.heard) w.is
-      ∙ or_right w.before.heard (stands_in (front w.before.nonce) octets) (ap (λ (f : List ℕ). stands_in f octets) front_is ∙ stands));
+      ∙ or_right w.before.heard (occurs_in (front w.before.nonce) octets) (ap (λ (f : List ℕ). occurs_in f octets) front_is ∙ stands));
 }
 
 -- ---- nonces that were used
 
-abbrev Uses : List ℕ → Begun → Bool
+abbrev Uses : List ℕ → ConversationStart → Bool
 Uses nonce b = bytes_eq (front b.nonce) (front nonce)
 
-pub still_used : (all : List Begun) (b : Begun) (nonce : List ℕ) → is_used all nonce ≡ true → is_used (all ++ b ∷ []) nonce ≡ true
+pub still_used : (all : List ConversationStart) (b : ConversationStart) (nonce : List ℕ) → is_used all nonce ≡ true → is_used (all ++ b ∷ []) nonce ≡ true
 still_used all b nonce e = list_any-append (Uses nonce) all (b ∷ []) ∙ or_left (is_used all nonce) (list_any (Uses nonce) (b ∷ [])) e
 
-pub now_used : (all : List Begun) (b : Begun) → is_used (all ++ b ∷ []) b.nonce ≡ true
+pub now_used : (all : List ConversationStart) (b : ConversationStart) → is_used (all ++ b ∷ []) b.nonce ≡ true
 now_used all b =
     list_any-append (Uses b.nonce) all (b ∷ [])
     ∙ or_right (is_used all b.nonce) (list_any (Uses b.nonce) (b ∷ []))
     (or_left (Uses b.nonce b) false ((bytes_eq-Decides (front b.nonce) (front b.nonce)).1 refl))
 
-pub used_front : (all : List Begun) (one other : List ℕ) → front one ≡ front other → is_used all one ≡ is_used all other
-used_front all one other e = ap (λ (f : List ℕ). list_any (λ (b : Begun). bytes_eq (front b.nonce) f) all) e
+pub used_front : (all : List ConversationStart) (one other : List ℕ) → front one ≡ front other → is_used all one ≡ is_used all other
+used_front all one other e = ap (λ (f : List ℕ). list_any (λ (b : ConversationStart). bytes_eq (front b.nonce) f) all) e
 
 -- ---- nonces with which an end has begun a conversation
 
-abbrev Begins : End → List ℕ → Begun → Bool
-Begins of nonce b = same_end b.end of && bytes_eq b.nonce nonce
+abbrev StartsAt : End → List ℕ → ConversationStart → Bool
+StartsAt of nonce b = same_end b.end of && bytes_eq b.nonce nonce
 
-pub still_begun : (of : End) (all : List Begun) (b : Begun) (nonce : List ℕ) → has_begun of nonce all ≡ true → has_begun of nonce (all ++ b ∷ []) ≡ true
-still_begun of all b nonce e = list_any-append (Begins of nonce) all (b ∷ []) ∙ or_left (has_begun of nonce all) (list_any (Begins of nonce) (b ∷ [])) e
+pub still_started : (of : End) (all : List ConversationStart) (b : ConversationStart) (nonce : List ℕ) → has_initiated of nonce all ≡ true → has_initiated of nonce (all ++ b ∷ []) ≡ true
+still_started of all b nonce e = list_any-append (StartsAt of nonce) all (b ∷ []) ∙ or_left (has_initiated of nonce all) (list_any (StartsAt of nonce) (b ∷ [])) e
 
-pub now_begun : (of : End) (all : List Begun) (b : Begun) → same_end b.end of ≡ true → has_begun of b.nonce (all ++ b ∷ []) ≡ true
-now_begun of all b is_own =
-    list_any-append (Begins of b.nonce) all (b ∷ [])
-    ∙ or_right (has_begun of b.nonce all) (list_any (Begins of b.nonce) (b ∷ []))
-    (or_left (Begins of b.nonce b) false (and_from (same_end b.end of) (bytes_eq b.nonce b.nonce) is_own ((bytes_eq-Decides b.nonce b.nonce).1 refl)))
+pub now_started : (of : End) (all : List ConversationStart) (b : ConversationStart) → same_end b.end of ≡ true → has_initiated of b.nonce (all ++ b ∷ []) ≡ true
+now_started of all b is_own =
+    list_any-append (StartsAt of b.nonce) all (b ∷ [])
+    ∙ or_right (has_initiated of b.nonce all) (list_any (StartsAt of b.nonce) (b ∷ []))
+    (or_left (StartsAt of b.nonce b) false (and_from (same_end b.end of) (bytes_eq b.nonce b.nonce) is_own ((bytes_eq-Decides b.nonce b.nonce).1 refl)))
 
 -- ---- a nonce that is new
 
 -- it was not used, and not heard
-pub record IsNew (fresh : Bool) (all : List Begun) (one : Waiting) : Type 0 where
+pub record IsNew (fresh : Bool) (all : List ConversationStart) (one : Waiting) : Type 0 where
   pub was : fresh ≡ true
   pub unheard : one.heard ≡ true → ⊥
   pub unused : is_used all one.nonce ≡ true → ⊥
@@ -110,7 +110,7 @@ denied : (b : Bool) → not b ≡ true → b ≡ true → ⊥
 denied true e f = absurd cc
 denied false e f = absurd cc
 
-pub new_is : (fresh : Bool) (all : List Begun) (one : Waiting) → (fresh && is_new all one) ≡ true → IsNew fresh all one
+pub new_is : (fresh : Bool) (all : List ConversationStart) (one : Waiting) → (fresh && is_new all one) ≡ true → IsNew fresh all one
 new_is fresh all one e =
     let p = and_parts fresh (is_new all one) e in
     let q = and_parts (not one.heard) (not (is_used all one.nonce)) p.1 in

@@ -9,21 +9,21 @@ use Rattle.world_laws.specs.Records.{IsIn, here}
 use Rattle.eap_world.specs.Conversations.{front}
 use Rattle.world_laws.proofs.Asks.{AsksPeer, AsksServer, some_is}
 use Rattle.world_laws.proofs.AsksByMethod.{server_asks}
-use Rattle.world_laws.proofs.PastConversations.{Moment, PastConversation, Past, Conversed, FromPast, where_made, accepted_now, accepted_before}
-use Rattle.world_laws.specs.ToldTags.{PeerTold, MadeByPeer, NotByServer, ServerTold}
+use Rattle.world_laws.proofs.PastConversations.{Moment, PastConversation, Past, Conversed, FromPast, where_created, accepted_now, accepted_before}
+use Rattle.world_laws.specs.TagOwners.{PeerTagOwner, OnlyByPeer, NotByServer, ServerTagOwner}
 
-pub one_held : (held : Option (List ℕ)) (x y : List ℕ) → held ≡ Some x → held ≡ Some y → x ≡ y
-one_held held x y a b = some_is x y (sym a ∙ b)
+pub one_stored : (held : Option (List ℕ)) (x y : List ℕ) → held ≡ Some x → held ≡ Some y → x ≡ y
+one_stored held x y a b = some_is x y (sym a ∙ b)
 
 pub first_is_in : (t : TagRecord) (rest all : List TagRecord) → all ≡ t ∷ rest → IsIn t all
 first_is_in t rest all e = subst (λ (l : List TagRecord). IsIn t l) (sym e) (here rest)
 
 -- a tag that only a conversation of the peer's present nonce can have made was made in the present conversation
 module _ (peer_setup : PeerSetup) (mp : Moment) (PeerIs : Option (List ℕ) → List TagRecord → List TagRecord → Type 0) (pa pm : List TagRecord)
-    (p : Conversed (PeerTold peer_setup) mp PeerIs pa pm) (fresh_p : mp.fresh ≡ true) where
-  pub peer_now : (t : TagRecord) (foreign : List ℕ) → MadeByPeer t (front mp.nonce) foreign → IsIn t pm → IsIn t p.made × (p.held ≡ Some foreign)
+    (p : Conversed (PeerTagOwner peer_setup) mp PeerIs pa pm) (fresh_p : mp.fresh ≡ true) where
+  pub peer_now : (t : TagRecord) (foreign : List ℕ) → OnlyByPeer t (front mp.nonce) foreign → IsIn t pm → IsIn t p.made × (p.held ≡ Some foreign)
   peer_now t foreign made is =
-      elim (where_made (PeerTold peer_setup) mp PeerIs pa pm p t is) [
+      elim (where_created (PeerTagOwner peer_setup) mp PeerIs pa pm p t is) [
         | inl now ↦ (now, (made.tells peer_setup mp.nonce p.held p.accepted p.made p.size p.told now).1)
         | inr past ↦ absurd (past.holds.differs fresh_p (made.tells peer_setup past.conversation.nonce past.conversation.held past.conversation.accepted
             past.conversation.made past.holds.size past.holds.told past.is_made).0)
@@ -31,7 +31,7 @@ module _ (peer_setup : PeerSetup) (mp : Moment) (PeerIs : Option (List ℕ) → 
 
 module _ (peer_setup : PeerSetup) (server_setup : ServerSetup) (mp ms : Moment)
     (PeerIs ServerIs : Option (List ℕ) → List TagRecord → List TagRecord → Type 0) (pa pm sa sm : List TagRecord)
-    (p : Conversed (PeerTold peer_setup) mp PeerIs pa pm) (s : Conversed (ServerTold server_setup) ms ServerIs sa sm)
+    (p : Conversed (PeerTagOwner peer_setup) mp PeerIs pa pm) (s : Conversed (ServerTagOwner server_setup) ms ServerIs sa sm)
     -- both moments are one
     (peer_since : ms.other_since ≡ mp.since) (peer_nonce : ms.other_nonce ≡ mp.nonce)
     (server_since : mp.other_since ≡ ms.since) (server_nonce : mp.other_nonce ≡ ms.nonce)
@@ -40,32 +40,32 @@ module _ (peer_setup : PeerSetup) (server_setup : ServerSetup) (mp ms : Moment)
     (server_honest : (t : TagRecord) → IsIn t sa → NotByServer server_setup t → IsIn t pm) where
   -- both ends are in one login
   pub record InOne (peer_first server_first : TagRecord) : Type 0 where
-    pub peer_holds : p.held ≡ Some (front ms.nonce)
-    pub server_holds : s.held ≡ Some (front mp.nonce)
+    pub peer_knows_nonce : p.held ≡ Some (front ms.nonce)
+    pub server_knows_nonce : s.held ≡ Some (front mp.nonce)
     pub peer_tag : IsIn peer_first s.made
     pub server_tag : IsIn server_first p.made
 
   -- a past conversation of the server holds the peer's present nonce: then the peer holds that conversation's nonce, and so not
   -- the present one's; and a past conversation of the peer which does holds on after it, which is out of order
   past_server : (foreign : List ℕ) → s.held ≡ Some foreign → (asks : AsksPeer server_setup ms.nonce foreign s.accepted)
-      → (k : PastConversation) (holds : Past (ServerTold server_setup) ms k) → ((r : TagRecord) → IsIn r k.accepted → IsIn r s.past_accepted)
+      → (k : PastConversation) (holds : Past (ServerTagOwner server_setup) ms k) → ((r : TagRecord) → IsIn r k.accepted → IsIn r s.past_accepted)
       → k.held ≡ Some (front mp.nonce) → ⊥
   past_server foreign s_holds asks k holds listed k_holds =
       let asked = server_asks server_setup k.nonce (front mp.nonce) holds.size k.held k.accepted k.made holds.told k_holds in
       let answered = peer_now peer_setup mp PeerIs pa pm p fresh_p asked.tag (front k.nonce) asked.made
       (server_honest asked.tag
-      (accepted_before (ServerTold server_setup) ms ServerIs sa sm s asked.tag (listed asked.tag (first_is_in asked.tag asked.rest k.accepted asked.first)))
+      (accepted_before (ServerTagOwner server_setup) ms ServerIs sa sm s asked.tag (listed asked.tag (first_is_in asked.tag asked.rest k.accepted asked.first)))
       asked.alien) in
       let late : ms.other_since < k.until = holds.later fresh_s (k_holds ∙ ap (λ (x : List ℕ). Some (front x)) (sym peer_nonce)) in
       by answered.1 late
-      (where_made (PeerTold peer_setup) mp PeerIs pa pm p asks.tag
-      (server_honest asks.tag (accepted_now (ServerTold server_setup) ms ServerIs sa sm s asks.tag (first_is_in asks.tag asks.rest s.accepted asks.first))
+      (where_created (PeerTagOwner peer_setup) mp PeerIs pa pm p asks.tag
+      (server_honest asks.tag (accepted_now (ServerTagOwner server_setup) ms ServerIs sa sm s asks.tag (first_is_in asks.tag asks.rest s.accepted asks.first))
       asks.alien))
     where
-      by : p.held ≡ Some (front k.nonce) → ms.other_since < k.until → IsIn asks.tag p.made ⊎ FromPast (PeerTold peer_setup) mp p.past_accepted p.past_made asks.tag → ⊥
+      by : p.held ≡ Some (front k.nonce) → ms.other_since < k.until → IsIn asks.tag p.made ⊎ FromPast (PeerTagOwner peer_setup) mp p.past_accepted p.past_created asks.tag → ⊥
       by p_holds late (inl now) =
           holds.differs fresh_s
-          (one_held p.held (front k.nonce) (front ms.nonce) p_holds (asks.made.tells peer_setup mp.nonce p.held p.accepted p.made p.size p.told now).1)
+          (one_stored p.held (front k.nonce) (front ms.nonce) p_holds (asks.made.tells peer_setup mp.nonce p.held p.accepted p.made p.size p.told now).1)
       by p_holds late (inr past) =
           let j_holds = (asks.made.tells peer_setup past.conversation.nonce past.conversation.held past.conversation.accepted past.conversation.made
           past.holds.size past.holds.told past.is_made).1 in
@@ -77,16 +77,16 @@ module _ (peer_setup : PeerSetup) (server_setup : ServerSetup) (mp ms : Moment)
       → (peer_first : AsksServer mp.nonce p.accepted)
       → IsIn peer_first.tag sm → InOne peer_first.tag server_first.tag
   in_one foreign s_holds asks asked is_made =
-      by (where_made (ServerTold server_setup) ms ServerIs sa sm s asked.tag is_made)
+      by (where_created (ServerTagOwner server_setup) ms ServerIs sa sm s asked.tag is_made)
     where
-      by : IsIn asked.tag s.made ⊎ FromPast (ServerTold server_setup) ms s.past_accepted s.past_made asked.tag → InOne asked.tag asks.tag
+      by : IsIn asked.tag s.made ⊎ FromPast (ServerTagOwner server_setup) ms s.past_accepted s.past_created asked.tag → InOne asked.tag asks.tag
       by (inl now) =
           let held_is = asked.made.tells server_setup ms.nonce s.held s.accepted s.made s.told now in
-          let same : foreign ≡ front mp.nonce = one_held s.held foreign (front mp.nonce) s_holds held_is in
-          let answered = peer_now peer_setup mp PeerIs pa pm p fresh_p asks.tag (front ms.nonce) (subst (λ (x : List ℕ). MadeByPeer asks.tag x (front ms.nonce)) same asks.made)
-          (server_honest asks.tag (accepted_now (ServerTold server_setup) ms ServerIs sa sm s asks.tag (first_is_in asks.tag asks.rest s.accepted asks.first))
+          let same : foreign ≡ front mp.nonce = one_stored s.held foreign (front mp.nonce) s_holds held_is in
+          let answered = peer_now peer_setup mp PeerIs pa pm p fresh_p asks.tag (front ms.nonce) (subst (λ (x : List ℕ). OnlyByPeer asks.tag x (front ms.nonce)) same asks.made)
+          (server_honest asks.tag (accepted_now (ServerTagOwner server_setup) ms ServerIs sa sm s asks.tag (first_is_in asks.tag asks.rest s.accepted asks.first))
           asks.alien) in
-          record { peer_holds = answered.1; server_holds = held_is; peer_tag = now; server_tag = answered.0 }
+          record { peer_knows_nonce = answered.1; server_knows_nonce = held_is; peer_tag = now; server_tag = answered.0 }
       by (inr past) =
           absurd (past_server foreign s_holds asks past.conversation past.holds past.listed
           (asked.made.tells server_setup past.conversation.nonce past.conversation.held past.conversation.accepted past.conversation.made past.holds.told

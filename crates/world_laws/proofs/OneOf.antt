@@ -2,9 +2,9 @@
 use Rattle.std.proofs.Common.{◌≡◌, List, [], ◌∷◌, refl, sym, subst, inl, inr}
 use Rattle.std.specs.Prelude.{◌⊎◌}
 use Rattle.eap_method.specs.declared.tags.TagRecord.{TagRecord}
-use Rattle.world_laws.specs.EachConversation.{AreTwoOf, Conversation, IsOneOf, all_accepted, all_made, behind, first, here, later}
+use Rattle.world_laws.specs.EachConversation.{AreTwoOf, Conversation, IsOneOf, all_accepted, all_produced, behind, first, here, later}
 use Rattle.world_laws.specs.Records.{IsIn}
-use Rattle.world_laws.proofs.PastConversations.{in_behind, in_either}
+use Rattle.world_laws.proofs.PastConversations.{in_after, in_either}
 use Rattle.world_laws.proofs.TagsOfEnds.{is_in_front}
 
 -- it is the first one, or one of the others
@@ -43,16 +43,16 @@ same_or_two {A} x y _ (later other rest is) other_is =
     ]
 
 -- the conversation that made a tag
-pub record MadeIn {N : Type 0} (t : TagRecord) (all : List (Conversation N)) : Type 0 where
+pub record CreatedIn {N : Type 0} (t : TagRecord) (all : List (Conversation N)) : Type 0 where
   pub by : Conversation N
   pub is_one : IsOneOf by all
   pub is_in : IsIn t by.made
 
-pub made_in : {N : Type 0} (t : TagRecord) (all : List (Conversation N)) → IsIn t (all_made all) → MadeIn t all
-unfolding all_made
+pub made_in : {N : Type 0} (t : TagRecord) (all : List (Conversation N)) → IsIn t (all_produced all) → CreatedIn t all
+unfolding all_produced
 made_in t [] is = elim is [ ]
 made_in t (k ∷ rest) is =
-    elim (in_either t k.made (all_made rest) is) [
+    elim (in_either t k.made (all_produced rest) is) [
       | inl now ↦ record { by = k; is_one = here rest; is_in = now }
       | inr there ↦ let m = made_in t rest there in record { by = m.by; is_one = later k rest m.is_one; is_in = m.is_in }
     ]
@@ -62,4 +62,4 @@ pub accepted_in : {N : Type 0} (t : TagRecord) (k : Conversation N) (all : List 
     → IsIn t (all_accepted all)
 unfolding all_accepted
 accepted_in t k _ (here rest) is = is_in_front t k.accepted (all_accepted rest) is
-accepted_in t k _ (later other rest is_one) is = in_behind t other.accepted (all_accepted rest) (accepted_in t k rest is_one is)
+accepted_in t k _ (later other rest is_one) is = in_after t other.accepted (all_accepted rest) (accepted_in t k rest is_one is)

@@ -9,16 +9,16 @@ use Rattle.login_setup.specs.declared.setup.Party.TheVariants as party
 use Rattle.login_setup.specs.declared.setup.Port.{Port}
 use Rattle.login_setup.specs.declared.setup.Port.TheVariants as port
 use Rattle.login_setup.specs.declared.setup.Setup.{Setup}
-use Rattle.pass_through.specs.Inputs.{PassInput, pass_takes}
-use Rattle.pass_through.specs.PassTable.{Side, pass_made}
+use Rattle.pass_through.specs.Inputs.{PassInput, pass_accepts}
+use Rattle.pass_through.specs.PassTable.{Side, initial_pass}
 use Rattle.pass_through.specs.PassTable as passes
 use Rattle.pass_through.specs.Runs.{IsCarried, SentOn, pass_after, pass_sends, sent_on}
 use Rattle.pass_through.specs.declared.variables.PassVariables.{PassVariables}
-use Rattle.pass_through.proofs.Running.{carries_what_came}
+use Rattle.pass_through.proofs.Running.{carries_only_received}
 use Rattle.eap_world.specs.Conversations.{Conversations}
-use Rattle.world_laws.specs.Passing.{IsHanded, IsOfEvent, IsPassedOn, PassCarries, PassIsAlone, PassIsHanded, PassLearnsNothing, at_port, came_after, came_by, came_in, came_to_pass, came_unless, delivered, delivered_altered, delivered_cut, if_to_end, injected, of_peer, of_server, passed, passed_after, passed_by, sent_by_pass, silent, to_ends}
+use Rattle.world_laws.specs.Passing.{IsDelivered, IsOfEvent, IsPassedOn, PassCarries, PassIsAlone, PassIsDelivered, PassLearnsNothing, at_port, received_after, received_by, received_in, received_by_pass, received_unless, delivered, delivered_altered, delivered_cut, if_to_end, injected, of_peer, of_server, passed, passed_after, passed_by, sent_by_pass, silent, to_ends}
 use Rattle.eap_world.specs.Sent.{Sent, packet_numbered}
-use Rattle.eap_world.specs.World.{Acted, Call, Parties, WorldNow, act, alteration, call_at, call_of, call_with, act_of_call, called_unless, first_skip, next_call, octets_of, pass_port, restart_call, run_after, sent_by, sent_to, skip_table, start_call, timer_call, to_pass, to_peer, to_server, world_made, world_start, world_step}
+use Rattle.eap_world.specs.World.{Acted, Call, Parties, WorldNow, act, alteration, call_at, call_of, call_with, act_of_call, called_unless, first_skip, next_call, octets_of, pass_port, restart_call, run_after, sent_by, sent_to, skip_table, start_call, timer_call, to_pass, to_peer, to_server, initial_world, world_start, world_step}
 use Rattle.eap_world.specs.declared.conversations.Waiting.{Waiting}
 use Rattle.eap_world.specs.declared.told.Skip.{Skip}
 
@@ -34,20 +34,20 @@ at_its_port : (to : Side) (sent : Option (List ℕ)) → sent_to (pass_port to) 
 at_its_port to None = refl
 at_its_port to (Some octets) = refl
 
-called_does : (parties : Parties) (call : Call) → Does parties (came_by call) (act_of_call parties call)
+called_does : (parties : Parties) (call : Call) → Does parties (received_by call) (act_of_call parties call)
 unfolding pass_after pass_sends
 called_does parties (to_peer input) = record { runs = refl; vars = refl; sent = refl }
 called_does parties (to_server input) = record { runs = refl; vars = refl; sent = refl }
 called_does parties (to_pass input) =
-    let step = (pass_takes parties.pass input).step in record { runs = refl; vars = refl; sent = at_its_port step.to step.sent }
+    let step = (pass_accepts parties.pass input).step in record { runs = refl; vars = refl; sent = at_its_port step.to step.sent }
 
-unless_does : (parties : Parties) (skip : Option Skip) (call : Option Call) → Does parties (came_unless skip call) (called_unless parties skip call)
+unless_does : (parties : Parties) (skip : Option Skip) (call : Option Call) → Does parties (received_unless skip call) (called_unless parties skip call)
 unfolding pass_after pass_sends
 unless_does parties (Some skip) call = record { runs = refl; vars = refl; sent = refl }
 unless_does parties None None = record { runs = refl; vars = refl; sent = refl }
 unless_does parties None (Some call) = called_does parties call
 
-act_does : (w : WorldNow) (e : Event) → Does w.parties (came_in w e) (act w.parties w.conversations w.sent e)
+act_does : (w : WorldNow) (e : Event) → Does w.parties (received_in w e) (act w.parties w.conversations w.sent e)
 unfolding act
 act_does w e = unless_does w.parties (first_skip (skip_table w.parties w.conversations w.sent e)) (call_of w.conversations w.sent e)
 
@@ -62,7 +62,7 @@ sends_more : (vars : PassVariables) (one other : List PassInput)
 unfolding pass_after pass_sends
 sends_more vars [] other = refl
 sends_more vars (input ∷ rest) other =
-    let out = pass_takes vars input in
+    let out = pass_accepts vars input in
     let now = sent_on out.step.to out.step.sent in
     ap (λ (l : List SentOn). now ++ l) (sends_more out.after rest other)
     ∙ sym (append_assoc now (pass_sends out.after rest) (pass_sends (pass_after out.after rest) other))
@@ -70,14 +70,14 @@ sends_more vars (input ∷ rest) other =
 after_more : (vars : PassVariables) (one other : List PassInput) → pass_after vars (one ++ other) ≡ pass_after (pass_after vars one) other
 unfolding pass_after
 after_more vars [] other = refl
-after_more vars (input ∷ rest) other = after_more (pass_takes vars input).after rest other
+after_more vars (input ∷ rest) other = after_more (pass_accepts vars input).after rest other
 
-record Goes (vars : PassVariables) (came : List PassInput) (sent : List Sent) (last : PassVariables) : Type 0 where
+record Proceed (vars : PassVariables) (came : List PassInput) (sent : List Sent) (last : PassVariables) : Type 0 where
   pub last_is : last ≡ pass_after vars came
   pub sent_is : sent ≡ map at_port (pass_sends vars came)
 
 joined : (vars next last : PassVariables) (came later : List PassInput) (sent more : List Sent) → next ≡ pass_after vars came
-    → sent ≡ map at_port (pass_sends vars came) → Goes next later more last → Goes vars (came ++ later) (sent ++ more) last
+    → sent ≡ map at_port (pass_sends vars came) → Proceed next later more last → Proceed vars (came ++ later) (sent ++ more) last
 joined vars next last came later sent more next_is sent_is g =
     let all_sent = ap (map at_port) (sends_more vars came later) ∙ map_more (pass_sends vars came) (pass_sends (pass_after vars came) later) in
     record {
@@ -87,21 +87,21 @@ joined vars next last came later sent more next_is sent_is g =
           ∙ sym all_sent);
     }
 
-goes : (w : WorldNow) (events : List Event) → Goes w.parties.pass (came_after w events) (passed_after w events) (run_after w events).parties.pass
-unfolding run_after came_after passed_after pass_after pass_sends world_step
+goes : (w : WorldNow) (events : List Event) → Proceed w.parties.pass (received_after w events) (passed_after w events) (run_after w events).parties.pass
+unfolding run_after received_after passed_after pass_after pass_sends world_step
 goes w [] = record { last_is = refl; sent_is = refl }
 goes w (e ∷ rest) =
     let d = act_does w e in
-    joined w.parties.pass _ _ (came_in w e) (came_after (world_step w e).after rest) _ _ d.vars d.sent (goes (world_step w e).after rest)
+    joined w.parties.pass _ _ (received_in w e) (received_after (world_step w e).after rest) _ _ d.vars d.sent (goes (world_step w e).after rest)
 
-run_goes : (setup : Setup) (events : List Event)
-    → Goes (pass_made setup.first_id setup.max_retrans) (came_to_pass setup events) (sent_by_pass setup events)
-    (run_after (world_start (world_made setup)).after events).parties.pass
+run_proceeds : (setup : Setup) (events : List Event)
+    → Proceed (initial_pass setup.first_id setup.max_retrans) (received_by_pass setup events) (sent_by_pass setup events)
+    (run_after (world_start (initial_world setup)).after events).parties.pass
 unfolding world_start
-run_goes setup events =
-    let d = called_does (world_made setup).parties (start_call setup.mode) in
-    joined (pass_made setup.first_id setup.max_retrans) _ _ (came_by (start_call setup.mode)) _ _ _ d.vars d.sent
-    (goes (world_start (world_made setup)).after events)
+run_proceeds setup events =
+    let d = called_does (initial_world setup).parties (start_call setup.mode) in
+    joined (initial_pass setup.first_id setup.max_retrans) _ _ (received_by (start_call setup.mode)) _ _ _ d.vars d.sent
+    (goes (world_start (initial_world setup)).after events)
 
 -- ---- by ports
 
@@ -138,7 +138,7 @@ called_ends : (parties : Parties) (call : Call) → parties.mode ≡ mode.Throug
     → to_ends (sent_by (act_of_call parties call).action) ≡ passed_by (act_of_call parties call).action
 called_ends parties (to_peer input) through = rw through (to_the_pass _)
 called_ends parties (to_server input) through = rw through (to_the_other _)
-called_ends parties (to_pass input) through = to_an_end (pass_takes parties.pass input).step.to (pass_takes parties.pass input).step.sent
+called_ends parties (to_pass input) through = to_an_end (pass_accepts parties.pass input).step.to (pass_accepts parties.pass input).step.sent
 
 unless_ends : (parties : Parties) (skip : Option Skip) (call : Option Call) → parties.mode ≡ mode.Through
     → to_ends (sent_by (called_unless parties skip call).action) ≡ passed_by (called_unless parties skip call).action
@@ -165,30 +165,30 @@ ends_go w (e ∷ rest) through =
     ∙ one_more w.sent (sent_by (act w.parties w.conversations w.sent e).action) _ (passed_after (world_step w e).after rest) (act_ends w e through)
 
 run_to_ends : (setup : Setup) (events : List Event) → setup.mode ≡ mode.Through
-    → to_ends (run_after (world_start (world_made setup)).after events).sent ≡ sent_by_pass setup events
+    → to_ends (run_after (world_start (initial_world setup)).after events).sent ≡ sent_by_pass setup events
 unfolding world_start to_ends
 run_to_ends setup events through =
-    let made = (world_made setup).parties in
+    let made = (initial_world setup).parties in
     let d = called_does made (start_call setup.mode) in
-    ends_go (world_start (world_made setup)).after events (d.runs ∙ through)
-    ∙ ap (λ (l : List Sent). l ++ passed_after (world_start (world_made setup)).after events) (called_ends made (start_call setup.mode) through)
+    ends_go (world_start (initial_world setup)).after events (d.runs ∙ through)
+    ∙ ap (λ (l : List Sent). l ++ passed_after (world_start (initial_world setup)).after events) (called_ends made (start_call setup.mode) through)
 
 pub pass_is_alone : PassIsAlone
 pass_is_alone setup events through =
-    let g = run_goes setup events in record { vars = g.last_is; sent = g.sent_is; to_both = run_to_ends setup events through }
+    let g = run_proceeds setup events in record { vars = g.last_is; sent = g.sent_is; to_both = run_to_ends setup events through }
 
 -- ---- two runs
 
 pub pass_learns_nothing : PassLearnsNothing
 pass_learns_nothing one other events others through too same_id same_max same_came =
-    let a = run_goes one events in
-    let b = run_goes other others in
-    let made : pass_made one.first_id one.max_retrans ≡ pass_made other.first_id other.max_retrans = rw (same_id, same_max) refl in
+    let a = run_proceeds one events in
+    let b = run_proceeds other others in
+    let made : initial_pass one.first_id one.max_retrans ≡ initial_pass other.first_id other.max_retrans = rw (same_id, same_max) refl in
     record {
-      vars = a.last_is ∙ (ap (λ (v : PassVariables). pass_after v (came_to_pass one events)) made ∙ (ap (pass_after _) same_came ∙ sym b.last_is));
+      vars = a.last_is ∙ (ap (λ (v : PassVariables). pass_after v (received_by_pass one events)) made ∙ (ap (pass_after _) same_came ∙ sym b.last_is));
       sent = a.sent_is
-          ∙ (ap (λ (v : PassVariables). map at_port (pass_sends v (came_to_pass one events))) made
-          ∙ (ap (λ (came : List PassInput). map at_port (pass_sends (pass_made other.first_id other.max_retrans) came)) same_came ∙ sym b.sent_is));
+          ∙ (ap (λ (v : PassVariables). map at_port (pass_sends v (received_by_pass one events))) made
+          ∙ (ap (λ (came : List PassInput). map at_port (pass_sends (initial_pass other.first_id other.max_retrans) came)) same_came ∙ sym b.sent_is));
     }
 
 -- ---- whence its packets come
@@ -202,8 +202,8 @@ all_passed first_id came (packet ∷ rest) all =
 
 pub pass_carries : PassCarries
 pass_carries setup events through =
-    subst (All (IsPassedOn setup.first_id (came_to_pass setup events))) (sym (run_goes setup events).sent_is)
-    (all_passed setup.first_id (came_to_pass setup events) _ (carries_what_came setup.first_id setup.max_retrans (came_to_pass setup events)))
+    subst (All (IsPassedOn setup.first_id (received_by_pass setup events))) (sym (run_proceeds setup events).sent_is)
+    (all_passed setup.first_id (received_by_pass setup events) _ (carries_only_received setup.first_id setup.max_retrans (received_by_pass setup events)))
 
 -- ---- whence its inputs come
 
@@ -212,77 +212,77 @@ module _ (sent : List Sent) (e : Event) where
   OfEvent input = IsOfEvent sent e input
 
   -- a call brings nothing else to the pass-through
-  record Brings (call : Call) : Type 0 where
-    pub all : All OfEvent (came_by call)
+  record EventYields (call : Call) : Type 0 where
+    pub all : All OfEvent (received_by call)
 
-  brings_none : (call : Call) → came_by call ≡ [] → Brings call
-  brings_none call none = record { all = subst (All OfEvent) (sym none) (All-nil OfEvent) }
+  causes_none : (call : Call) → received_by call ≡ [] → EventYields call
+  causes_none call none = record { all = subst (All OfEvent) (sym none) (All-nil OfEvent) }
 
-  brings_one : (input : PassInput) → OfEvent input → Brings (to_pass input)
-  brings_one input is = record { all = All-cons OfEvent input [] is (All-nil OfEvent) }
+  causes_one : (input : PassInput) → OfEvent input → EventYields (to_pass input)
+  causes_one input is = record { all = All-cons OfEvent input [] is (All-nil OfEvent) }
 
-  at_brings : (to : Port) (octets : List ℕ) → IsHanded sent e to octets → Brings (call_at to octets)
-  at_brings port.Peer octets is = brings_none _ refl
-  at_brings port.Server octets is = brings_none _ refl
-  at_brings port.PassPeer octets is = brings_one _ (of_peer octets is)
-  at_brings port.PassServer octets is = brings_one _ (of_server octets is)
+  at_causes : (to : Port) (octets : List ℕ) → IsDelivered sent e to octets → EventYields (call_at to octets)
+  at_causes port.Peer octets is = causes_none _ refl
+  at_causes port.Server octets is = causes_none _ refl
+  at_causes port.PassPeer octets is = causes_one _ (of_peer octets is)
+  at_causes port.PassServer octets is = causes_one _ (of_server octets is)
 
   -- none, or this call
-  record MayBring (call : Option Call) : Type 0 where
-    pub all : All OfEvent (came_unless None call)
+  record MayCause (call : Option Call) : Type 0 where
+    pub all : All OfEvent (received_unless None call)
 
-  may_none : MayBring None
+  may_none : MayCause None
   may_none = record { all = All-nil OfEvent }
 
-  may_bring : (call : Call) → Brings call → MayBring (Some call)
-  may_bring call b = record { all = b.all }
+  may_cause : (call : Call) → EventYields call → MayCause (Some call)
+  may_cause call b = record { all = b.all }
 
-  with_brings : (packet : Option Sent) (octets : List ℕ) → ((one : Sent) → packet ≡ Some one → IsHanded sent e one.port octets)
-      → MayBring (call_with packet octets)
-  with_brings None octets is = may_none
-  with_brings (Some packet) octets is = may_bring _ (at_brings packet.port octets (is packet refl))
+  with_causes : (packet : Option Sent) (octets : List ℕ) → ((one : Sent) → packet ≡ Some one → IsDelivered sent e one.port octets)
+      → MayCause (call_with packet octets)
+  with_causes None octets is = may_none
+  with_causes (Some packet) octets is = may_cause _ (at_causes packet.port octets (is packet refl))
 
-  timer_brings : (of : Party) → Brings (timer_call of)
-  timer_brings party.Peer = brings_none _ refl
-  timer_brings party.Pass = brings_one _ (silent _ refl)
-  timer_brings party.Server = brings_none _ refl
+  timer_causes : (of : Party) → EventYields (timer_call of)
+  timer_causes party.Peer = causes_none _ refl
+  timer_causes party.Pass = causes_one _ (silent _ refl)
+  timer_causes party.Server = causes_none _ refl
 
-  next_brings : (make : List ℕ → Call) → ((nonce : List ℕ) → came_by (make nonce) ≡ []) → (left : List Waiting) → MayBring (next_call make left)
-  next_brings make none [] = may_none
-  next_brings make none (one ∷ left) = may_bring _ (brings_none _ (none one.nonce))
+  next_causes : (make : List ℕ → Call) → ((nonce : List ℕ) → received_by (make nonce) ≡ []) → (left : List Waiting) → MayCause (next_call make left)
+  next_causes make none [] = may_none
+  next_causes make none (one ∷ left) = may_cause _ (causes_none _ (none one.nonce))
 
-  restart_brings : (conversations : Conversations) (of : Party) → MayBring (restart_call conversations of)
-  restart_brings conversations party.Peer = next_brings _ (λ nonce. refl) conversations.peer_left
-  restart_brings conversations party.Pass = may_bring _ (brings_one _ (silent _ refl))
-  restart_brings conversations party.Server = next_brings _ (λ nonce. refl) conversations.server_left
+  restart_causes : (conversations : Conversations) (of : Party) → MayCause (restart_call conversations of)
+  restart_causes conversations party.Peer = next_causes _ (λ nonce. refl) conversations.peer_left
+  restart_causes conversations party.Pass = may_cause _ (causes_one _ (silent _ refl))
+  restart_causes conversations party.Server = next_causes _ (λ nonce. refl) conversations.server_left
 
 -- the octets of a packet that was sent
 of_packet : (sent : List Sent) (e : Event) (packet : Option Sent) (make : List ℕ → List ℕ)
-    → ((one : Sent) → packet ≡ Some one → IsHanded sent e one.port (make one.octets))
-    → (one : Sent) → packet ≡ Some one → IsHanded sent e one.port (make (octets_of packet))
+    → ((one : Sent) → packet ≡ Some one → IsDelivered sent e one.port (make one.octets))
+    → (one : Sent) → packet ≡ Some one → IsDelivered sent e one.port (make (octets_of packet))
 of_packet sent e packet make each one is = rw is (each one is)
 
-event_brings : (conversations : Conversations) (sent : List Sent) (e : Event) → MayBring sent e (call_of conversations sent e)
-event_brings conversations sent (event.Deliver n) =
-    with_brings sent _ (packet_numbered sent n) _ (of_packet sent _ _ (λ (o : List ℕ). o) (λ one is. delivered n one is))
-event_brings conversations sent (event.Alter n place mask) =
-    with_brings sent _ (packet_numbered sent n) _ (of_packet sent _ _ (λ (o : List ℕ). alteration o place mask) (λ one is. delivered_altered n place mask one is))
-event_brings conversations sent (event.Cut n keep) =
-    with_brings sent _ (packet_numbered sent n) _ (of_packet sent _ _ (λ (o : List ℕ). take keep o) (λ one is. delivered_cut n keep one is))
-event_brings conversations sent (event.Inject to octets) = may_bring sent _ _ (at_brings sent _ to octets (injected to octets))
-event_brings conversations sent (event.Timeout of) = may_bring sent _ _ (timer_brings sent _ of)
-event_brings conversations sent event.AaaTimeout = may_bring sent _ _ (brings_one sent _ _ (silent _ refl))
-event_brings conversations sent event.AaaNoReq = may_bring sent _ _ (brings_one sent _ _ (silent _ refl))
-event_brings conversations sent event.Idle = may_bring sent _ _ (brings_none sent _ _ refl)
-event_brings conversations sent event.AltAccept = may_bring sent _ _ (brings_none sent _ _ refl)
-event_brings conversations sent event.AltReject = may_bring sent _ _ (brings_none sent _ _ refl)
-event_brings conversations sent (event.Restart of) = restart_brings sent _ conversations of
+event_causes : (conversations : Conversations) (sent : List Sent) (e : Event) → MayCause sent e (call_of conversations sent e)
+event_causes conversations sent (event.Deliver n) =
+    with_causes sent _ (packet_numbered sent n) _ (of_packet sent _ _ (λ (o : List ℕ). o) (λ one is. delivered n one is))
+event_causes conversations sent (event.Alter n place mask) =
+    with_causes sent _ (packet_numbered sent n) _ (of_packet sent _ _ (λ (o : List ℕ). alteration o place mask) (λ one is. delivered_altered n place mask one is))
+event_causes conversations sent (event.Cut n keep) =
+    with_causes sent _ (packet_numbered sent n) _ (of_packet sent _ _ (λ (o : List ℕ). take keep o) (λ one is. delivered_cut n keep one is))
+event_causes conversations sent (event.Inject to octets) = may_cause sent _ _ (at_causes sent _ to octets (injected to octets))
+event_causes conversations sent (event.Timeout of) = may_cause sent _ _ (timer_causes sent _ of)
+event_causes conversations sent event.AaaTimeout = may_cause sent _ _ (causes_one sent _ _ (silent _ refl))
+event_causes conversations sent event.AaaNoReq = may_cause sent _ _ (causes_one sent _ _ (silent _ refl))
+event_causes conversations sent event.Idle = may_cause sent _ _ (causes_none sent _ _ refl)
+event_causes conversations sent event.AltAccept = may_cause sent _ _ (causes_none sent _ _ refl)
+event_causes conversations sent event.AltReject = may_cause sent _ _ (causes_none sent _ _ refl)
+event_causes conversations sent (event.Restart of) = restart_causes sent _ conversations of
 
-unless_brings : (sent : List Sent) (e : Event) (skip : Option Skip) (call : Option Call) → MayBring sent e call → All (IsOfEvent sent e) (came_unless skip call)
-unless_brings sent e (Some skip) call m = All-nil (IsOfEvent sent e)
-unless_brings sent e None call m = m.all
+unless_causes : (sent : List Sent) (e : Event) (skip : Option Skip) (call : Option Call) → MayCause sent e call → All (IsOfEvent sent e) (received_unless skip call)
+unless_causes sent e (Some skip) call m = All-nil (IsOfEvent sent e)
+unless_causes sent e None call m = m.all
 
-pub pass_is_handed : PassIsHanded
-pass_is_handed w e =
-    unless_brings w.sent e (first_skip (skip_table w.parties w.conversations w.sent e)) (call_of w.conversations w.sent e)
-    (event_brings w.conversations w.sent e)
+pub pass_is_delivered : PassIsDelivered
+pass_is_delivered w e =
+    unless_causes w.sent e (first_skip (skip_table w.parties w.conversations w.sent e)) (call_of w.conversations w.sent e)
+    (event_causes w.conversations w.sent e)

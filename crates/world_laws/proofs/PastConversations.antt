@@ -4,19 +4,19 @@ use Rattle.std.proofs.Common.{◌≡◌, ℕ, ◌+◌, ◌≤◌, ◌<◌, Bool,
 use Rattle.std.specs.Prelude.{◌⊎◌}
 use Rattle.eap_method.specs.declared.tags.TagRecord.{TagRecord}
 use Rattle.tag_book.specs.Book.{same_end}
-use Rattle.eap_world.specs.Conversations.{front, has_begun, is_used}
+use Rattle.eap_world.specs.Conversations.{front, has_initiated, is_used}
 use Rattle.world_laws.specs.Records.{IsIn, here, later}
 use Rattle.tag_book.specs.declared.book.End.{End}
-use Rattle.eap_world.specs.declared.conversations.Begun.{Begun}
+use Rattle.eap_world.specs.declared.conversations.ConversationStart.{ConversationStart}
 use Rattle.eap_world.specs.declared.conversations.Waiting.{Waiting}
-use Rattle.world_laws.proofs.NoncesLeft.{IsMarked, none_marked, now_begun, now_used, still_begun, still_used, used_front}
+use Rattle.world_laws.proofs.NoncesLeft.{IsMarked, none_marked, now_started, now_used, still_started, still_used, used_front}
 use Rattle.world_laws.proofs.TagsOfEnds.{is_in_front}
 
 -- ---- a record among joined lists
 
-pub in_behind : (t : TagRecord) (xs ys : List TagRecord) → IsIn t ys → IsIn t (xs ++ ys)
-in_behind t [] ys is = is
-in_behind t (x ∷ xs) ys is = later x (xs ++ ys) (in_behind t xs ys is)
+pub in_after : (t : TagRecord) (xs ys : List TagRecord) → IsIn t ys → IsIn t (xs ++ ys)
+in_after t [] ys is = is
+in_after t (x ∷ xs) ys is = later x (xs ++ ys) (in_after t xs ys is)
 
 one_in : (t x : TagRecord) (xs ys zs : List TagRecord) → IsIn t zs → zs ≡ x ∷ (xs ++ ys) → (IsIn t (xs ++ ys) → IsIn t xs ⊎ IsIn t ys) → IsIn t (x ∷ xs) ⊎ IsIn t ys
 one_in t x xs ys _ (here rest) e more = inl (let same : t ≡ x = cc in subst (λ (u : TagRecord). IsIn t (u ∷ xs)) same (here xs))
@@ -38,7 +38,7 @@ pub record Moment : Type 0 where
   pub other_since : ℕ
   pub other_nonce : List ℕ
   pub other_left : List Waiting
-  pub begun : List Begun
+  pub begun : List ConversationStart
   pub fresh : Bool
   pub events : ℕ
 
@@ -64,7 +64,7 @@ pub record Stays (m n : Moment) : Type 0 where
   pub left : (held : Option (List ℕ)) → IsMarked m.other_left held → IsMarked n.other_left held
 
 -- the end begins another
-pub record Begins (m n : Moment) (b : Begun) : Type 0 where
+pub record StartsAt (m n : Moment) (b : ConversationStart) : Type 0 where
   pub of : n.of ≡ m.of
   pub own : same_end b.end m.of ≡ true
   pub since : n.since ≡ m.events + 1
@@ -78,7 +78,7 @@ pub record Begins (m n : Moment) (b : Begun) : Type 0 where
   pub left : n.other_left ≡ m.other_left
 
 -- the other end begins another
-pub record OtherBegins (m n : Moment) (b : Begun) : Type 0 where
+pub record OtherStarts (m n : Moment) (b : ConversationStart) : Type 0 where
   pub of : n.of ≡ m.of
   pub since : n.since ≡ m.since
   pub nonce : n.nonce ≡ m.nonce
@@ -96,7 +96,7 @@ module _ (Told : List ℕ → Option (List ℕ) → List TagRecord → List TagR
     pub told : Told k.nonce k.held k.accepted k.made
     pub ended : k.until ≤ m.since
     pub used : is_used m.begun k.nonce ≡ true
-    pub began : has_begun m.of k.nonce m.begun ≡ true
+    pub began : has_initiated m.of k.nonce m.begun ≡ true
     pub marked : IsMarked m.other_left k.held
     pub differs : m.fresh ≡ true → front k.nonce ≡ front m.nonce → ⊥
     -- one that holds the nonce of the other end's present conversation ended after that began
@@ -109,20 +109,20 @@ module _ (Told : List ℕ → Option (List ℕ) → List TagRecord → List TagR
         → Pasts m (accepted ++ k.accepted) (made ++ k.made)
 
   -- the present conversation, of which Now holds, and the past ones: their tags are all that the end accepted and made
-  pub record Conversed (m : Moment) (Now : Option (List ℕ) → List TagRecord → List TagRecord → Type 0) (all_accepted all_made : List TagRecord) : Type 0 where
+  pub record Conversed (m : Moment) (Now : Option (List ℕ) → List TagRecord → List TagRecord → Type 0) (all_accepted all_produced : List TagRecord) : Type 0 where
     pub held : Option (List ℕ)
     pub accepted : List TagRecord
     pub made : List TagRecord
     pub past_accepted : List TagRecord
-    pub past_made : List TagRecord
+    pub past_created : List TagRecord
     pub now : Now held accepted made
     pub told : Told m.nonce held accepted made
-    pub pasts : Pasts m past_accepted past_made
+    pub pasts : Pasts m past_accepted past_created
     pub accepted_is : all_accepted ≡ past_accepted ++ accepted
-    pub made_is : all_made ≡ past_made ++ made
+    pub made_is : all_produced ≡ past_created ++ made
     pub size : length m.nonce ≡ 32
     pub used : is_used m.begun m.nonce ≡ true
-    pub began : has_begun m.of m.nonce m.begun ≡ true
+    pub began : has_initiated m.of m.nonce m.begun ≡ true
     pub since : m.since ≤ m.events
     pub marked : IsMarked m.other_left held
 
@@ -145,21 +145,21 @@ module _ (Told : List ℕ → Option (List ℕ) → List TagRecord → List TagR
   }
 
   pub goes_on : (m n : Moment) (Now Next : Option (List ℕ) → List TagRecord → List TagRecord → Type 0) → Stays m n
-      → (all_accepted all_made next_accepted next_made : List TagRecord) → (part : Conversed m Now all_accepted all_made)
+      → (all_accepted all_produced next_accepted next_made : List TagRecord) → (part : Conversed m Now all_accepted all_produced)
       → (held : Option (List ℕ)) (accepted made : List TagRecord) → Next held (part.accepted ++ accepted) (part.made ++ made)
       → Told m.nonce held (part.accepted ++ accepted) (part.made ++ made) → IsMarked n.other_left held
-      → next_accepted ≡ all_accepted ++ accepted → next_made ≡ all_made ++ made → Conversed n Next next_accepted next_made
-  goes_on m n Now Next s all_accepted all_made next_accepted next_made part held accepted made now told marked more_accepted more_made = record {
+      → next_accepted ≡ all_accepted ++ accepted → next_made ≡ all_produced ++ made → Conversed n Next next_accepted next_made
+  goes_on m n Now Next s all_accepted all_produced next_accepted next_made part held accepted made now told marked more_accepted more_made = record {
     held = held;
     accepted = part.accepted ++ accepted;
     made = part.made ++ made;
     past_accepted = part.past_accepted;
-    past_made = part.past_made;
+    past_created = part.past_created;
     now = now;
     told = rw s.nonce told;
-    pasts = map_pasts m n (past_stays m n s) part.past_accepted part.past_made part.pasts;
+    pasts = map_pasts m n (past_stays m n s) part.past_accepted part.past_created part.pasts;
     accepted_is = more_accepted ∙ (ap (λ (l : List TagRecord). l ++ accepted) part.accepted_is ∙ append_assoc part.past_accepted part.accepted accepted);
-    made_is = more_made ∙ (ap (λ (l : List TagRecord). l ++ made) part.made_is ∙ append_assoc part.past_made part.made made);
+    made_is = more_made ∙ (ap (λ (l : List TagRecord). l ++ made) part.made_is ∙ append_assoc part.past_created part.made made);
     size = rw s.nonce part.size;
     used = rw (s.begun, s.nonce) part.used;
     began = rw (s.of, s.begun, s.nonce) part.began;
@@ -170,17 +170,17 @@ module _ (Told : List ℕ → Option (List ℕ) → List TagRecord → List TagR
   -- another party acts
   pub stays_on : (m n : Moment) (Now Next : Option (List ℕ) → List TagRecord → List TagRecord → Type 0) → Stays m n
       → ((held : Option (List ℕ)) (accepted made : List TagRecord) → Now held accepted made → Next held accepted made)
-      → (all_accepted all_made next_accepted next_made : List TagRecord) → Conversed m Now all_accepted all_made
-      → next_accepted ≡ all_accepted → next_made ≡ all_made → Conversed n Next next_accepted next_made
-  stays_on m n Now Next s each all_accepted all_made next_accepted next_made part same_accepted same_made = record {
+      → (all_accepted all_produced next_accepted next_made : List TagRecord) → Conversed m Now all_accepted all_produced
+      → next_accepted ≡ all_accepted → next_made ≡ all_produced → Conversed n Next next_accepted next_made
+  stays_on m n Now Next s each all_accepted all_produced next_accepted next_made part same_accepted same_made = record {
     held = part.held;
     accepted = part.accepted;
     made = part.made;
     past_accepted = part.past_accepted;
-    past_made = part.past_made;
+    past_created = part.past_created;
     now = each part.held part.accepted part.made part.now;
     told = rw s.nonce part.told;
-    pasts = map_pasts m n (past_stays m n s) part.past_accepted part.past_made part.pasts;
+    pasts = map_pasts m n (past_stays m n s) part.past_accepted part.past_created part.pasts;
     accepted_is = same_accepted ∙ part.accepted_is;
     made_is = same_made ∙ part.made_is;
     size = rw s.nonce part.size;
@@ -192,30 +192,30 @@ module _ (Told : List ℕ → Option (List ℕ) → List TagRecord → List TagR
 
   -- ---- this end begins another
 
-  past_begins : (m n : Moment) (b : Begun) → Begins m n b → m.since ≤ m.events → (k : PastConversation) → Past m k → Past n k
-  past_begins m n b s began k p = record {
+  past_starts : (m n : Moment) (b : ConversationStart) → StartsAt m n b → m.since ≤ m.events → (k : PastConversation) → Past m k → Past n k
+  past_starts m n b s began k p = record {
     size = p.size;
     told = p.told;
     ended = rw s.since (omega (arith, p.ended, began));
     used = rw s.begun (still_used m.begun b k.nonce p.used);
-    began = rw (s.of, s.begun) (still_begun m.of m.begun b k.nonce p.began);
+    began = rw (s.of, s.begun) (still_started m.of m.begun b k.nonce p.began);
     marked = rw s.left p.marked;
     differs = λ fresh same. s.unused fresh (sym (used_front m.begun k.nonce b.nonce (same ∙ ap front s.nonce)) ∙ p.used);
     later = λ fresh is_held. rw s.other_since (p.later (s.was_fresh fresh) (is_held ∙ ap (λ (x : List ℕ). Some (front x)) s.other_nonce));
   }
 
-  pub begins_another : (m n : Moment) (Now Next : Option (List ℕ) → List TagRecord → List TagRecord → Type 0) (b : Begun) → Begins m n b
+  pub starts_another : (m n : Moment) (Now Next : Option (List ℕ) → List TagRecord → List TagRecord → Type 0) (b : ConversationStart) → StartsAt m n b
       → length b.nonce ≡ 32 → m.other_since ≤ m.events
-      → (all_accepted all_made : List TagRecord) → Conversed m Now all_accepted all_made → Next None [] [] → Told b.nonce None [] []
-      → Conversed n Next all_accepted all_made
-  begins_another m n Now Next b s size other_began all_accepted all_made part now told =
+      → (all_accepted all_produced : List TagRecord) → Conversed m Now all_accepted all_produced → Next None [] [] → Told b.nonce None [] []
+      → Conversed n Next all_accepted all_produced
+  starts_another m n Now Next b s size other_began all_accepted all_produced part now told =
       let k : PastConversation = record { nonce = m.nonce; until = m.events + 1; held = part.held; accepted = part.accepted; made = part.made } in
       let holds : Past n k = record {
         size = part.size;
         told = part.told;
         ended = rw s.since (omega arith);
         used = rw s.begun (still_used m.begun b m.nonce part.used);
-        began = rw (s.of, s.begun) (still_begun m.of m.begun b m.nonce part.began);
+        began = rw (s.of, s.begun) (still_started m.of m.begun b m.nonce part.began);
         marked = rw s.left part.marked;
         differs = λ fresh same. s.unused fresh (sym (used_front m.begun m.nonce b.nonce (same ∙ ap front s.nonce)) ∙ part.used);
         later = λ fresh is_held. rw s.other_since (omega (arith, other_began));
@@ -225,49 +225,49 @@ module _ (Told : List ℕ → Option (List ℕ) → List TagRecord → List TagR
         accepted = [];
         made = [];
         past_accepted = part.past_accepted ++ part.accepted;
-        past_made = part.past_made ++ part.made;
+        past_created = part.past_created ++ part.made;
         now = now;
         told = rw s.nonce told;
-        pasts = one_more part.past_accepted part.past_made k (map_pasts m n (past_begins m n b s part.since) part.past_accepted part.past_made part.pasts) holds;
+        pasts = one_more part.past_accepted part.past_created k (map_pasts m n (past_starts m n b s part.since) part.past_accepted part.past_created part.pasts) holds;
         accepted_is = part.accepted_is ∙ sym (append-nil (part.past_accepted ++ part.accepted));
-        made_is = part.made_is ∙ sym (append-nil (part.past_made ++ part.made));
+        made_is = part.made_is ∙ sym (append-nil (part.past_created ++ part.made));
         size = rw s.nonce size;
         used = rw (s.begun, s.nonce) (now_used m.begun b);
-        began = rw (s.of, s.begun, s.nonce) (now_begun m.of m.begun b s.own);
+        began = rw (s.of, s.begun, s.nonce) (now_started m.of m.begun b s.own);
         since = rw (s.since, s.events) (omega arith);
         marked = none_marked n.other_left;
       }
 
   -- ---- the other end begins another
 
-  past_other : (m n : Moment) (b : Begun) → OtherBegins m n b → (k : PastConversation) → Past m k → Past n k
+  past_other : (m n : Moment) (b : ConversationStart) → OtherStarts m n b → (k : PastConversation) → Past m k → Past n k
   past_other m n b s k p = record {
     size = p.size;
     told = p.told;
     ended = rw s.since p.ended;
     used = rw s.begun (still_used m.begun b k.nonce p.used);
-    began = rw (s.of, s.begun) (still_begun m.of m.begun b k.nonce p.began);
+    began = rw (s.of, s.begun) (still_started m.of m.begun b k.nonce p.began);
     marked = s.left k.held p.marked;
     differs = λ fresh. rw s.nonce (p.differs (s.was_fresh fresh));
     later = λ fresh is_held. absurd (s.unheard fresh k.held p.marked (is_held ∙ ap (λ (x : List ℕ). Some (front x)) s.other_nonce));
   }
 
-  pub other_begins : (m n : Moment) (Now : Option (List ℕ) → List TagRecord → List TagRecord → Type 0) (b : Begun) → OtherBegins m n b
-      → (all_accepted all_made : List TagRecord) → Conversed m Now all_accepted all_made → Conversed n Now all_accepted all_made
-  other_begins m n Now b s all_accepted all_made part = record {
+  pub other_starts : (m n : Moment) (Now : Option (List ℕ) → List TagRecord → List TagRecord → Type 0) (b : ConversationStart) → OtherStarts m n b
+      → (all_accepted all_produced : List TagRecord) → Conversed m Now all_accepted all_produced → Conversed n Now all_accepted all_produced
+  other_starts m n Now b s all_accepted all_produced part = record {
     held = part.held;
     accepted = part.accepted;
     made = part.made;
     past_accepted = part.past_accepted;
-    past_made = part.past_made;
+    past_created = part.past_created;
     now = part.now;
     told = rw s.nonce part.told;
-    pasts = map_pasts m n (past_other m n b s) part.past_accepted part.past_made part.pasts;
+    pasts = map_pasts m n (past_other m n b s) part.past_accepted part.past_created part.pasts;
     accepted_is = part.accepted_is;
     made_is = part.made_is;
     size = rw s.nonce part.size;
     used = rw (s.begun, s.nonce) (still_used m.begun b m.nonce part.used);
-    began = rw (s.of, s.begun, s.nonce) (still_begun m.of m.begun b m.nonce part.began);
+    began = rw (s.of, s.begun, s.nonce) (still_started m.of m.begun b m.nonce part.began);
     since = rw (s.since, s.events) (omega (arith, part.since));
     marked = s.left part.held part.marked;
   }
@@ -275,81 +275,81 @@ module _ (Told : List ℕ → Option (List ℕ) → List TagRecord → List TagR
   -- ---- where a tag comes from
 
   -- a past conversation made it
-  pub record FromPast (m : Moment) (past_accepted past_made : List TagRecord) (t : TagRecord) : Type 0 where
+  pub record FromPast (m : Moment) (past_accepted past_created : List TagRecord) (t : TagRecord) : Type 0 where
     pub conversation : PastConversation
     pub holds : Past m conversation
     pub is_made : IsIn t conversation.made
     pub listed : (r : TagRecord) → IsIn r conversation.accepted → IsIn r past_accepted
-    pub listed_made : (r : TagRecord) → IsIn r conversation.made → IsIn r past_made
+    pub listed_created : (r : TagRecord) → IsIn r conversation.made → IsIn r past_created
 
-  made_before : (m : Moment) (accepted made : List TagRecord) → Pasts m accepted made → (t : TagRecord) → IsIn t made → FromPast m accepted made t
-  made_before m _ _ no_past t is = elim is [ ]
-  made_before m _ _ (one_more accepted made k earlier holds) t is =
+  created_before : (m : Moment) (accepted made : List TagRecord) → Pasts m accepted made → (t : TagRecord) → IsIn t made → FromPast m accepted made t
+  created_before m _ _ no_past t is = elim is [ ]
+  created_before m _ _ (one_more accepted made k earlier holds) t is =
       elim (in_either t made k.made is) [
-        | inl before ↦ let f = made_before m accepted made earlier t before in
+        | inl before ↦ let f = created_before m accepted made earlier t before in
             record {
               conversation = f.conversation;
               holds = f.holds;
               is_made = f.is_made;
               listed = λ r own. is_in_front r accepted k.accepted (f.listed r own);
-              listed_made = λ r own. is_in_front r made k.made (f.listed_made r own);
+              listed_created = λ r own. is_in_front r made k.made (f.listed_created r own);
             }
         | inr now ↦ record {
           conversation = k;
           holds = holds;
           is_made = now;
-          listed = λ r own. in_behind r accepted k.accepted own;
-          listed_made = λ r own. in_behind r made k.made own;
+          listed = λ r own. in_after r accepted k.accepted own;
+          listed_created = λ r own. in_after r made k.made own;
         }
       ]
 
-  pub where_made : (m : Moment) (Now : Option (List ℕ) → List TagRecord → List TagRecord → Type 0) (all_accepted all_made : List TagRecord)
-      → (part : Conversed m Now all_accepted all_made) → (t : TagRecord) → IsIn t all_made
-      → IsIn t part.made ⊎ FromPast m part.past_accepted part.past_made t
-  where_made m Now all_accepted all_made part t is =
-      elim (in_either t part.past_made part.made (subst (λ (l : List TagRecord). IsIn t l) part.made_is is)) [
-        | inl before ↦ inr (made_before m part.past_accepted part.past_made part.pasts t before)
+  pub where_created : (m : Moment) (Now : Option (List ℕ) → List TagRecord → List TagRecord → Type 0) (all_accepted all_produced : List TagRecord)
+      → (part : Conversed m Now all_accepted all_produced) → (t : TagRecord) → IsIn t all_produced
+      → IsIn t part.made ⊎ FromPast m part.past_accepted part.past_created t
+  where_created m Now all_accepted all_produced part t is =
+      elim (in_either t part.past_created part.made (subst (λ (l : List TagRecord). IsIn t l) part.made_is is)) [
+        | inl before ↦ inr (created_before m part.past_accepted part.past_created part.pasts t before)
         | inr now ↦ inl now
       ]
 
   -- what a conversation accepted is among all that the end accepted
-  pub accepted_now : (m : Moment) (Now : Option (List ℕ) → List TagRecord → List TagRecord → Type 0) (all_accepted all_made : List TagRecord)
-      → (part : Conversed m Now all_accepted all_made) → (t : TagRecord) → IsIn t part.accepted → IsIn t all_accepted
-  accepted_now m Now all_accepted all_made part t is =
-      subst (λ (l : List TagRecord). IsIn t l) (sym part.accepted_is) (in_behind t part.past_accepted part.accepted is)
+  pub accepted_now : (m : Moment) (Now : Option (List ℕ) → List TagRecord → List TagRecord → Type 0) (all_accepted all_produced : List TagRecord)
+      → (part : Conversed m Now all_accepted all_produced) → (t : TagRecord) → IsIn t part.accepted → IsIn t all_accepted
+  accepted_now m Now all_accepted all_produced part t is =
+      subst (λ (l : List TagRecord). IsIn t l) (sym part.accepted_is) (in_after t part.past_accepted part.accepted is)
 
-  pub accepted_before : (m : Moment) (Now : Option (List ℕ) → List TagRecord → List TagRecord → Type 0) (all_accepted all_made : List TagRecord)
-      → (part : Conversed m Now all_accepted all_made) → (t : TagRecord) → IsIn t part.past_accepted → IsIn t all_accepted
-  accepted_before m Now all_accepted all_made part t is =
+  pub accepted_before : (m : Moment) (Now : Option (List ℕ) → List TagRecord → List TagRecord → Type 0) (all_accepted all_produced : List TagRecord)
+      → (part : Conversed m Now all_accepted all_produced) → (t : TagRecord) → IsIn t part.past_accepted → IsIn t all_accepted
+  accepted_before m Now all_accepted all_produced part t is =
       subst (λ (l : List TagRecord). IsIn t l) (sym part.accepted_is) (is_in_front t part.past_accepted part.accepted is)
 
-  pub made_now : (m : Moment) (Now : Option (List ℕ) → List TagRecord → List TagRecord → Type 0) (all_accepted all_made : List TagRecord)
-      → (part : Conversed m Now all_accepted all_made) → (t : TagRecord) → IsIn t part.made → IsIn t all_made
-  made_now m Now all_accepted all_made part t is =
-      subst (λ (l : List TagRecord). IsIn t l) (sym part.made_is) (in_behind t part.past_made part.made is)
+  pub created_now : (m : Moment) (Now : Option (List ℕ) → List TagRecord → List TagRecord → Type 0) (all_accepted all_produced : List TagRecord)
+      → (part : Conversed m Now all_accepted all_produced) → (t : TagRecord) → IsIn t part.made → IsIn t all_produced
+  created_now m Now all_accepted all_produced part t is =
+      subst (λ (l : List TagRecord). IsIn t l) (sym part.made_is) (in_after t part.past_created part.made is)
 
-  made_earlier : (m : Moment) (Now : Option (List ℕ) → List TagRecord → List TagRecord → Type 0) (all_accepted all_made : List TagRecord)
-      → (part : Conversed m Now all_accepted all_made) → (t : TagRecord) → IsIn t part.past_made → IsIn t all_made
-  made_earlier m Now all_accepted all_made part t is =
-      subst (λ (l : List TagRecord). IsIn t l) (sym part.made_is) (is_in_front t part.past_made part.made is)
+  created_earlier : (m : Moment) (Now : Option (List ℕ) → List TagRecord → List TagRecord → Type 0) (all_accepted all_produced : List TagRecord)
+      → (part : Conversed m Now all_accepted all_produced) → (t : TagRecord) → IsIn t part.past_created → IsIn t all_produced
+  created_earlier m Now all_accepted all_produced part t is =
+      subst (λ (l : List TagRecord). IsIn t l) (sym part.made_is) (is_in_front t part.past_created part.made is)
 
   -- the conversation that made it, present or past
-  pub record MadeIn (m : Moment) (all_accepted all_made : List TagRecord) (t : TagRecord) : Type 0 where
+  pub record CreatedIn (m : Moment) (all_accepted all_produced : List TagRecord) (t : TagRecord) : Type 0 where
     pub nonce : List ℕ
     pub size : length nonce ≡ 32
-    pub began : has_begun m.of nonce m.begun ≡ true
+    pub began : has_initiated m.of nonce m.begun ≡ true
     pub held : Option (List ℕ)
     pub accepted : List TagRecord
     pub made : List TagRecord
     pub told : Told nonce held accepted made
     pub is_made : IsIn t made
     pub of_accepted : (r : TagRecord) → IsIn r accepted → IsIn r all_accepted
-    pub of_made : (r : TagRecord) → IsIn r made → IsIn r all_made
+    pub of_created : (r : TagRecord) → IsIn r made → IsIn r all_produced
 
-  pub made_in : (m : Moment) (Now : Option (List ℕ) → List TagRecord → List TagRecord → Type 0) (all_accepted all_made : List TagRecord)
-      → (part : Conversed m Now all_accepted all_made) → (t : TagRecord) → IsIn t all_made → MadeIn m all_accepted all_made t
-  made_in m Now all_accepted all_made part t is =
-      elim (where_made m Now all_accepted all_made part t is) [
+  pub made_in : (m : Moment) (Now : Option (List ℕ) → List TagRecord → List TagRecord → Type 0) (all_accepted all_produced : List TagRecord)
+      → (part : Conversed m Now all_accepted all_produced) → (t : TagRecord) → IsIn t all_produced → CreatedIn m all_accepted all_produced t
+  made_in m Now all_accepted all_produced part t is =
+      elim (where_created m Now all_accepted all_produced part t is) [
         | inl now ↦ record {
           nonce = m.nonce;
           size = part.size;
@@ -359,8 +359,8 @@ module _ (Told : List ℕ → Option (List ℕ) → List TagRecord → List TagR
           made = part.made;
           told = part.told;
           is_made = now;
-          of_accepted = accepted_now m Now all_accepted all_made part;
-          of_made = made_now m Now all_accepted all_made part;
+          of_accepted = accepted_now m Now all_accepted all_produced part;
+          of_created = created_now m Now all_accepted all_produced part;
         }
         | inr past ↦ record {
           nonce = past.conversation.nonce;
@@ -371,7 +371,7 @@ module _ (Told : List ℕ → Option (List ℕ) → List TagRecord → List TagR
           made = past.conversation.made;
           told = past.holds.told;
           is_made = past.is_made;
-          of_accepted = λ r own. accepted_before m Now all_accepted all_made part r (past.listed r own);
-          of_made = λ r own. made_earlier m Now all_accepted all_made part r (past.listed_made r own);
+          of_accepted = λ r own. accepted_before m Now all_accepted all_produced part r (past.listed r own);
+          of_created = λ r own. created_earlier m Now all_accepted all_produced part r (past.listed_created r own);
         }
       ]

@@ -8,7 +8,7 @@ use Rattle.eap_packet.specs.declared.cause.Cause.{Cause}
 use Rattle.eap_method.specs.declared.tags.TagRecord.{TagRecord}
 use Rattle.eap_method.specs.GpskPeer as gpsk
 use Rattle.eap_method.specs.PskPeer as psk
-use Rattle.eap_method.specs.Peer.{PeerViews, views_begun, psk_turn, gpsk_turn, peer_turn}
+use Rattle.eap_method.specs.Peer.{PeerViews, views_started, psk_turn, gpsk_turn, peer_turn}
 use Rattle.eap_method.specs.Turns.{PeerOutcome, body_of, discarded}
 use Rattle.method_laws.specs.GpskPeerRows.{GpskPeerRow}
 use Rattle.method_laws.specs.PskPeerRows.{PskPeerRow}
@@ -17,15 +17,15 @@ use Rattle.method_laws.proofs.PskPeerCases.{psk_peer_steps_are_rows}
 use Rattle.peer_machine.specs.PeerTable.{PeerNow}
 use Rattle.peer_machine.specs.Rows.{Calls, again, first}
 use Rattle.world_laws.specs.ByMethod.{PeerHasSucceeded, PeerTags, by_kind, gpsk_peer_succeeded, gpsk_selected, none_selected, peer_foreign_of, psk_peer_succeeded, psk_selected}
-use Rattle.world_laws.specs.GpskPeerStands.{GpskPeerTags}
-use Rattle.world_laws.specs.PskPeerStands.{PskPeerTags}
+use Rattle.world_laws.specs.GpskPeerInvariant.{GpskPeerTags}
+use Rattle.world_laws.specs.PskPeerInvariant.{PskPeerTags}
 use Rattle.world_laws.specs.Records.{AreFew, IsIn}
 use Rattle.world_laws.specs.SingleSteps.{identifier_of}
-use Rattle.world_laws.proofs.GpskPeerTurns.{gpsk_begun, gpsk_few, gpsk_heard, gpsk_method, gpsk_none, gpsk_responds, gpsk_turned}
-use Rattle.world_laws.proofs.Hearing.{Hears, as_before}
+use Rattle.world_laws.proofs.GpskPeerTurns.{gpsk_started, gpsk_few, gpsk_from_sender, gpsk_method, gpsk_none, gpsk_responds, gpsk_turned}
+use Rattle.world_laws.proofs.Receiving.{Receives, as_before}
 use Rattle.world_laws.proofs.OneMethod.{apart}
 use Rattle.world_laws.proofs.PeerTurns.{Answers, Turned, carried, discards_none, drops}
-use Rattle.world_laws.proofs.PskPeerTurns.{psk_begun, psk_few, psk_heard, psk_method, psk_none, psk_responds, psk_turned}
+use Rattle.world_laws.proofs.PskPeerTurns.{psk_started, psk_few, psk_from_sender, psk_method, psk_none, psk_responds, psk_turned}
 
 pub kinds_apart : {A : Type 0} (k : ℕ) → k ≡ psk_kind → k ≡ gpsk_kind → A
 kinds_apart k is_psk is_gpsk = absurd (omega (arith, is_psk, is_gpsk))
@@ -53,21 +53,21 @@ turn_answers kind views octets _ (of_gpsk same out row) = gpsk_responds views.gp
 turn_answers kind views octets _ (of_none c) = discards_none _ c
 
 -- of the nonce it holds what it held, or what came
-pub turn_heard : (kind : ℕ) (views : PeerViews) (octets : List ℕ) (out : PeerOutcome PeerViews) → TurnOf kind views octets out
-    → Hears (Some (body_of octets)) (peer_foreign_of views kind) (peer_foreign_of out.after kind)
-turn_heard kind views octets _ (of_psk same out row) =
-    subst (λ (k : ℕ). Hears (Some (body_of octets)) (peer_foreign_of views k) (peer_foreign_of (psk_turn views out).after k)) (sym same)
-    (psk_heard octets views.psk out row)
-turn_heard kind views octets _ (of_gpsk same out row) =
-    subst (λ (k : ℕ). Hears (Some (body_of octets)) (peer_foreign_of views k) (peer_foreign_of (gpsk_turn views out).after k)) (sym same)
-    (gpsk_heard octets views.gpsk out row)
-turn_heard kind views octets _ (of_none c) = as_before refl
+pub turn_received : (kind : ℕ) (views : PeerViews) (octets : List ℕ) (out : PeerOutcome PeerViews) → TurnOf kind views octets out
+    → Receives (Some (body_of octets)) (peer_foreign_of views kind) (peer_foreign_of out.after kind)
+turn_received kind views octets _ (of_psk same out row) =
+    subst (λ (k : ℕ). Receives (Some (body_of octets)) (peer_foreign_of views k) (peer_foreign_of (psk_turn views out).after k)) (sym same)
+    (psk_from_sender octets views.psk out row)
+turn_received kind views octets _ (of_gpsk same out row) =
+    subst (λ (k : ℕ). Receives (Some (body_of octets)) (peer_foreign_of views k) (peer_foreign_of (gpsk_turn views out).after k)) (sym same)
+    (gpsk_from_sender octets views.gpsk out row)
+turn_received kind views octets _ (of_none c) = as_before refl
 
 -- ---- the nonce of a Type
 
 -- a nonce is held by a method
-pub method_holds : (kind : ℕ) (psk gpsk : Option (List ℕ)) (x : List ℕ) → by_kind (kind == psk_kind) (kind == gpsk_kind) psk gpsk ≡ Some x → is_kind kind ≡ true
-method_holds kind psk gpsk x = by (kind == psk_kind) (kind == gpsk_kind)
+pub method_satisfies : (kind : ℕ) (psk gpsk : Option (List ℕ)) (x : List ℕ) → by_kind (kind == psk_kind) (kind == gpsk_kind) psk gpsk ≡ Some x → is_kind kind ≡ true
+method_satisfies kind psk gpsk x = by (kind == psk_kind) (kind == gpsk_kind)
   where
     by : (a b : Bool) → by_kind a b psk gpsk ≡ Some x → (a || b) ≡ true
     by true b e = refl
@@ -81,46 +81,46 @@ none_by false false psk gpsk p g = refl
 
 pub unselected_none : (setup : PeerSetup) (selected : Option ℕ) (views : PeerViews) (accepted made : List TagRecord) (kind : ℕ)
     → PeerTags setup selected views accepted made → selected ≡ None → peer_foreign_of views kind ≡ None
-unselected_none setup selected views _ _ kind (none_selected unselected psk_told gpsk_told) e =
-    none_by (kind == psk_kind) (kind == gpsk_kind) _ _ (psk_none setup views.psk _ _ psk_told refl) (gpsk_none setup views.gpsk _ _ gpsk_told refl)
+unselected_none setup selected views _ _ kind (none_selected unselected psk_verdict gpsk_verdict) e =
+    none_by (kind == psk_kind) (kind == gpsk_kind) _ _ (psk_none setup views.psk _ _ psk_verdict refl) (gpsk_none setup views.gpsk _ _ gpsk_verdict refl)
 unselected_none setup selected views _ _ kind (psk_selected accepted made is_selected told) e = absurd cc
 unselected_none setup selected views _ _ kind (gpsk_selected accepted made is_selected told) e = absurd cc
 
 -- ---- the tags
 
-pub begun_tags : (setup : PeerSetup) → PeerTags setup None (views_begun setup) [] []
-unfolding views_begun
-begun_tags setup = none_selected refl (psk_begun setup _ refl) (gpsk_begun setup _ refl)
+pub started_tags : (setup : PeerSetup) → PeerTags setup None (views_started setup) [] []
+unfolding views_started
+started_tags setup = none_selected refl (psk_started setup _ refl) (gpsk_started setup _ refl)
 
 -- what the method that isn't excluded tells
-pub told_by_psk : (setup : PeerSetup) (selected : Option ℕ) (views : PeerViews) (accepted made : List TagRecord) → (selected ≡ Some gpsk_kind → ⊥)
+pub reported_by_psk : (setup : PeerSetup) (selected : Option ℕ) (views : PeerViews) (accepted made : List TagRecord) → (selected ≡ Some gpsk_kind → ⊥)
     → PeerTags setup selected views accepted made → PskPeerTags setup views.psk accepted made
-told_by_psk setup selected views _ _ alone (none_selected unselected psk_told gpsk_told) = psk_told
-told_by_psk setup selected views _ _ alone (psk_selected accepted made is_selected told) = told
-told_by_psk setup selected views _ _ alone (gpsk_selected accepted made is_selected told) = absurd (alone is_selected)
+reported_by_psk setup selected views _ _ alone (none_selected unselected psk_verdict gpsk_verdict) = psk_verdict
+reported_by_psk setup selected views _ _ alone (psk_selected accepted made is_selected told) = told
+reported_by_psk setup selected views _ _ alone (gpsk_selected accepted made is_selected told) = absurd (alone is_selected)
 
-pub told_by_gpsk : (setup : PeerSetup) (selected : Option ℕ) (views : PeerViews) (accepted made : List TagRecord) → (selected ≡ Some psk_kind → ⊥)
+pub reported_by_gpsk : (setup : PeerSetup) (selected : Option ℕ) (views : PeerViews) (accepted made : List TagRecord) → (selected ≡ Some psk_kind → ⊥)
     → PeerTags setup selected views accepted made → GpskPeerTags setup views.gpsk accepted made
-told_by_gpsk setup selected views _ _ alone (none_selected unselected psk_told gpsk_told) = gpsk_told
-told_by_gpsk setup selected views _ _ alone (psk_selected accepted made is_selected told) = absurd (alone is_selected)
-told_by_gpsk setup selected views _ _ alone (gpsk_selected accepted made is_selected told) = told
+reported_by_gpsk setup selected views _ _ alone (none_selected unselected psk_verdict gpsk_verdict) = gpsk_verdict
+reported_by_gpsk setup selected views _ _ alone (psk_selected accepted made is_selected told) = absurd (alone is_selected)
+reported_by_gpsk setup selected views _ _ alone (gpsk_selected accepted made is_selected told) = told
 
 -- what the method of a tag tells
-pub made_by_psk : (setup : PeerSetup) (selected : Option ℕ) (views : PeerViews) (accepted made : List TagRecord) (t : TagRecord)
+pub created_by_psk : (setup : PeerSetup) (selected : Option ℕ) (views : PeerViews) (accepted made : List TagRecord) (t : TagRecord)
     → PeerTags setup selected views accepted made → IsIn t made → t.method ≡ psk_kind
     → (selected ≡ Some psk_kind) × PskPeerTags setup views.psk accepted made
-made_by_psk setup selected views _ _ t (none_selected unselected psk_told gpsk_told) is same = elim is [ ]
-made_by_psk setup selected views _ _ t (psk_selected accepted made is_selected told) is same = (is_selected, told)
-made_by_psk setup selected views _ _ t (gpsk_selected accepted made is_selected told) is same =
+created_by_psk setup selected views _ _ t (none_selected unselected psk_verdict gpsk_verdict) is same = elim is [ ]
+created_by_psk setup selected views _ _ t (psk_selected accepted made is_selected told) is same = (is_selected, told)
+created_by_psk setup selected views _ _ t (gpsk_selected accepted made is_selected told) is same =
     kinds_apart t.method same (gpsk_method setup views.gpsk accepted made t told is)
 
-pub made_by_gpsk : (setup : PeerSetup) (selected : Option ℕ) (views : PeerViews) (accepted made : List TagRecord) (t : TagRecord)
+pub created_by_gpsk : (setup : PeerSetup) (selected : Option ℕ) (views : PeerViews) (accepted made : List TagRecord) (t : TagRecord)
     → PeerTags setup selected views accepted made → IsIn t made → t.method ≡ gpsk_kind
     → (selected ≡ Some gpsk_kind) × GpskPeerTags setup views.gpsk accepted made
-made_by_gpsk setup selected views _ _ t (none_selected unselected psk_told gpsk_told) is same = elim is [ ]
-made_by_gpsk setup selected views _ _ t (psk_selected accepted made is_selected told) is same =
+created_by_gpsk setup selected views _ _ t (none_selected unselected psk_verdict gpsk_verdict) is same = elim is [ ]
+created_by_gpsk setup selected views _ _ t (psk_selected accepted made is_selected told) is same =
     kinds_apart t.method (psk_method setup views.psk accepted made t told is) same
-made_by_gpsk setup selected views _ _ t (gpsk_selected accepted made is_selected told) is same = (is_selected, told)
+created_by_gpsk setup selected views _ _ t (gpsk_selected accepted made is_selected told) is same = (is_selected, told)
 
 -- a method is called only where no other is selected
 alone : {selects : Bool} (now : PeerNow) (kind called other : ℕ) → Calls now kind selects → kind ≡ called → (called == other) ≡ false
@@ -141,17 +141,17 @@ method_turned setup now accepted made tags selects kind octets _ calls (of_psk s
     carried (λ (view : psk.View). record now.views { psk = view }) (λ view a m told. psk_selected a m is told)
     (λ view well. psk_peer_succeeded well.0 is well.1) out
     (psk_turned setup octets accepted made now.views.psk out
-    (told_by_psk setup now.vars.selected now.views accepted made (alone now kind psk_kind gpsk_kind calls same refl) tags) row)
+    (reported_by_psk setup now.vars.selected now.views accepted made (alone now kind psk_kind gpsk_kind calls same refl) tags) row)
 method_turned setup now accepted made tags selects kind octets _ calls (of_gpsk same out row) =
     let is : Some kind ≡ Some gpsk_kind = ap (λ (k : ℕ). Some k) same in
     carried (λ (view : gpsk.View). record now.views { gpsk = view }) (λ view a m told. gpsk_selected a m is told)
     (λ view well. gpsk_peer_succeeded well.0 is well.1) out
     (gpsk_turned setup octets accepted made now.views.gpsk out
-    (told_by_gpsk setup now.vars.selected now.views accepted made (alone now kind gpsk_kind psk_kind calls same refl) tags) row)
+    (reported_by_gpsk setup now.vars.selected now.views accepted made (alone now kind gpsk_kind psk_kind calls same refl) tags) row)
 method_turned setup now accepted made tags selects kind octets _ calls (of_none c) = drops now.views c
 
 pub tags_few : (setup : PeerSetup) (selected : Option ℕ) (views : PeerViews) (accepted made : List TagRecord)
     → PeerTags setup selected views accepted made → AreFew accepted made
-tags_few setup selected views _ _ (none_selected unselected psk_told gpsk_told) = record { few_accepted = omega arith; few_made = omega arith }
+tags_few setup selected views _ _ (none_selected unselected psk_verdict gpsk_verdict) = record { few_accepted = omega arith; few_produced = omega arith }
 tags_few setup selected views _ _ (psk_selected accepted made is_selected told) = psk_few setup _ accepted made told
 tags_few setup selected views _ _ (gpsk_selected accepted made is_selected told) = gpsk_few setup _ accepted made told

@@ -17,21 +17,21 @@ use Rattle.eap_method.specs.Steps.{is_end}
 use Rattle.eap_method.specs.PeerTurn.{Reply}
 use Rattle.eap_method.specs.Turns.{PeerOutcome}
 use Rattle.peer_machine.specs.Expanded.{express, expanded_answer, expanded_nak_response}
-use Rattle.peer_machine.specs.Inputs.{PeerInput, octets, restart, peer_answers, peer_takes}
+use Rattle.peer_machine.specs.Inputs.{PeerInput, octets, restart, peer_answers, peer_accepts}
 use Rattle.peer_machine.specs.PeerTable.{PeerNow, PeerAnswer, before_method, is_last_id, peer_restart}
 use Rattle.peer_machine.specs.Rows as rows
-use Rattle.peer_machine.proofs.Hearing.{PeerHearing, as_it_is, bad, again, expresses}
+use Rattle.peer_machine.proofs.Receiving.{PeerReceiving, as_it_is, bad, again, expresses}
 use Rattle.peer_machine.proofs.Identifiers.{plain_second_is_id, second_is_id}
 use Rattle.peer_machine.proofs.PeerRows.{peer_answers_are_rows}
 use Rattle.world_laws.specs.SingleSteps.{identifier_of, is_again}
 use Rattle.world_laws.proofs.PeerByMethod.{turn_answers, turn_of}
 use Rattle.world_laws.proofs.PeerTurns.{IsResponse, response_is}
-use Rattle.world_laws.proofs.Taking.{peer_taken}
+use Rattle.world_laws.proofs.Accepting.{peer_accepted_tags}
 
 -- ---- the Identifier of a packet
 
-came_with : (bytes : List ℕ) (id kind : ℕ) (body : List ℕ) → packet_of bytes ≡ Ok (request id kind body) → id ≡ identifier_of bytes
-came_with bytes id kind body is_packet = sym (second_is_id Request id kind body bytes is_packet)
+arrived_with : (bytes : List ℕ) (id kind : ℕ) (body : List ℕ) → packet_of bytes ≡ Ok (request id kind body) → id ≡ identifier_of bytes
+arrived_with bytes id kind body is_packet = sym (second_is_id Request id kind body bytes is_packet)
 
 last_is : (held : Option ℕ) (id : ℕ) → is_last_id held id ≡ true → held ≡ Some id
 last_is None id e = cc e
@@ -73,7 +73,7 @@ module _ (now : PeerNow) where
       → is_end now.vars.state ≡ false → IsResponse id packet → out.step.sent ≡ Some packet → list_any is_again out.step.path ≡ false
       → out.after.vars.last_id ≡ Some id → out.after.vars.last_response ≡ packet → PeerSpeaks now (octets bytes) out
   answers_to bytes packet id kind body out is_packet going is sent new last_id last =
-      let came : id ≡ identifier_of bytes = came_with bytes id kind body is_packet in
+      let came : id ≡ identifier_of bytes = arrived_with bytes id kind body is_packet in
       answers bytes packet out (subst (λ (n : ℕ). IsResponse n packet) came is) going sent new (last_id ∙ ap (λ (n : ℕ). Some n) came) last
 
   -- the states before METHOD are new ones
@@ -95,7 +95,7 @@ module _ (now : PeerNow) where
   row_speaks _ _ (rows.naks bytes id kind body heard unselected no_identity no_notification barred) =
       answers_to bytes _ id kind body _ heard.is_packet heard.going (response_is id _ _) refl refl refl refl
   row_speaks _ _ (rows.resends bytes id kind body heard) =
-      repeats bytes _ (last_is now.vars.last_id id heard.last ∙ ap (λ (n : ℕ). Some n) (came_with bytes id kind body heard.is_packet))
+      repeats bytes _ (last_is now.vars.last_id id heard.last ∙ ap (λ (n : ℕ). Some n) (arrived_with bytes id kind body heard.is_packet))
       heard.going refl refl refl
   row_speaks _ _ (rows.ends_well input entered going sure why) = rests _ _ refl refl refl
   row_speaks _ _ (rows.ends_badly input entered going why) = rests _ _ refl refl refl
@@ -111,7 +111,7 @@ plain_id : (bytes : List ℕ) (id kind : ℕ) (body : List ℕ) → packet_of by
     → identifier_of (plain_octets bytes (request id kind body)) ≡ identifier_of bytes
 plain_id bytes id kind body is_packet =
     cond_both (is_wrapped kind body) _ _ (λ (o : List ℕ). identifier_of o ≡ identifier_of bytes)
-    (λ _. plain_second_is_id Request id kind body ∙ came_with bytes id kind body is_packet) (λ _. refl)
+    (λ _. plain_second_is_id Request id kind body ∙ arrived_with bytes id kind body is_packet) (λ _. refl)
 
 -- a Response that is expressed has its Identifier
 express_is : (id : ℕ) (methods packet : List ℕ) → IsResponse id packet → IsResponse id (express methods packet)
@@ -151,14 +151,14 @@ module _ (now : PeerNow) where
     expressed_speaks new_id _ (repeats _ out was_last going sent same_id still) =
         absurd (false≢true (sym new_id ∙ was_last_id now.vars.last_id (identifier_of bytes) (was_last ∙ ap (λ (n : ℕ). Some n) same)))
 
-  hearing_speaks : (bytes : List ℕ) (out : PeerAnswer) → PeerHearing now bytes out → Speaks (octets bytes) out
-  hearing_speaks bytes _ as_it_is = answer_speaks (octets bytes)
-  hearing_speaks bytes _ (bad id kind body asks is_bad) = rests _ _ refl refl refl
-  hearing_speaks bytes _ (again id kind body asks last) =
+  receiving_speaks : (bytes : List ℕ) (out : PeerAnswer) → PeerReceiving now bytes out → Speaks (octets bytes) out
+  receiving_speaks bytes _ as_it_is = answer_speaks (octets bytes)
+  receiving_speaks bytes _ (bad id kind body asks is_bad) = rests _ _ refl refl refl
+  receiving_speaks bytes _ (again id kind body asks last) =
       still_speaks bytes (plain_octets bytes (request id kind body)) (plain_id bytes id kind body asks.asks.is_packet) _ (answer_speaks (octets _))
-  hearing_speaks bytes _ (expresses id kind body asks new) =
+  receiving_speaks bytes _ (expresses id kind body asks new) =
       expressed_speaks bytes (plain_octets bytes (request id kind body)) (plain_id bytes id kind body asks.asks.is_packet)
-      (ap (is_last_id now.vars.last_id) (sym (came_with bytes id kind body asks.asks.is_packet)) ∙ new) _ (answer_speaks (octets _))
+      (ap (is_last_id now.vars.last_id) (sym (arrived_with bytes id kind body asks.asks.is_packet)) ∙ new) _ (answer_speaks (octets _))
 
-pub peer_speaks : (now : PeerNow) (input : PeerInput) → PeerSpeaks now input (peer_takes now input)
-peer_speaks now = peer_taken now (PeerSpeaks now) (answer_speaks now) (hearing_speaks now)
+pub peer_speaks : (now : PeerNow) (input : PeerInput) → PeerSpeaks now input (peer_accepts now input)
+peer_speaks now = peer_accepted_tags now (PeerSpeaks now) (answer_speaks now) (receiving_speaks now)

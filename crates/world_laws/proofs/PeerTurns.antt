@@ -39,18 +39,18 @@ replies_one id kind body m d tags = record {
 
 -- a discard, or a Response, whose tags are told by the view after it, which is a success where the
 -- decision isn't FAIL
-pub data Turned (V : Type 0) (Tells : V → List TagRecord → List TagRecord → Type 0) (Succeeds : V → Type 0) (accepted made : List TagRecord)
+pub data Turned (V : Type 0) (IsResult : V → List TagRecord → List TagRecord → Type 0) (Succeeds : V → Type 0) (accepted made : List TagRecord)
     : PeerOutcome V → Type 0 where
-  drops : (view : V) (c : Cause) → Turned V Tells Succeeds accepted made (discarded view c)
+  drops : (view : V) (c : Cause) → Turned V IsResult Succeeds accepted made (discarded view c)
   replies : (packet : List ℕ) (m : MethodState) (d : Decision) (tags : Tags) (view : V)
-      (told : Tells view (accepted ++ tags.accepted) (made ++ tags.made)) (decided : is_fail d ≡ false → Succeeds view)
-      → Turned V Tells Succeeds accepted made (record { turn = Reply packet m d tags; after = view })
+      (told : IsResult view (accepted ++ tags.accepted) (made ++ tags.made)) (decided : is_fail d ≡ false → Succeeds view)
+      → Turned V IsResult Succeeds accepted made (record { turn = Reply packet m d tags; after = view })
 
 -- a turn of one method's view is one of the views that it is in
-pub carried : {V W : Type 0} {Tells : V → List TagRecord → List TagRecord → Type 0} {Succeeds : V → Type 0}
+pub carried : {V W : Type 0} {IsResult : V → List TagRecord → List TagRecord → Type 0} {Succeeds : V → Type 0}
     {Shows : W → List TagRecord → List TagRecord → Type 0} {Wins : W → Type 0} {accepted made : List TagRecord} (into : V → W)
-    → ((view : V) (a m : List TagRecord) → Tells view a m → Shows (into view) a m) → ((view : V) → Succeeds view → Wins (into view))
-    → (out : PeerOutcome V) → Turned V Tells Succeeds accepted made out
+    → ((view : V) (a m : List TagRecord) → IsResult view a m → Shows (into view) a m) → ((view : V) → Succeeds view → Wins (into view))
+    → (out : PeerOutcome V) → Turned V IsResult Succeeds accepted made out
     → Turned W Shows Wins accepted made (record { turn = out.turn; after = into out.after })
 carried into shows wins _ (drops view c) = drops _ c
 carried into shows wins _ (replies packet m d tags view told decided) = replies packet m d tags _ (shows _ _ _ told) (λ e. wins _ (decided e))

@@ -19,15 +19,15 @@ use Rattle.server_machine.specs.ServerTable.{ServerNow, current_report, server_r
 use Rattle.eap_world.specs.Judgement.{agreement_of, peer_agrees, server_agrees, is_welcome}
 use Rattle.eap_world.specs.World.{WorldNow}
 use Rattle.world_laws.specs.Agreement.{AreTheirs}
-use Rattle.world_laws.specs.PskPeerStands.{PskBegun}
-use Rattle.world_laws.specs.PskPeerStands as psk_peer_stands
-use Rattle.world_laws.specs.PskServerStands.{PskChecked}
-use Rattle.world_laws.specs.PskServerStands as psk_server_stands
+use Rattle.world_laws.specs.PskPeerInvariant.{PskStarted}
+use Rattle.world_laws.specs.PskPeerInvariant as psk_peer_stands
+use Rattle.world_laws.specs.PskServerInvariant.{PskChecked}
+use Rattle.world_laws.specs.PskServerInvariant as psk_server_stands
 use Rattle.world_laws.specs.Records.{IsIn}
 use Rattle.world_laws.proofs.Among.{among_two}
 use Rattle.world_laws.proofs.EqualReports.{reports_agree}
 use Rattle.world_laws.proofs.Fields.{ends}
-use Rattle.world_laws.proofs.Leads.{own_key, own_name}
+use Rattle.world_laws.proofs.Results.{own_key, own_name}
 use Rattle.world_laws.proofs.PskFields.{front_size}
 
 -- both ends speak of the same login
@@ -65,7 +65,7 @@ covers_more id_p id_s rand_s rand_p size e =
     (omega (arith, length-append ((id_p ++ id_s) ++ rand_s) rand_p, length-append (id_p ++ id_s) rand_s, length-append id_p id_s, length-append id_s rand_p, size))
 
 -- the MAC_S that the peer accepted is none of the tags that it made itself
-pub peer_not_own : (setup : PeerSetup) (p : peer.Login) → PskBegun setup p → (id : ℕ)
+pub peer_not_own : (setup : PeerSetup) (p : peer.Login) → PskStarted setup p → (id : ℕ)
     → IsIn (ak_record p.cred.psk (peer.mac_s_covers p) (peer.mac_s_of p)) (psk_peer_stands.psk2_record p ∷ peer.psk4_record p id 2) → ⊥
 unfolding peer.mac_p_covers peer.mac_s_covers
 peer_not_own setup p begun id is_in =
@@ -91,7 +91,7 @@ pub not_barred : (barred : Bool) (r : ℕ) → r ≡ server.r_for barred → r �
 not_barred true r is_sent is_success = absurd (omega arith)
 not_barred false r is_sent is_success = refl
 
-module _ (setup : PeerSetup) (login : peer.Login) (facts : PskBegun setup login) where
+module _ (setup : PeerSetup) (login : peer.Login) (facts : PskStarted setup login) where
   by_peer : peer_agrees setup (peer.report_of login) ≡ true
   unfolding peer.report_of
   by_peer = and_from _ _ facts.allowed (and_from _ _ facts.accepted refl)
@@ -111,7 +111,7 @@ module _ (setup : ServerSetup) (login : server.Login) (facts : PskChecked setup 
   unfolding server_report_of
   server_reported now is_current in_view = ap (current_report now.views) is_current ∙ ap psk_report in_view
 
-module _ (peer_setup : PeerSetup) (server_setup : ServerSetup) (p : peer.Login) (begun : PskBegun peer_setup p)
+module _ (peer_setup : PeerSetup) (server_setup : ServerSetup) (p : peer.Login) (begun : PskStarted peer_setup p)
     (s : server.Login) (checked : PskChecked server_setup s)
     (peer_nonce : length peer_setup.nonce ≡ 32) (server_nonce : length server_setup.nonce ≡ 32) where
   -- the MAC_P that the server accepted is one that the peer made, the MAC_S that the peer accepted one
@@ -142,7 +142,7 @@ module _ (peer_setup : PeerSetup) (server_setup : ServerSetup) (p : peer.Login) 
       rw (peer_reported peer_setup p begun now is_selected in_view, server_reported server_setup s checked r_sent other is_current in_other) agreed
 
 -- what both report is their own: names, key and suite
-module _ (setup : Setup) (w : WorldNow) (login : peer.Login) (facts : PskBegun setup.peer login)
+module _ (setup : Setup) (w : WorldNow) (login : peer.Login) (facts : PskStarted setup.peer login)
     (other : server.Login) (checked : PskChecked setup.server other) (same : IsSame login other) where
   server_name : login.id_s ≡ setup.server.name
   unfolding side_of

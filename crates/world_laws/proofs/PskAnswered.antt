@@ -11,18 +11,18 @@ use Rattle.peer_machine.specs.PeerTable as peers
 use Rattle.server_machine.specs.ServerTable as servers
 use Rattle.eap_world.specs.Conversations.{front}
 use Rattle.world_laws.specs.ByMethod.{peer_foreign, PeerTags}
-use Rattle.world_laws.specs.PskPeerStands.{psk_rand_s, PskPeerTags, psk_unset, psk_fresh, psk_waits}
-use Rattle.world_laws.specs.PskPeerStands as psk_peer_stands
-use Rattle.world_laws.specs.PskServerStands.{PskServerTags, psk_over}
+use Rattle.world_laws.specs.PskPeerInvariant.{psk_rand_s, PskPeerTags, psk_unset, psk_fresh, psk_waits}
+use Rattle.world_laws.specs.PskPeerInvariant as psk_peer_stands
+use Rattle.world_laws.specs.PskServerInvariant.{PskServerTags, psk_over}
 use Rattle.world_laws.specs.Records.{IsIn, here, later}
-use Rattle.world_laws.specs.ToldTags.{MadeByServer}
+use Rattle.world_laws.specs.TagOwners.{OnlyByServer}
 use Rattle.world_laws.proofs.Among.{among_one, among_two}
 use Rattle.world_laws.proofs.Asks.{AsksServer}
-use Rattle.world_laws.proofs.PeerByMethod.{made_by_psk}
+use Rattle.world_laws.proofs.PeerByMethod.{created_by_psk}
 use Rattle.world_laws.proofs.PskFields.{front_size}
-use Rattle.world_laws.proofs.PskHeaders.{header_made, same_header}
-use Rattle.world_laws.proofs.PskPeerTells.{labels_apart}
-use Rattle.world_laws.proofs.PskServerTells.{mac_s_made}
+use Rattle.world_laws.proofs.PskHeaders.{header_created, same_header}
+use Rattle.world_laws.proofs.PskPeerOwners.{labels_apart}
+use Rattle.world_laws.proofs.PskServerOwners.{mac_s_created}
 
 -- a conversation of the server with this nonce has accepted a PSK-4, whose header ends in its RAND_S
 pub record HasPsk4 (nonce : List ℕ) (accepted : List TagRecord) : Type 0 where
@@ -34,7 +34,7 @@ pub record HasPsk4 (nonce : List ℕ) (accepted : List TagRecord) : Type 0 where
   pub rand_in : drop 6 header ≡ front nonce
 
 pub psk4_taken : (setup : ServerSetup) (nonce : List ℕ) (login : psk_server.Login) (good : Bool) (accepted made : List TagRecord)
-    → PskServerTags (servers.own_nonce setup nonce) (psk_server.over login good) accepted made → HasPsk4 nonce accepted
+    → PskServerTags (servers.setup_with_nonce setup nonce) (psk_server.over login good) accepted made → HasPsk4 nonce accepted
 psk4_taken setup nonce login _ _ _ (psk_over _ _ header sealed id facts r_sent rand_in r_came) = record {
   psk = login.psk;
   header = header;
@@ -54,7 +54,7 @@ module _ (psk header : List ℕ) (sealed : ℕ) (tag rand_s : List ℕ) (rand_in
   abbrev psk4_tag : TagRecord
   psk4_tag = tek_record psk 1 header sealed tag
 
-  view_asked : (view : psk_peer.View) (accepted made : List TagRecord) → PskPeerTags (peers.own_nonce setup nonce) view accepted made → IsIn psk4_tag made
+  view_asked : (view : psk_peer.View) (accepted made : List TagRecord) → PskPeerTags (peers.setup_with_nonce setup nonce) view accepted made → IsIn psk4_tag made
       → HasAsked nonce rand_s (psk_rand_s view) accepted
   unfolding psk_peer.mac_s_covers
   view_asked _ _ _ psk_unset is = elim is [ ]
@@ -68,20 +68,20 @@ module _ (psk header : List ℕ) (sealed : ℕ) (tag rand_s : List ℕ) (rand_in
             let n_front : length (rand_of login.nonce) ≡ 16 = front_size login.nonce (omega (arith, ap length facts.nonce, size)) in
             let t = ak_record login.cred.psk (psk_peer.mac_s_covers login) (psk_peer.mac_s_of login) in
             record {
-              holds = ap (λ (x : List ℕ). Some x) (sym (header_made login id facts.size) ∙ (sym (ap (drop 6) headers) ∙ rand_in));
+              holds = ap (λ (x : List ℕ). Some x) (sym (header_created login id facts.size) ∙ (sym (ap (drop 6) headers) ∙ rand_in));
               asks = record {
                 tag = t;
                 rest = _;
                 first = refl;
-                made = subst (λ (x : List ℕ). MadeByServer t x) (ap front facts.nonce)
-                    (mac_s_made login.cred.psk login.id_s (rand_of login.nonce) (psk_peer.mac_s_of login) n_front);
+                made = subst (λ (x : List ℕ). OnlyByServer t x) (ap front facts.nonce)
+                    (mac_s_created login.cred.psk login.id_s (rand_of login.nonce) (psk_peer.mac_s_of login) n_front);
               };
             }
       ]
 
   pub has_asked : (selected : Option ℕ) (views : PeerViews) (accepted made : List TagRecord)
-      → PeerTags (peers.own_nonce setup nonce) selected views accepted made → IsIn psk4_tag made → HasAsked nonce rand_s (peer_foreign selected views) accepted
+      → PeerTags (peers.setup_with_nonce setup nonce) selected views accepted made → IsIn psk4_tag made → HasAsked nonce rand_s (peer_foreign selected views) accepted
   has_asked selected views accepted made told is =
-      let by = made_by_psk (peers.own_nonce setup nonce) selected views accepted made psk4_tag told is refl in
+      let by = created_by_psk (peers.setup_with_nonce setup nonce) selected views accepted made psk4_tag told is refl in
       let h = view_asked views.psk accepted made by.1 is in
       record { holds = ap (λ (o : Option ℕ). peer_foreign o views) by.0 ∙ h.holds; asks = h.asks }

@@ -14,26 +14,26 @@ use Rattle.eap_method.specs.Turns.{body_of}
 use Rattle.world_laws.proofs.Fields.{ends, fronts}
 
 -- RAND_S of PSK-4 are the first sixteen of these octets
-record Begins (octets : List ℕ) (message : Message) : Type 0 where
+record StartsAt (octets : List ℕ) (message : Message) : Type 0 where
   pub is : (rand_s : List ℕ) (nonce : ℕ) (tag : List ℕ) (sealed : ℕ) → message ≡ psk4 rand_s nonce tag sealed → take 16 octets ≡ rand_s
 
-message_begins : (t : ℕ) (octets : List ℕ) → Begins octets (message_at t octets)
-message_begins t octets =
-    cond_both (t == 0) (psk1_at octets) _ (Begins octets) (λ _. record { is = λ rand_s nonce tag sealed e. cc e })
-    (λ _. cond_both (t == 1) (psk2_at octets) _ (Begins octets) (λ _. record { is = λ rand_s nonce tag sealed e. cc e })
-    (λ _. cond_both (t == 2) (psk3_at octets) (psk4_at octets) (Begins octets)
+message_starts : (t : ℕ) (octets : List ℕ) → StartsAt octets (message_at t octets)
+message_starts t octets =
+    cond_both (t == 0) (psk1_at octets) _ (StartsAt octets) (λ _. record { is = λ rand_s nonce tag sealed e. cc e })
+    (λ _. cond_both (t == 1) (psk2_at octets) _ (StartsAt octets) (λ _. record { is = λ rand_s nonce tag sealed e. cc e })
+    (λ _. cond_both (t == 2) (psk3_at octets) (psk4_at octets) (StartsAt octets)
     (λ _. record { is = λ rand_s nonce tag sealed e. cc e }) (λ _. record { is = λ rand_s nonce tag sealed e. cc })))
 
-read_begins : (flags : ℕ) (octets rand_s : List ℕ) (nonce : ℕ) (tag : List ℕ) (sealed : ℕ) → read_of (flags ∷ octets) ≡ Ok (psk4 rand_s nonce tag sealed)
+read_starts : (flags : ℕ) (octets rand_s : List ℕ) (nonce : ℕ) (tag : List ℕ) (sealed : ℕ) → read_of (flags ∷ octets) ≡ Ok (psk4 rand_s nonce tag sealed)
     → take 16 octets ≡ rand_s
 unfolding read_of
-read_begins flags octets rand_s nonce tag sealed e =
+read_starts flags octets rand_s nonce tag sealed e =
     let t = flags / 64 in
     let message = psk4 rand_s nonce tag sealed in
     elim (cases_Bool (is_size t (length octets))) [
       | inl fits ↦ let same : ◌≡◌ {A = Result Message Cause} (Ok (message_at t octets)) (Ok message) = sym (cond-true _ _ _ fits) ∙ e in
           let read : message_at t octets ≡ message = cc in
-          (message_begins t octets).is rand_s nonce tag sealed read
+          (message_starts t octets).is rand_s nonce tag sealed read
       | inr misses ↦ let same : ◌≡◌ {A = Result Message Cause} (Err PskShape) (Ok message) = sym (cond-false _ _ _ misses) ∙ e in absurd cc
     ]
 
@@ -47,12 +47,12 @@ header_read (a ∷ b ∷ []) rand_s nonce tag sealed e = absurd cc
 header_read (a ∷ b ∷ c ∷ []) rand_s nonce tag sealed e = absurd cc
 header_read (a ∷ b ∷ c ∷ d ∷ []) rand_s nonce tag sealed e = absurd cc
 header_read (a ∷ b ∷ c ∷ d ∷ k ∷ []) rand_s nonce tag sealed e = absurd cc
-header_read (a ∷ b ∷ c ∷ d ∷ k ∷ flags ∷ octets) rand_s nonce tag sealed e = read_begins flags octets rand_s nonce tag sealed e
+header_read (a ∷ b ∷ c ∷ d ∷ k ∷ flags ∷ octets) rand_s nonce tag sealed e = read_starts flags octets rand_s nonce tag sealed e
 
 -- and of the one that the peer makes
-pub header_made : (login : psk.Login) (id : ℕ) → length login.rand_s ≡ 16 → drop 6 (psk.psk4_header login id) ≡ login.rand_s
+pub header_created : (login : psk.Login) (id : ℕ) → length login.rand_s ≡ 16 → drop 6 (psk.psk4_header login id) ≡ login.rand_s
 unfolding psk.psk4_header packets.spelled messages.spelled
-header_made login id size = take_at login.rand_s _ 16 size
+header_created login id size = take_at login.rand_s _ 16 size
 
 -- tags over equal octets have equal sealed octets
 one_octet : (sealed sealed' : ℕ) → ◌≡◌ {A = List ℕ} (sealed ∷ []) (sealed' ∷ []) → sealed ≡ sealed'

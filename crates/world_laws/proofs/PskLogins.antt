@@ -16,18 +16,18 @@ use Rattle.peer_machine.specs.PeerTable.{PeerNow}
 use Rattle.server_machine.specs.ServerTable.{ServerNow}
 use Rattle.world_laws.specs.Alone.{SameKeys}
 use Rattle.world_laws.specs.Matching.{RestsOn}
-use Rattle.world_laws.specs.PskPeerStands.{psk_peer_login, PskPeerTags, PskBegun}
-use Rattle.world_laws.specs.PskPeerStands as psk_peer_stands
-use Rattle.world_laws.specs.PskServerStands.{psk_server_login, PskServerTags, PskChecked}
-use Rattle.world_laws.specs.PskServerStands as psk_server_stands
+use Rattle.world_laws.specs.PskPeerInvariant.{psk_peer_login, PskPeerTags, PskStarted}
+use Rattle.world_laws.specs.PskPeerInvariant as psk_peer_stands
+use Rattle.world_laws.specs.PskServerInvariant.{psk_server_login, PskServerTags, PskChecked}
+use Rattle.world_laws.specs.PskServerInvariant as psk_server_stands
 use Rattle.world_laws.specs.Records.{IsIn, here}
 use Rattle.world_laws.proofs.Among.{among_one, among_two, first_is, no_tag}
 use Rattle.world_laws.proofs.Fields.{ends}
-use Rattle.world_laws.proofs.Leads.{LeadsTo, LoginOf, PeersLogin, ServersLogin, own_key, own_name}
+use Rattle.world_laws.proofs.Results.{ResultsIn, LoginOf, PeersLogin, ServersLogin, own_key, own_name}
 use Rattle.world_laws.proofs.PskAgrees as agrees
 use Rattle.world_laws.proofs.PskFields.{front_size}
 use Rattle.world_laws.proofs.PskHeaders.{same_sealed}
-use Rattle.world_laws.proofs.PskPeerTells.{labels_apart}
+use Rattle.world_laws.proofs.PskPeerOwners.{labels_apart}
 use Rattle.world_laws.proofs.SucceedingEnds.{FirstIn, first_in}
 
 -- the first tag that a conversation of the server accepted is one of this method
@@ -66,20 +66,20 @@ same_keys p s key same = record {
 module _ (peer_setup : PeerSetup) (server_setup : ServerSetup) (peer_nonce : length peer_setup.nonce ≡ 32) (server_nonce : length server_setup.nonce ≡ 32) where
   -- ---- a peer that has succeeded, and a conversation of the server that made the first tag that it accepted
 
-  module _ (login : peer.Login) (facts : PskBegun peer_setup login) (id : ℕ) where
+  module _ (login : peer.Login) (facts : PskStarted peer_setup login) (id : ℕ) where
     abbrev mac_s : TagRecord
     mac_s = ak_record login.cred.psk (peer.mac_s_covers login) (peer.mac_s_of login)
 
-    abbrev peer_made : List TagRecord
-    peer_made = psk_peer_stands.psk2_record login ∷ peer.psk4_record login id 2
+    abbrev initial_peer : List TagRecord
+    initial_peer = psk_peer_stands.psk2_record login ∷ peer.psk4_record login id 2
 
-    abbrev Leads : Option Report → Type 0
-    Leads o = LoginOf server_setup o (peer.report_of login) login.cred.psk
+    abbrev Results : Option Report → Type 0
+    Results o = LoginOf server_setup o (peer.report_of login) login.cred.psk
 
-    checked_leads : (other : server.Login) (other_id : ℕ) → PskChecked server_setup other → IsIn mac_s (server.psk3_records other other_id)
-        → IsIn (psk_server_stands.psk2_record other) peer_made → Leads (Some (server.report_of other))
+    checked_reaches : (other : server.Login) (other_id : ℕ) → PskChecked server_setup other → IsIn mac_s (server.psk3_records other other_id)
+        → IsIn (psk_server_stands.psk2_record other) initial_peer → Results (Some (server.report_of other))
     unfolding peer.report_of side_of
-    checked_leads other other_id checked is first =
+    checked_reaches other other_id checked is first =
         let same = agrees.same_login peer_setup server_setup login facts other checked peer_nonce server_nonce id other_id first is in
         record {
           same = ap Some (sym (agrees.same_reports login other same));
@@ -89,15 +89,15 @@ module _ (peer_setup : PeerSetup) (server_setup : ServerSetup) (peer_nonce : len
           key = sym checked.key ∙ sym same.psk;
         }
 
-    pub server_leads : (view : server.View) (accepted made : List TagRecord) → PskServerTags server_setup view accepted made → IsIn mac_s made
-        → FirstIn accepted peer_made → Leads (psk_server_login (Some view))
-    server_leads _ _ _ (psk_server_stands.psk_asked ordered) is first = elim is [ ]
-    server_leads _ _ _ (psk_server_stands.psk_checked other other_id checked) is first = checked_leads other other_id checked is (first.is _ _ refl)
-    server_leads _ _ _ psk_server_stands.psk_refused is first = elim is [ ]
-    server_leads _ _ _ (psk_server_stands.psk_over other good header sealed other_id checked r_sent rand_in r_came) is first =
-        checked_leads other other_id checked is (first.is _ _ refl)
+    pub server_reaches : (view : server.View) (accepted made : List TagRecord) → PskServerTags server_setup view accepted made → IsIn mac_s made
+        → FirstIn accepted initial_peer → Results (psk_server_login (Some view))
+    server_reaches _ _ _ (psk_server_stands.psk_asked ordered) is first = elim is [ ]
+    server_reaches _ _ _ (psk_server_stands.psk_checked other other_id checked) is first = checked_reaches other other_id checked is (first.is _ _ refl)
+    server_reaches _ _ _ psk_server_stands.psk_refused is first = elim is [ ]
+    server_reaches _ _ _ (psk_server_stands.psk_over other good header sealed other_id checked r_sent rand_in r_came) is first =
+        checked_reaches other other_id checked is (first.is _ _ refl)
 
-  pub peers_login : (now : PeerNow) (login : peer.Login) → PskBegun peer_setup login → now.vars.selected ≡ Some psk_kind → now.views.psk ≡ peer.over login true
+  pub peers_login : (now : PeerNow) (login : peer.Login) → PskStarted peer_setup login → now.vars.selected ≡ Some psk_kind → now.views.psk ≡ peer.over login true
       → (theirs : Option Report) → LoginOf server_setup theirs (peer.report_of login) login.cred.psk → PeersLogin peer_setup server_setup now theirs
   unfolding peer.report_of
   peers_login now login facts is_selected in_view theirs found = record {
@@ -110,8 +110,8 @@ module _ (peer_setup : PeerSetup) (server_setup : ServerSetup) (peer_nonce : len
   -- ---- a server that has succeeded, and a conversation of the peer that made the first tag that it accepted
 
   module _ (login : server.Login) (checked : PskChecked server_setup login) where
-    by_psk2 : (other : peer.Login) → PskBegun peer_setup other → psk_server_stands.psk2_record login ≡ psk_peer_stands.psk2_record other
-        → LeadsTo peer_setup (Some (peer.report_of other)) (server.report_of login) login.psk
+    by_psk2 : (other : peer.Login) → PskStarted peer_setup other → psk_server_stands.psk2_record login ≡ psk_peer_stands.psk2_record other
+        → ResultsIn peer_setup (Some (peer.report_of other)) (server.report_of login) login.psk
     unfolding peer.report_of server.report_of
     by_psk2 other facts e = record {
       theirs = peer.report_of other;
@@ -124,16 +124,16 @@ module _ (peer_setup : PeerSetup) (server_setup : ServerSetup) (peer_nonce : len
       key = ap (λ (r : TagRecord). r.psk) e ∙ own_key peer_setup psk_kind other.cred facts.cred;
     }
 
-    pub peer_leads : (view : peer.View) (accepted made : List TagRecord) → PskPeerTags peer_setup view accepted made
-        → IsIn (psk_server_stands.psk2_record login) made → LeadsTo peer_setup (psk_peer_login view) (server.report_of login) login.psk
-    peer_leads _ _ _ psk_peer_stands.psk_unset is = elim is [ ]
-    peer_leads _ _ _ (psk_peer_stands.psk_fresh allowed) is = elim is [ ]
-    peer_leads _ _ _ (psk_peer_stands.psk_waits other facts) is = by_psk2 other facts (among_one _ _ is)
-    peer_leads _ _ _ (psk_peer_stands.psk_over other good header sealed id facts) is =
+    pub peer_reaches : (view : peer.View) (accepted made : List TagRecord) → PskPeerTags peer_setup view accepted made
+        → IsIn (psk_server_stands.psk2_record login) made → ResultsIn peer_setup (psk_peer_login view) (server.report_of login) login.psk
+    peer_reaches _ _ _ psk_peer_stands.psk_unset is = elim is [ ]
+    peer_reaches _ _ _ (psk_peer_stands.psk_fresh allowed) is = elim is [ ]
+    peer_reaches _ _ _ (psk_peer_stands.psk_waits other facts) is = by_psk2 other facts (among_one _ _ is)
+    peer_reaches _ _ _ (psk_peer_stands.psk_over other good header sealed id facts) is =
         elim (among_two _ _ _ is) [ inl e ↦ by_psk2 other facts e | inr e ↦ labels_apart (ap (λ (r : TagRecord). r.label) e) ]
 
   pub servers_login : (now : ServerNow) (login : server.Login) → PskChecked server_setup login → login.r ≡ 2 → now.vars.current ≡ Some psk_kind
-      → now.views.psk ≡ Some (server.over login true) → (theirs : Option Report) → LeadsTo peer_setup theirs (server.report_of login) login.psk
+      → now.views.psk ≡ Some (server.over login true) → (theirs : Option Report) → ResultsIn peer_setup theirs (server.report_of login) login.psk
       → ServersLogin peer_setup server_setup now theirs
   unfolding server.report_of side_of
   servers_login now login checked r_sent is_current in_view theirs found = record {
@@ -142,16 +142,16 @@ module _ (peer_setup : PeerSetup) (server_setup : ServerSetup) (peer_nonce : len
     user = checked.user;
     id_s = ap (λ (own : ServerSide). own.id_s) checked.own;
     known = checked.known;
-    leads_to = subst (λ (k : List ℕ). LeadsTo peer_setup theirs (server.report_of login) k) checked.key found;
+    results_to = subst (λ (k : List ℕ). ResultsIn peer_setup theirs (server.report_of login) k) checked.key found;
   }
 
   -- ---- as MAC_S covers ID_S, the peer's leads to just what the server reports, where it rests on the server's in its turn
 
   module _ (login : server.Login) (checked : PskChecked server_setup login) (id : ℕ) where
-    over_leads : (other : peer.Login) → PskBegun peer_setup other → psk_server_stands.psk2_record login ≡ psk_peer_stands.psk2_record other
+    over_reaches : (other : peer.Login) → PskStarted peer_setup other → psk_server_stands.psk2_record login ≡ psk_peer_stands.psk2_record other
         → IsIn (ak_record other.cred.psk (peer.mac_s_covers other) (peer.mac_s_of other)) (server.psk3_records login id)
         → ◌≡◌ {A = Option Report} (Some (peer.report_of other)) (Some (server.report_of login))
-    over_leads other facts e is =
+    over_reaches other facts e is =
         elim (among_two _ _ _ is) [
           | inl f ↦ ap Some (agrees.same_reports other login
               (agrees.covers_same other login (front_size other.nonce (omega (arith, ap length facts.nonce, peer_nonce))) checked.size facts.size
@@ -160,15 +160,15 @@ module _ (peer_setup : PeerSetup) (server_setup : ServerSetup) (peer_nonce : len
           | inr f ↦ labels_apart (ap (λ (r : TagRecord). r.label) f)
         ]
 
-    pub rests_leads : (view : peer.View) (accepted made : List TagRecord) → PskPeerTags peer_setup view accepted made
+    pub rests_reaches : (view : peer.View) (accepted made : List TagRecord) → PskPeerTags peer_setup view accepted made
         → IsIn (psk_server_stands.psk2_record login) made → RestsOn accepted (server.psk3_records login id)
         → psk_peer_login view ≡ Some (server.report_of login)
-    rests_leads _ _ _ psk_peer_stands.psk_unset is back = elim is [ ]
-    rests_leads _ _ _ (psk_peer_stands.psk_fresh allowed) is back = elim is [ ]
-    rests_leads _ _ _ (psk_peer_stands.psk_waits other facts) is back = no_tag back.tag back.more back.first
-    rests_leads _ _ _ (psk_peer_stands.psk_over other good their_header their_sealed their_id facts) is back =
+    rests_reaches _ _ _ psk_peer_stands.psk_unset is back = elim is [ ]
+    rests_reaches _ _ _ (psk_peer_stands.psk_fresh allowed) is back = elim is [ ]
+    rests_reaches _ _ _ (psk_peer_stands.psk_waits other facts) is back = no_tag back.tag back.more back.first
+    rests_reaches _ _ _ (psk_peer_stands.psk_over other good their_header their_sealed their_id facts) is back =
         elim (among_two _ _ _ is) [
-          | inl e ↦ over_leads other facts e ((first_in _ _ back.tag back.more back.first back.is_made).is _ _ refl)
+          | inl e ↦ over_reaches other facts e ((first_in _ _ back.tag back.more back.first back.is_made).is _ _ refl)
           | inr e ↦ labels_apart (ap (λ (r : TagRecord). r.label) e)
         ]
 
@@ -178,7 +178,7 @@ module _ (peer_setup : PeerSetup) (server_setup : ServerSetup) (peer_nonce : len
   pub record HasUnconditionalSuccess (view : peer.View) : Type 0 where
     pub login : peer.Login
     pub in_view : view ≡ peer.over login true
-    pub facts : PskBegun peer_setup login
+    pub facts : PskStarted peer_setup login
 
   module _ (login : server.Login) (checked : PskChecked server_setup login) (header : List ℕ) (sealed : ℕ)
       (r_came : result_of (hidden_octet (server.keys_of login).tek 1 sealed) ≡ done_success) where
@@ -199,12 +199,12 @@ module _ (peer_setup : PeerSetup) (server_setup : ServerSetup) (peer_nonce : len
         ∙ ap (λ (tek : List ℕ). hidden_octet tek 1 sealed) (sym (same_tek other key rand)))
         ∙ r_came
 
-    by_result : (other : peer.Login) (good : Bool) (id : ℕ) → PskBegun peer_setup other → other.cred.psk ≡ login.psk → rand_of other.nonce ≡ login.rand_p
+    by_result : (other : peer.Login) (good : Bool) (id : ℕ) → PskStarted peer_setup other → other.cred.psk ≡ login.psk → rand_of other.nonce ≡ login.rand_p
         → sealed ≡ peer.psk4_octet other id (psk_peer_stands.result_for good) → HasUnconditionalSuccess (peer.over other good)
     by_result other true id facts key rand same = record { login = other; in_view = refl; facts = facts }
     by_result other false id facts key rand same = absurd (omega (arith, their_result other id 3 key rand same))
 
-    by_both : (other : peer.Login) (good : Bool) (id : ℕ) → PskBegun peer_setup other → psk_server_stands.psk2_record login ≡ psk_peer_stands.psk2_record other
+    by_both : (other : peer.Login) (good : Bool) (id : ℕ) → PskStarted peer_setup other → psk_server_stands.psk2_record login ≡ psk_peer_stands.psk2_record other
         → IsIn (psk_server_stands.psk4_taken login header sealed) (psk_peer_stands.psk2_record other ∷ peer.psk4_record other id (psk_peer_stands.result_for good))
         → HasUnconditionalSuccess (peer.over other good)
     by_both other good id facts e last =

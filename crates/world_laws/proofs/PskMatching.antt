@@ -12,31 +12,31 @@ use Rattle.server_machine.specs.ServerTable as servers
 use Rattle.tag_book.specs.Book.{first_broken, tags_verdict, tags_verdict_either}
 use Rattle.eap_world.specs.Conversations.{front}
 use Rattle.world_laws.specs.ByMethod.{ServerHasSucceeded, gpsk_server_succeeded, peer_login, psk_server_succeeded}
-use Rattle.world_laws.specs.EachConversation.{IsOneOf, OfPeer, OfServer, all_made, peer_holds, peer_nonce, server_holds, server_nonce}
+use Rattle.world_laws.specs.EachConversation.{IsOneOf, OfPeer, OfServer, all_produced, peer_knows_nonce, peer_nonce, server_knows_nonce, server_nonce}
 use Rattle.world_laws.specs.Matching.{PeerMatches, RestsOn}
-use Rattle.world_laws.specs.PskPeerStands.{psk_peer_login}
-use Rattle.world_laws.specs.PskServerStands.{PskChecked, PskServerTags, psk_over, psk2_record}
-use Rattle.world_laws.specs.PskServerStands.{psk4_taken as psk4_record_of}
+use Rattle.world_laws.specs.PskPeerInvariant.{psk_peer_login}
+use Rattle.world_laws.specs.PskServerInvariant.{PskChecked, PskServerTags, psk_over, psk2_record}
+use Rattle.world_laws.specs.PskServerInvariant.{psk4_taken as psk4_record_of}
 use Rattle.world_laws.specs.Records.{IsIn, here, later, tags_by}
 use Rattle.world_laws.proofs.HonestOfEither.{honest_of_either, none_if_honest}
 use Rattle.world_laws.proofs.HonestOther.{honest_other}
 use Rattle.world_laws.proofs.Matching.{AllKnown, ServerKnown}
 use Rattle.world_laws.proofs.Matching as matching
-use Rattle.world_laws.proofs.OneLogin.{one_held}
+use Rattle.world_laws.proofs.OneLogin.{one_stored}
 use Rattle.world_laws.proofs.OneMethod.{apart}
 use Rattle.world_laws.proofs.OneOf.{accepted_in, made_in}
-use Rattle.world_laws.proofs.PeerByMethod.{made_by_psk as peer_made_by_psk}
+use Rattle.world_laws.proofs.PeerByMethod.{created_by_psk as peer_made_by_psk}
 use Rattle.world_laws.proofs.PskAgrees.{peer_reported}
 use Rattle.world_laws.proofs.PskLogins as logins
 use Rattle.world_laws.proofs.PskAnswered.{HasAsked, HasPsk4, has_asked, psk4_taken}
 use Rattle.world_laws.proofs.PskReflected.{AsksAnother, asks_another}
-use Rattle.world_laws.proofs.ServerByMethod.{told_by_psk}
+use Rattle.world_laws.proofs.ServerByMethod.{reported_by_psk}
 use Rattle.world_laws.proofs.SucceedingEnds.{first_in}
 use Rattle.world_laws.proofs.TagsOfEnds.{honest_tags}
 use Rattle.eap_world.specs.Judgement.{is_success}
 use Rattle.eap_world.specs.World.{WorldNow}
 use Rattle.tag_book.specs.declared.book.End.TheVariants as end
-use Rattle.tag_book.specs.declared.book.Makers.TheVariants.{Either, Other}
+use Rattle.tag_book.specs.declared.book.MadeBy.TheVariants.{Either, Other}
 use Rattle.tag_book.specs.declared.book.TagsVerdict.TheVariants.{Honest}
 use Rattle.tag_book.specs.declared.book.Use.TheVariants.{Accepted, Made}
 
@@ -49,7 +49,7 @@ module _ (setup : Setup) (last : WorldNow) (ps : List OfPeer) (ss : List OfServe
       of_success : ServerHasSucceeded s.now.vars.current s.now.views → HasPsk4 (server_nonce s) s.accepted
       of_success (psk_server_succeeded login is_current in_view) =
           psk4_taken setup.server (server_nonce s) login true s.accepted s.made
-          (told_by_psk (servers.own_nonce setup.server (server_nonce s)) s.now.vars.current s.now.views _ s.accepted s.made is_current in_view
+          (reported_by_psk (servers.setup_with_nonce setup.server (server_nonce s)) s.now.vars.current s.now.views _ s.accepted s.made is_current in_view
           known.stands.tags)
       of_success (gpsk_server_succeeded login is_current in_view) = apart s.now.vars.current gpsk_kind psk_kind refl is_current by_psk
 
@@ -57,16 +57,16 @@ module _ (setup : Setup) (last : WorldNow) (ps : List OfPeer) (ss : List OfServe
 
   -- the conversation that made that PSK-4 rests on this one of the server, and so it is the one on which that rests
   answered_by : tags_verdict last.book ≡ Honest → last.conversations.fresh ≡ true → (s : OfServer) → IsOneOf s ss
-      → (is : HasPsk4 (server_nonce s) s.accepted) → (q : OfPeer) → IsOneOf q ps → HasAsked (peer_nonce q) (front (server_nonce s)) (peer_holds q) q.accepted
-      → RestsOn q.accepted s.made × (server_holds s ≡ Some (front (peer_nonce q)))
+      → (is : HasPsk4 (server_nonce s) s.accepted) → (q : OfPeer) → IsOneOf q ps → HasAsked (peer_nonce q) (front (server_nonce s)) (peer_knows_nonce q) q.accepted
+      → RestsOn q.accepted s.made × (server_knows_nonce s ≡ Some (front (peer_nonce q)))
   answered_by honest fresh s s_is is q q_is h =
       let either = honest_of_either last.book honest in
       let r = matching.rests_on setup last ps ss all q q_is h.asks
       (matching.by_server setup last ps ss all h.asks.tag
       (honest_other end.Peer last.book (none_if_honest (first_broken Other [] last.book) honest) h.asks.tag (matching.listed_peer setup last ps ss all q q_is h.asks))) in
       let b = matching.back_on setup last ps ss all either fresh q q_is r.on r.is_one r.rand_p in
-      let same = matching.the_same_server setup last ps ss all fresh r.on s r.is_one s_is (one_held (peer_holds q) _ _ b.hold.rand_s h.holds) in
-      (subst (λ (t : OfServer). RestsOn q.accepted t.made) same r.rests, subst (λ (t : OfServer). server_holds t ≡ Some (front (peer_nonce q))) same r.rand_p)
+      let same = matching.the_same_server setup last ps ss all fresh r.on s r.is_one s_is (one_stored (peer_knows_nonce q) _ _ b.hold.rand_s h.holds) in
+      (subst (λ (t : OfServer). RestsOn q.accepted t.made) same r.rests, subst (λ (t : OfServer). server_knows_nonce t ≡ Some (front (peer_nonce q))) same r.rand_p)
 
   -- it has made that PSK-4, and rests on the server's
   pub record Answers (s : OfServer) (is : HasPsk4 (server_nonce s) s.accepted) (p : OfPeer) : Type 0 where
@@ -78,7 +78,7 @@ module _ (setup : Setup) (last : WorldNow) (ps : List OfPeer) (ss : List OfServe
   psk_back honest fresh s s_is s_in is p p_is rests =
       let listed : IsIn (tek_record is.psk 1 is.header is.sealed is.tag) (tags_by end.Server Accepted last.book) =
       subst (λ (l : List TagRecord). IsIn (tek_record is.psk 1 is.header is.sealed is.tag) l) (sym all.are.server_accepted) (accepted_in _ s ss s_is is.is_in) in
-      let made = subst (λ (l : List TagRecord). IsIn (tek_record is.psk 1 is.header is.sealed is.tag) l) all.are.peer_made
+      let made = subst (λ (l : List TagRecord). IsIn (tek_record is.psk 1 is.header is.sealed is.tag) l) all.are.initial_peer
       (honest_other end.Server last.book (none_if_honest (first_broken Other [] last.book) honest) _ listed) in
       let m = made_in _ ps made in
       let known = all.peers m.by m.is_one in
@@ -88,7 +88,7 @@ module _ (setup : Setup) (last : WorldNow) (ps : List OfPeer) (ss : List OfServe
       let s_known = all.servers s s_is in
       let asking = matching.server_in setup s s_known s_in in
       let same = matching.the_same setup last ps ss all fresh m.by p m.is_one p_is
-      (one_held (server_holds s) _ _ a.1 asking.holds ∙ sym (matching.server_on setup s s_known s_in p (all.peers p p_is) rests).0) in
+      (one_stored (server_knows_nonce s) _ _ a.1 asking.holds ∙ sym (matching.server_on setup s s_known s_in p (all.peers p p_is) rests).0) in
       record {
         rests = subst (λ (q : OfPeer). RestsOn q.accepted s.made) same a.0;
         made = subst (λ (q : OfPeer). IsIn (tek_record is.psk 1 is.header is.sealed is.tag) q.made) same m.is_in;
@@ -105,7 +105,7 @@ module _ (setup : Setup) (last : WorldNow) (ps : List OfPeer) (ss : List OfServe
     pub login : psk_server.Login
     pub header : List ℕ
     pub sealed : ℕ
-    pub checked : PskChecked (servers.own_nonce setup.server (server_nonce s)) login
+    pub checked : PskChecked (servers.setup_with_nonce setup.server (server_nonce s)) login
     pub more : List TagRecord
     pub first : s.accepted ≡ psk2_record login ∷ more
     pub is_in : IsIn (psk4_record_of login header sealed) s.accepted
@@ -113,7 +113,7 @@ module _ (setup : Setup) (last : WorldNow) (ps : List OfPeer) (ss : List OfServe
     pub r_came : result_of (hidden_octet (psk_server.keys_of login).tek 1 sealed) ≡ done_success
 
   confirmed_by : (s : OfServer) (login : psk_server.Login) (accepted made : List TagRecord) → s.accepted ≡ accepted
-      → PskServerTags (servers.own_nonce setup.server (server_nonce s)) (psk_server.over login true) accepted made → HasConfirmed s
+      → PskServerTags (servers.setup_with_nonce setup.server (server_nonce s)) (psk_server.over login true) accepted made → HasConfirmed s
   confirmed_by s login _ _ e (psk_over _ _ header sealed id facts r_sent rand_in r_came) = record {
     login = login;
     header = header;
@@ -132,7 +132,7 @@ module _ (setup : Setup) (last : WorldNow) (ps : List OfPeer) (ss : List OfServe
       of_success : ServerHasSucceeded s.now.vars.current s.now.views → HasConfirmed s
       of_success (psk_server_succeeded login is_current in_view) =
           confirmed_by s login s.accepted s.made refl
-          (told_by_psk (servers.own_nonce setup.server (server_nonce s)) s.now.vars.current s.now.views _ s.accepted s.made is_current in_view
+          (reported_by_psk (servers.setup_with_nonce setup.server (server_nonce s)) s.now.vars.current s.now.views _ s.accepted s.made is_current in_view
           known.stands.tags)
       of_success (gpsk_server_succeeded login is_current in_view) = apart s.now.vars.current gpsk_kind psk_kind refl is_current by_psk
 
@@ -145,11 +145,11 @@ module _ (setup : Setup) (last : WorldNow) (ps : List OfPeer) (ss : List OfServe
       record { psk = c.login.psk; header = c.header; sealed = c.sealed; tag = _; is_in = c.is_in; rand_in = c.rand_in } in
       let known = all.peers p p_is in
       let a = psk_back honest fresh s s_is s_in is p p_is rests in
-      let by = peer_made_by_psk (peers.own_nonce setup.peer (peer_nonce p)) p.now.vars.selected p.now.views p.accepted p.made _ known.stands.tags a.made refl in
-      let won = logins.confirms (peers.own_nonce setup.peer (peer_nonce p)) (servers.own_nonce setup.server (server_nonce s)) known.size (all.servers s s_is).size
+      let by = peer_made_by_psk (peers.setup_with_nonce setup.peer (peer_nonce p)) p.now.vars.selected p.now.views p.accepted p.made _ known.stands.tags a.made refl in
+      let won = logins.confirms (peers.setup_with_nonce setup.peer (peer_nonce p)) (servers.setup_with_nonce setup.server (server_nonce s)) known.size (all.servers s s_is).size
       c.login c.checked c.header c.sealed c.r_came p.now.views.psk p.accepted p.made by.1
       ((first_in s.accepted p.made rests.tag rests.more rests.first rests.is_made).is _ _ c.first) a.made in
-      peer_reported (peers.own_nonce setup.peer (peer_nonce p)) won.login won.facts p.now by.0 won.in_view
+      peer_reported (peers.setup_with_nonce setup.peer (peer_nonce p)) won.login won.facts p.now by.0 won.in_view
       ∙ sym (ap (λ (o : Option ℕ). peer_login o p.now.views) by.0 ∙ ap psk_peer_login won.in_view)
 
   -- ---- by EAP-PSK a tag that came back to the peer is none of its own
@@ -157,10 +157,10 @@ module _ (setup : Setup) (last : WorldNow) (ps : List OfPeer) (ss : List OfServe
   not_peers : last.conversations.fresh ≡ true → (p : OfPeer) → IsOneOf p ps → (asked : AsksAnother setup.peer (peer_nonce p) p.accepted p.made)
       → IsIn asked.asks.tag (tags_by end.Peer Made last.book) → ⊥
   not_peers fresh p is_one asked is =
-      let m = made_in asked.asks.tag ps (subst (λ (l : List TagRecord). IsIn asked.asks.tag l) all.are.peer_made is) in
+      let m = made_in asked.asks.tag ps (subst (λ (l : List TagRecord). IsIn asked.asks.tag l) all.are.initial_peer is) in
       let known = all.peers m.by m.is_one in
       let same = matching.the_same setup last ps ss all fresh m.by p m.is_one is_one
-      (asked.no_other (peer_nonce m.by) (peer_holds m.by) m.by.accepted m.by.made known.size (matching.peer_told setup m.by known) m.is_in) in
+      (asked.no_other (peer_nonce m.by) (peer_knows_nonce m.by) m.by.accepted m.by.made known.size (matching.peer_result setup m.by known) m.is_in) in
       asked.not_own (subst (λ (q : OfPeer). IsIn asked.asks.tag q.made) same m.is_in)
 
   pub psk_peers_match : tags_verdict_either last.book ≡ Honest → last.conversations.fresh ≡ true → (p : OfPeer) → IsOneOf p ps
@@ -169,7 +169,7 @@ module _ (setup : Setup) (last : WorldNow) (ps : List OfPeer) (ss : List OfServe
       let known = all.peers p is_one in
       let asked = asks_another setup.peer (peer_nonce p) p.now p.accepted p.made known.size (matching.peer_won setup p known p_in) selected in
       let none = none_if_honest (first_broken Either [] last.book) honest in
-      let made : IsIn asked.asks.tag (all_made ss) =
+      let made : IsIn asked.asks.tag (all_produced ss) =
       elim ((honest_tags end.Peer last.book none).each asked.asks.tag (matching.listed_peer setup last ps ss all p is_one asked.asks)) [
         | inl made ↦ matching.by_server setup last ps ss all asked.asks.tag made
         | inr own ↦ absurd (not_peers fresh p is_one asked own)

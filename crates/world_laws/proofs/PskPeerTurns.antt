@@ -14,25 +14,25 @@ use Rattle.eap_method.specs.PskPeer as psk
 use Rattle.eap_method.specs.PskTags.{channel_nonce}
 use Rattle.eap_method.specs.Turns.{PeerOutcome, body_of}
 use Rattle.method_laws.specs.PskPeerRows as psk_row
-use Rattle.world_laws.specs.PskPeerStands.{PskPeerTags, psk_unset, psk_fresh, psk_waits, psk_over, psk2_record, psk3_taken, psk_rand_s, result_for}
+use Rattle.world_laws.specs.PskPeerInvariant.{PskPeerTags, psk_unset, psk_fresh, psk_waits, psk_over, psk2_record, psk3_records_of, psk_rand_s, result_for}
 use Rattle.world_laws.specs.Records.{AreFew, IsIn}
 use Rattle.world_laws.specs.SingleSteps.{identifier_of}
 use Rattle.world_laws.proofs.Among.{among_one, among_two}
-use Rattle.world_laws.proofs.Hearing.{Hears, as_before, hears_now}
+use Rattle.world_laws.proofs.Receiving.{Receives, as_before, receives_now}
 use Rattle.world_laws.proofs.PeerTurns.{Answers, Turned, discards_none, drops, replies, replies_one}
 use Rattle.world_laws.proofs.PskFields.{read_rand}
-use Rattle.world_laws.proofs.PskNonces.{read_stands}
+use Rattle.world_laws.proofs.PskNonces.{read_occurs}
 
 -- ---- the nonce
 
 module _ (octets : List ℕ) where
-  pub psk_heard : (view : psk.View) (out : PeerOutcome psk.View) → psk_row.PskPeerRow view octets out
-      → Hears (Some (body_of octets)) (psk_rand_s view) (psk_rand_s out.after)
-  psk_heard view _ (psk_row.drops c) = as_before refl
-  psk_heard view _ (psk_row.answers cred nonce rand_s id_s in_view is_read is_accepted) =
-      hears_now (body_of octets) rand_s refl refl (read_stands (body_of octets) _ is_read)
-  psk_heard view _ (psk_row.confirms_success login _ _ _ _ _ in_view _ _ _ _ _ _ _ _ _) = as_before (sym (ap psk_rand_s in_view))
-  psk_heard view _ (psk_row.confirms_failure login _ _ _ _ _ in_view _ _ _ _ _ _ _ _ _ _ _) = as_before (sym (ap psk_rand_s in_view))
+  pub psk_from_sender : (view : psk.View) (out : PeerOutcome psk.View) → psk_row.PskPeerRow view octets out
+      → Receives (Some (body_of octets)) (psk_rand_s view) (psk_rand_s out.after)
+  psk_from_sender view _ (psk_row.drops c) = as_before refl
+  psk_from_sender view _ (psk_row.answers cred nonce rand_s id_s in_view is_read is_accepted) =
+      receives_now (body_of octets) rand_s refl refl (read_occurs (body_of octets) _ is_read)
+  psk_from_sender view _ (psk_row.confirms_success login _ _ _ _ _ in_view _ _ _ _ _ _ _ _ _) = as_before (sym (ap psk_rand_s in_view))
+  psk_from_sender view _ (psk_row.confirms_failure login _ _ _ _ _ in_view _ _ _ _ _ _ _ _ _ _ _) = as_before (sym (ap psk_rand_s in_view))
 
 -- a view that has made no tag holds none
 pub psk_none : (setup : PeerSetup) (view : psk.View) (accepted made : List TagRecord) → PskPeerTags setup view accepted made → made ≡ [] → psk_rand_s view ≡ None
@@ -51,10 +51,10 @@ psk_responds view bytes _ (psk_row.confirms_failure _ _ _ _ _ _ _ _ _ _ _ _ _ _ 
 
 -- ---- the tags
 
-pub psk_begun : (setup : PeerSetup) (allowed : Bool) → is_among setup.methods psk_kind ≡ allowed
+pub psk_started : (setup : PeerSetup) (allowed : Bool) → is_among setup.methods psk_kind ≡ allowed
     → PskPeerTags setup (if allowed then psk.fresh (credential_for setup psk_kind) setup.nonce else psk.unset) [] []
-psk_begun setup true allowed = psk_fresh allowed
-psk_begun setup false allowed = psk_unset
+psk_started setup true allowed = psk_fresh allowed
+psk_started setup false allowed = psk_unset
 
 module _ (setup : PeerSetup) (accepted made : List TagRecord) where
   abbrev pub PskTurned : PeerOutcome psk.View → Type 0
@@ -76,7 +76,7 @@ module _ (setup : PeerSetup) where
       → psk.mac_s_of login ≡ mac → eax_tag (psk.keys_of login).tek (channel_nonce 0) header (sealed ∷ []) ≡ tag
       → PskPeerTags setup (psk.over login good) (accepted ++ psk.psk3_records login header mac tag sealed) (made ++ psk.psk4_record login id (result_for good))
   psk_confirms login good header mac tag sealed id _ _ (psk_waits _ facts) has_mac has_tag =
-      (let same : psk3_taken login header sealed ≡ psk.psk3_records login header mac tag sealed = rw (has_mac, has_tag) refl in
+      (let same : psk3_records_of login header sealed ≡ psk.psk3_records login header mac tag sealed = rw (has_mac, has_tag) refl in
       subst (λ (taken : List TagRecord). PskPeerTags setup (psk.over login good) taken (psk2_record login ∷ psk.psk4_record login id (result_for good)))
       same (psk_over login good header sealed id facts))
 
@@ -99,8 +99,8 @@ module _ (setup : PeerSetup) where
 
 -- at most two are accepted and at most two made
 pub psk_few : (setup : PeerSetup) (view : psk.View) (accepted made : List TagRecord) → PskPeerTags setup view accepted made → AreFew accepted made
-psk_few setup _ _ _ psk_unset = record { few_accepted = omega arith; few_made = omega arith }
-psk_few setup _ _ _ told = record { few_accepted = omega arith; few_made = omega arith }
+psk_few setup _ _ _ psk_unset = record { few_accepted = omega arith; few_produced = omega arith }
+psk_few setup _ _ _ told = record { few_accepted = omega arith; few_produced = omega arith }
 
 -- each is of the method
 pub psk_method : (setup : PeerSetup) (view : psk.View) (accepted made : List TagRecord) (t : TagRecord) → PskPeerTags setup view accepted made → IsIn t made

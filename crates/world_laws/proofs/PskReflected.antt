@@ -14,13 +14,13 @@ use Rattle.tag_book.specs.Book.{first_broken, tags_verdict_either}
 use Rattle.eap_world.specs.Conversations.{front}
 use Rattle.eap_world.specs.Judgement.{is_success}
 use Rattle.world_laws.specs.Agreement.{AgreeAnew}
-use Rattle.world_laws.specs.Alone.{PeerIsHeard}
+use Rattle.world_laws.specs.Alone.{PeerIsAccepted}
 use Rattle.world_laws.specs.ByMethod.{PeerTags}
-use Rattle.world_laws.specs.PskPeerStands.{PskPeerTags, psk_unset, psk_fresh, psk_waits, psk_over, PskBegun, psk2_record}
+use Rattle.world_laws.specs.PskPeerInvariant.{PskPeerTags, psk_unset, psk_fresh, psk_waits, psk_over, PskStarted, psk2_record}
 use Rattle.world_laws.specs.PskReflected.{ReflectedEndsAgree}
 use Rattle.world_laws.specs.Records.{IsIn, tags_by}
-use Rattle.world_laws.specs.ToldTags.{MadeByServer, PeerTold, ServerTold}
-use Rattle.world_laws.proofs.Alone.{heard_by}
+use Rattle.world_laws.specs.TagOwners.{OnlyByServer, PeerTagOwner, ServerTagOwner}
+use Rattle.world_laws.proofs.Alone.{delivered_by}
 use Rattle.world_laws.proofs.Among.{among_one, among_two}
 use Rattle.world_laws.proofs.Asks.{AsksServer}
 use Rattle.world_laws.proofs.Conversing.{BothConverse, run_converses}
@@ -29,18 +29,18 @@ use Rattle.world_laws.proofs.FreshAgree.{agree_anew, peer_won}
 use Rattle.world_laws.proofs.HonestOfEither.{none_if_honest}
 use Rattle.world_laws.proofs.OneLogin.{first_is_in}
 use Rattle.world_laws.proofs.OneMethod.{apart}
-use Rattle.world_laws.proofs.PastConversations.{accepted_now, made_in, where_made}
-use Rattle.world_laws.proofs.PeerByMethod.{made_by_psk}
+use Rattle.world_laws.proofs.PastConversations.{accepted_now, made_in, where_created}
+use Rattle.world_laws.proofs.PeerByMethod.{created_by_psk}
 use Rattle.world_laws.proofs.PskAgrees as psk_agrees
 use Rattle.world_laws.proofs.PskFields.{front_size}
-use Rattle.world_laws.proofs.PskPeerTells.{labels_apart}
-use Rattle.world_laws.proofs.PskServerTells.{mac_s_made}
+use Rattle.world_laws.proofs.PskPeerOwners.{labels_apart}
+use Rattle.world_laws.proofs.PskServerOwners.{mac_s_created}
 use Rattle.world_laws.proofs.Reflected.{of_peer}
 use Rattle.world_laws.proofs.SucceedingEnds.{PeerSucceeds, one_of, with_psk, with_gpsk}
 use Rattle.world_laws.proofs.TagsOfEnds.{honest_tags}
 use Rattle.eap_world.specs.World.{WorldNow}
 use Rattle.tag_book.specs.declared.book.End.TheVariants as end
-use Rattle.tag_book.specs.declared.book.Makers.TheVariants.{Either}
+use Rattle.tag_book.specs.declared.book.MadeBy.TheVariants.{Either}
 use Rattle.tag_book.specs.declared.book.TagsVerdict.TheVariants.{Honest}
 use Rattle.tag_book.specs.declared.book.Use.TheVariants.{Made}
 
@@ -57,24 +57,24 @@ module _ (key id_s rand_p mac : List ℕ) (p_size : length rand_p ≡ 16) (setup
   abbrev tag : TagRecord
   tag = ak_record key (mac_s_octets id_s rand_p) mac
 
-  by_psk2 : (login : psk.Login) → PskBegun (peers.own_nonce setup nonce) login → tag ≡ psk2_record login → front nonce ≡ rand_p
+  by_psk2 : (login : psk.Login) → PskStarted (peers.setup_with_nonce setup nonce) login → tag ≡ psk2_record login → front nonce ≡ rand_p
   unfolding psk.mac_p_covers
   by_psk2 login facts e =
       sym (same_end id_s rand_p login.cred.id_p login.id_s login.rand_s (rand_of login.nonce) p_size
       (front_size login.nonce (omega (arith, ap length facts.nonce, size)))
       (ap (λ (r : TagRecord). r.octets) e) ∙ ap front facts.nonce)
 
-  in_view : (view : psk.View) (accepted made : List TagRecord) → PskPeerTags (peers.own_nonce setup nonce) view accepted made → IsIn tag made → front nonce ≡ rand_p
+  in_view : (view : psk.View) (accepted made : List TagRecord) → PskPeerTags (peers.setup_with_nonce setup nonce) view accepted made → IsIn tag made → front nonce ≡ rand_p
   in_view _ _ _ psk_unset is = elim is [ ]
   in_view _ _ _ (psk_fresh allowed) is = elim is [ ]
   in_view _ _ _ (psk_waits login facts) is = by_psk2 login facts (among_one _ _ is)
   in_view _ _ _ (psk_over login good header sealed id facts) is =
       elim (among_two _ _ _ is) [ inl e ↦ by_psk2 login facts e | inr e ↦ labels_apart (ap (λ (r : TagRecord). r.label) e) ]
 
-  in_tags : (selected : Option ℕ) (views : PeerViews) (accepted made : List TagRecord) → PeerTags (peers.own_nonce setup nonce) selected views accepted made
+  in_tags : (selected : Option ℕ) (views : PeerViews) (accepted made : List TagRecord) → PeerTags (peers.setup_with_nonce setup nonce) selected views accepted made
       → IsIn tag made → front nonce ≡ rand_p
   in_tags selected views accepted made told is =
-      in_view views.psk accepted made (made_by_psk (peers.own_nonce setup nonce) selected views accepted made tag told is refl).1 is
+      in_view views.psk accepted made (created_by_psk (peers.setup_with_nonce setup nonce) selected views accepted made tag told is refl).1 is
 
 -- ---- what a peer that has succeeded by EAP-PSK asks of the server
 
@@ -83,10 +83,10 @@ pub record AsksAnother (setup : PeerSetup) (nonce : List ℕ) (accepted made : L
   -- it made no such tag itself, and no conversation of the peer with another nonce did
   pub not_own : IsIn asks.tag made → ⊥
   pub no_other : (other : List ℕ) (held : Option (List ℕ)) (their_accepted their_made : List TagRecord) → length other ≡ 32
-      → PeerTold setup other held their_accepted their_made → IsIn asks.tag their_made → front other ≡ front nonce
+      → PeerTagOwner setup other held their_accepted their_made → IsIn asks.tag their_made → front other ≡ front nonce
 
 pub asks_another : (setup : PeerSetup) (nonce : List ℕ) (now : PeerNow) (accepted made : List TagRecord) → length nonce ≡ 32
-    → PeerSucceeds (peers.own_nonce setup nonce) now accepted made → now.vars.selected ≡ Some psk_kind → AsksAnother setup nonce accepted made
+    → PeerSucceeds (peers.setup_with_nonce setup nonce) now accepted made → now.vars.selected ≡ Some psk_kind → AsksAnother setup nonce accepted made
 unfolding psk.mac_s_covers
 asks_another setup nonce now _ _ size (with_psk login header sealed id is_selected in_psk facts) by_psk =
     let t = ak_record login.cred.psk (psk.mac_s_covers login) (psk.mac_s_of login) in
@@ -96,9 +96,9 @@ asks_another setup nonce now _ _ size (with_psk login header sealed id is_select
         tag = t;
         rest = _;
         first = refl;
-        made = subst (λ (x : List ℕ). MadeByServer t x) (ap front facts.nonce) (mac_s_made login.cred.psk login.id_s (rand_of login.nonce) (psk.mac_s_of login) n_front);
+        made = subst (λ (x : List ℕ). OnlyByServer t x) (ap front facts.nonce) (mac_s_created login.cred.psk login.id_s (rand_of login.nonce) (psk.mac_s_of login) n_front);
       };
-      not_own = psk_agrees.peer_not_own (peers.own_nonce setup nonce) login facts id;
+      not_own = psk_agrees.peer_not_own (peers.setup_with_nonce setup nonce) login facts id;
       no_other = λ other held their_accepted their_made other_size told is.
           (in_tags login.cred.psk login.id_s (rand_of login.nonce) (psk.mac_s_of login) n_front setup other other_size told.selected told.views their_accepted
           their_made told.tags is
@@ -113,7 +113,7 @@ module _ (setup : Setup) (w : WorldNow) (h : BothConverse setup w) where
   not_peers : w.conversations.fresh ≡ true → (asked : AsksAnother setup.peer h.peer_nonce h.peer.accepted h.peer.made)
       → IsIn asked.asks.tag (tags_by end.Peer Made w.book) → ⊥
   not_peers fresh asked is =
-      elim (where_made (PeerTold setup.peer) _ _ _ _ h.peer asked.asks.tag is) [
+      elim (where_created (PeerTagOwner setup.peer) _ _ _ _ h.peer asked.asks.tag is) [
         | inl now ↦ asked.not_own now
         | inr past ↦ past.holds.differs fresh
             (asked.no_other past.conversation.nonce past.conversation.held past.conversation.accepted past.conversation.made past.holds.size past.holds.told
@@ -125,7 +125,7 @@ module _ (setup : Setup) (w : WorldNow) (h : BothConverse setup w) where
       → IsIn asked.asks.tag (tags_by end.Server Made w.book)
   of_server honest fresh asked =
       one_of ((honest_tags end.Peer w.book (none_if_honest (first_broken Either [] w.book) honest)).each asked.asks.tag
-      (accepted_now (PeerTold setup.peer) _ _ _ _ h.peer asked.asks.tag (first_is_in asked.asks.tag asked.asks.rest h.peer.accepted asked.asks.first)))
+      (accepted_now (PeerTagOwner setup.peer) _ _ _ _ h.peer asked.asks.tag (first_is_in asked.asks.tag asked.asks.rest h.peer.accepted asked.asks.first)))
       (not_peers fresh asked)
 
   pub asks_present : is_success w.parties.peer.vars.state ≡ true → w.parties.peer.vars.selected ≡ Some psk_kind
@@ -149,9 +149,9 @@ reflected_ends_agree setup events whole = record {
 
 -- ---- the peer alone
 
-pub heard_psk : (setup : Setup) (w : WorldNow) → BothConverse setup w → tags_verdict_either w.book ≡ Honest → w.conversations.fresh ≡ true
-    → is_success w.parties.peer.vars.state ≡ true → w.parties.peer.vars.selected ≡ Some psk_kind → PeerIsHeard setup w
-heard_psk setup w h honest fresh p_in by_psk =
+pub received_psk : (setup : Setup) (w : WorldNow) → BothConverse setup w → tags_verdict_either w.book ≡ Honest → w.conversations.fresh ≡ true
+    → is_success w.parties.peer.vars.state ≡ true → w.parties.peer.vars.selected ≡ Some psk_kind → PeerIsAccepted setup w
+received_psk setup w h honest fresh p_in by_psk =
     let asked = asks_present setup w h p_in by_psk in
-    heard_by setup w h (of_peer setup w h honest) fresh p_in asked.asks
-    (made_in (ServerTold setup.server) _ _ _ _ h.server asked.asks.tag (of_server setup w h honest fresh asked))
+    delivered_by setup w h (of_peer setup w h honest) fresh p_in asked.asks
+    (made_in (ServerTagOwner setup.server) _ _ _ _ h.server asked.asks.tag (of_server setup w h honest fresh asked))

@@ -15,26 +15,26 @@ use Rattle.eap_method.specs.PskTags.{ak_record, tek_record, channel_nonce, hidde
 use Rattle.eap_method.specs.Server.{side_of}
 use Rattle.eap_method.specs.Turns.{ServerOutcome, body_of}
 use Rattle.method_laws.specs.PskServerRows as psk_row
-use Rattle.world_laws.specs.PskServerStands.{PskServerTags, psk_asked, psk_checked, psk_refused, psk_over, psk2_record, psk_rand_p}
+use Rattle.world_laws.specs.PskServerInvariant.{PskServerTags, psk_asked, psk_checked, psk_refused, psk_over, psk2_record, psk_rand_p}
 use Rattle.world_laws.specs.Records.{AreFew, IsIn}
 use Rattle.world_laws.proofs.Among.{among_two}
-use Rattle.world_laws.proofs.Hearing.{Hears, as_before, hears_now}
+use Rattle.world_laws.proofs.Receiving.{Receives, as_before, receives_now}
 use Rattle.world_laws.proofs.PskFields.{read_rand}
 use Rattle.world_laws.proofs.PskHeaders.{header_read}
-use Rattle.world_laws.proofs.PskNonces.{read_stands}
+use Rattle.world_laws.proofs.PskNonces.{read_occurs}
 use Rattle.world_laws.proofs.ServerTurns.{Asks, IsRequest, Turned, asks_no_more, asks_none, asks_one, drops, ends, request_is, requests}
 
 -- ---- the nonce
 
 module _ (users : List User) (next_id : ℕ) (octets : List ℕ) where
-  pub psk_heard : (view : psk.View) (out : ServerOutcome psk.View) → psk_row.PskServerRow users next_id view octets out
-      → Hears (Some (body_of octets)) (psk_rand_p view) (psk_rand_p out.after)
-  psk_heard view _ (psk_row.drops c) = as_before refl
-  psk_heard view _ (psk_row.refuses own nonce _ _ _ _ in_view _ _ _) = as_before (sym (ap psk_rand_p in_view))
-  psk_heard view _ (psk_row.answers own nonce rand_s rand_p mac id_p user in_view is_read own_nonce known has_mac) =
-      hears_now (body_of octets) rand_p refl refl (read_stands (body_of octets) _ is_read)
-  psk_heard view _ (psk_row.ends_success login _ _ _ _ in_view _ _ _ _ _ _ _ _ _) = as_before (sym (ap psk_rand_p in_view))
-  psk_heard view _ (psk_row.ends_failure login _ _ _ _ in_view _ _ _ _ _ _ _ _ _) = as_before (sym (ap psk_rand_p in_view))
+  pub psk_from_sender : (view : psk.View) (out : ServerOutcome psk.View) → psk_row.PskServerRow users next_id view octets out
+      → Receives (Some (body_of octets)) (psk_rand_p view) (psk_rand_p out.after)
+  psk_from_sender view _ (psk_row.drops c) = as_before refl
+  psk_from_sender view _ (psk_row.refuses own nonce _ _ _ _ in_view _ _ _) = as_before (sym (ap psk_rand_p in_view))
+  psk_from_sender view _ (psk_row.answers own nonce rand_s rand_p mac id_p user in_view is_read setup_with_nonce known has_mac) =
+      receives_now (body_of octets) rand_p refl refl (read_occurs (body_of octets) _ is_read)
+  psk_from_sender view _ (psk_row.ends_success login _ _ _ _ in_view _ _ _ _ _ _ _ _ _) = as_before (sym (ap psk_rand_p in_view))
+  psk_from_sender view _ (psk_row.ends_failure login _ _ _ _ in_view _ _ _ _ _ _ _ _ _) = as_before (sym (ap psk_rand_p in_view))
 
 -- a view that has accepted no tag holds none
 pub psk_none : (setup : ServerSetup) (view : psk.View) (accepted made : List TagRecord) → PskServerTags setup view accepted made → accepted ≡ [] → psk_rand_p view ≡ None
@@ -114,21 +114,21 @@ module _ (setup : ServerSetup) where
         requests _ _ _
         (psk_answers own nonce rand_s rand_p mac id_p _ user next_id accepted made (at_psk setup accepted made view _ in_view told)
         is_read known has_mac)
-    psk_turned view _ told (psk_row.ends_success login rand_s _ tag sealed in_view is_read own_nonce _ _ has_tag _ _ own_success their_success) =
+    psk_turned view _ told (psk_row.ends_success login rand_s _ tag sealed in_view is_read setup_with_nonce _ _ has_tag _ _ own_success their_success) =
         ends true _ _
-        (psk_ends login true _ tag sealed (λ _. own_success) (header_read octets rand_s _ tag sealed is_read ∙ own_nonce) (λ _. their_success) accepted made
+        (psk_ends login true _ tag sealed (λ _. own_success) (header_read octets rand_s _ tag sealed is_read ∙ setup_with_nonce) (λ _. their_success) accepted made
         (at_psk setup accepted made view _ in_view told) has_tag)
         (λ _. (login, refl))
-    psk_turned view _ told (psk_row.ends_failure login rand_s _ tag sealed in_view is_read own_nonce _ _ has_tag _ _ _ _) =
+    psk_turned view _ told (psk_row.ends_failure login rand_s _ tag sealed in_view is_read setup_with_nonce _ _ has_tag _ _ _ _) =
         ends false _ _
-        (psk_ends login false _ tag sealed (λ e. absurd (false≢true e)) (header_read octets rand_s _ tag sealed is_read ∙ own_nonce) (λ e. absurd (false≢true e)) accepted made
+        (psk_ends login false _ tag sealed (λ e. absurd (false≢true e)) (header_read octets rand_s _ tag sealed is_read ∙ setup_with_nonce) (λ e. absurd (false≢true e)) accepted made
         (at_psk setup accepted made view _ in_view told) has_tag)
         (λ e. absurd (false≢true e))
 
 -- at most two are accepted and at most two made
 pub psk_few : (setup : ServerSetup) (view : psk.View) (accepted made : List TagRecord) → PskServerTags setup view accepted made → AreFew accepted made
-psk_few setup _ _ _ psk_refused = record { few_accepted = omega arith; few_made = omega arith }
-psk_few setup _ _ _ told = record { few_accepted = omega arith; few_made = omega arith }
+psk_few setup _ _ _ psk_refused = record { few_accepted = omega arith; few_produced = omega arith }
+psk_few setup _ _ _ told = record { few_accepted = omega arith; few_produced = omega arith }
 
 -- each is of the method
 pub psk_method : (setup : ServerSetup) (view : psk.View) (accepted made : List TagRecord) (t : TagRecord) → PskServerTags setup view accepted made → IsIn t made

@@ -11,7 +11,7 @@ use Rattle.eap_method.specs.declared.tags.TagRecord.{TagRecord}
 use Rattle.eap_method.specs.declared.values.ServerSide.{ServerSide}
 use Rattle.eap_method.specs.GpskServer as gpsk
 use Rattle.eap_method.specs.PskServer as psk
-use Rattle.eap_method.specs.Server.{ServerViews, Offer, side_of, server_offer, psk_offer, gpsk_offer, psk_turn, gpsk_turn, psk_hears, gpsk_hears, server_turn}
+use Rattle.eap_method.specs.Server.{ServerViews, Offer, side_of, server_offer, psk_offer, gpsk_offer, psk_turn, gpsk_turn, psk_receives, gpsk_receives, server_turn}
 use Rattle.eap_method.specs.Turns.{ServerOutcome, body_of, dropped}
 use Rattle.method_laws.specs.GpskServerRows.{GpskServerRow}
 use Rattle.method_laws.specs.PskServerRows.{PskServerRow}
@@ -21,14 +21,14 @@ use Rattle.server_machine.specs.Rows.{Proposes}
 use Rattle.server_machine.specs.ServerTable.{ServerNow, next_id}
 use Rattle.server_machine.specs.declared.variables.ServerVariables.{ServerVariables}
 use Rattle.world_laws.specs.ByMethod.{ServerHasSucceeded, ServerTags, gpsk_current, gpsk_server_succeeded, identity_current, none_current, psk_current, psk_server_succeeded, server_foreign, server_foreign_of}
-use Rattle.world_laws.specs.GpskServerStands.{GpskServerTags, gpsk_asked, gpsk_rand_p, gpsk_rand_p_in}
-use Rattle.world_laws.specs.PskServerStands.{PskServerTags, psk_asked, psk_rand_p, psk_rand_p_in}
+use Rattle.world_laws.specs.GpskServerInvariant.{GpskServerTags, gpsk_asked, gpsk_rand_p, gpsk_rand_p_in}
+use Rattle.world_laws.specs.PskServerInvariant.{PskServerTags, psk_asked, psk_rand_p, psk_rand_p_in}
 use Rattle.world_laws.specs.Records.{AreFew, AreNone, IsIn, untagged}
-use Rattle.world_laws.proofs.GpskServerTurns.{gpsk_asks, gpsk_few, gpsk_first, gpsk_heard, gpsk_method, gpsk_none, gpsk_turned}
-use Rattle.world_laws.proofs.Hearing.{Hears, as_before}
+use Rattle.world_laws.proofs.GpskServerTurns.{gpsk_asks, gpsk_few, gpsk_first, gpsk_from_sender, gpsk_method, gpsk_none, gpsk_turned}
+use Rattle.world_laws.proofs.Receiving.{Receives, as_before}
 use Rattle.world_laws.proofs.OneMethod.{apart}
 use Rattle.world_laws.proofs.PeerByMethod.{kinds_apart}
-use Rattle.world_laws.proofs.PskServerTurns.{psk_asks, psk_few, psk_first, psk_heard, psk_method, psk_none, psk_turned}
+use Rattle.world_laws.proofs.PskServerTurns.{psk_asks, psk_few, psk_first, psk_from_sender, psk_method, psk_none, psk_turned}
 use Rattle.world_laws.proofs.ServerTurns.{Asks, IsRequest, Offers, Turned, asks, asks_none, carried, drops, lacks}
 
 -- ---- the turn of a Type
@@ -42,11 +42,11 @@ pub data TurnOf (users : List User) (id kind : ℕ) (views : ServerViews) (octet
   of_none : (c : Cause) → TurnOf users id kind views octets (dropped views c)
 
 module _ (users : List User) (id kind : ℕ) (views : ServerViews) (octets : List ℕ) where
-  psk_has : kind ≡ psk_kind → (view : Option psk.View) → views.psk ≡ view → TurnOf users id kind views octets (psk_hears users id views octets view)
+  psk_has : kind ≡ psk_kind → (view : Option psk.View) → views.psk ≡ view → TurnOf users id kind views octets (psk_receives users id views octets view)
   psk_has same None at_view = of_none _
   psk_has same (Some view) at_view = of_psk same view at_view _ (psk_server_steps_are_rows users id view octets)
 
-  gpsk_has : kind ≡ gpsk_kind → (view : Option gpsk.View) → views.gpsk ≡ view → TurnOf users id kind views octets (gpsk_hears users id views octets view)
+  gpsk_has : kind ≡ gpsk_kind → (view : Option gpsk.View) → views.gpsk ≡ view → TurnOf users id kind views octets (gpsk_receives users id views octets view)
   gpsk_has same None at_view = of_none _
   gpsk_has same (Some view) at_view = of_gpsk same view at_view _ (gpsk_server_steps_are_rows users id view octets)
 
@@ -63,15 +63,15 @@ module _ (users : List User) (id kind : ℕ) (views : ServerViews) (octets : Lis
   turn_asks _ (of_none c) = asks_none id c
 
   -- of the nonce it holds what it held, or what came
-  pub turn_heard : (out : ServerOutcome ServerViews) → TurnOf users id kind views octets out
-      → Hears (Some (body_of octets)) (server_foreign_of views kind) (server_foreign_of out.after kind)
-  turn_heard _ (of_psk same view at_view out row) =
-      subst (λ (k : ℕ). Hears (Some (body_of octets)) (server_foreign_of views k) (server_foreign_of (psk_turn views out).after k)) (sym same)
-      (subst (λ (o : Option psk.View). Hears (Some (body_of octets)) (psk_rand_p_in o) (psk_rand_p out.after)) (sym at_view) (psk_heard users id octets view out row))
-  turn_heard _ (of_gpsk same view at_view out row) =
-      subst (λ (k : ℕ). Hears (Some (body_of octets)) (server_foreign_of views k) (server_foreign_of (gpsk_turn views out).after k)) (sym same)
-      (subst (λ (o : Option gpsk.View). Hears (Some (body_of octets)) (gpsk_rand_p_in o) (gpsk_rand_p out.after)) (sym at_view) (gpsk_heard users id octets view out row))
-  turn_heard _ (of_none c) = as_before refl
+  pub turn_received : (out : ServerOutcome ServerViews) → TurnOf users id kind views octets out
+      → Receives (Some (body_of octets)) (server_foreign_of views kind) (server_foreign_of out.after kind)
+  turn_received _ (of_psk same view at_view out row) =
+      subst (λ (k : ℕ). Receives (Some (body_of octets)) (server_foreign_of views k) (server_foreign_of (psk_turn views out).after k)) (sym same)
+      (subst (λ (o : Option psk.View). Receives (Some (body_of octets)) (psk_rand_p_in o) (psk_rand_p out.after)) (sym at_view) (psk_from_sender users id octets view out row))
+  turn_received _ (of_gpsk same view at_view out row) =
+      subst (λ (k : ℕ). Receives (Some (body_of octets)) (server_foreign_of views k) (server_foreign_of (gpsk_turn views out).after k)) (sym same)
+      (subst (λ (o : Option gpsk.View). Receives (Some (body_of octets)) (gpsk_rand_p_in o) (gpsk_rand_p out.after)) (sym at_view) (gpsk_from_sender users id octets view out row))
+  turn_received _ (of_none c) = as_before refl
 
 -- ---- the tags
 
@@ -80,20 +80,20 @@ one_view held one other is_one is_other = cc
 
 -- what the current method tells
 module _ (setup : ServerSetup) (current : Option ℕ) (views : ServerViews) where
-  pub told_by_psk : (view : psk.View) (accepted made : List TagRecord) → current ≡ Some psk_kind → views.psk ≡ Some view
+  pub reported_by_psk : (view : psk.View) (accepted made : List TagRecord) → current ≡ Some psk_kind → views.psk ≡ Some view
       → ServerTags setup current views accepted made → PskServerTags setup view accepted made
-  told_by_psk view _ _ is_psk at_view (none_current none) = absurd cc
-  told_by_psk view _ _ is_psk at_view (identity_current is_current) = apart current identity_kind psk_kind refl is_current is_psk
-  told_by_psk view _ _ is_psk at_view (psk_current other accepted made is_current in_view told) =
+  reported_by_psk view _ _ is_psk at_view (none_current none) = absurd cc
+  reported_by_psk view _ _ is_psk at_view (identity_current is_current) = apart current identity_kind psk_kind refl is_current is_psk
+  reported_by_psk view _ _ is_psk at_view (psk_current other accepted made is_current in_view told) =
       subst (λ (v : psk.View). PskServerTags setup v accepted made) (one_view views.psk view other at_view in_view) told
-  told_by_psk view _ _ is_psk at_view (gpsk_current other accepted made is_current in_view told) = apart current gpsk_kind psk_kind refl is_current is_psk
+  reported_by_psk view _ _ is_psk at_view (gpsk_current other accepted made is_current in_view told) = apart current gpsk_kind psk_kind refl is_current is_psk
 
-  pub told_by_gpsk : (view : gpsk.View) (accepted made : List TagRecord) → current ≡ Some gpsk_kind → views.gpsk ≡ Some view
+  pub reported_by_gpsk : (view : gpsk.View) (accepted made : List TagRecord) → current ≡ Some gpsk_kind → views.gpsk ≡ Some view
       → ServerTags setup current views accepted made → GpskServerTags setup view accepted made
-  told_by_gpsk view _ _ is_gpsk at_view (none_current none) = absurd cc
-  told_by_gpsk view _ _ is_gpsk at_view (identity_current is_current) = apart current identity_kind gpsk_kind refl is_current is_gpsk
-  told_by_gpsk view _ _ is_gpsk at_view (psk_current other accepted made is_current in_view told) = apart current psk_kind gpsk_kind refl is_current is_gpsk
-  told_by_gpsk view _ _ is_gpsk at_view (gpsk_current other accepted made is_current in_view told) =
+  reported_by_gpsk view _ _ is_gpsk at_view (none_current none) = absurd cc
+  reported_by_gpsk view _ _ is_gpsk at_view (identity_current is_current) = apart current identity_kind gpsk_kind refl is_current is_gpsk
+  reported_by_gpsk view _ _ is_gpsk at_view (psk_current other accepted made is_current in_view told) = apart current psk_kind gpsk_kind refl is_current is_gpsk
+  reported_by_gpsk view _ _ is_gpsk at_view (gpsk_current other accepted made is_current in_view told) =
       subst (λ (v : gpsk.View). GpskServerTags setup v accepted made) (one_view views.gpsk view other at_view in_view) told
 
   -- the Identity round has no tags
@@ -111,33 +111,33 @@ module _ (setup : ServerSetup) (current : Option ℕ) (views : ServerViews) wher
   in_none _ _ none (gpsk_current view accepted made is_current in_view told) = absurd cc
 
 -- what the method of a tag tells
-pub record PskMade (setup : ServerSetup) (current : Option ℕ) (views : ServerViews) (accepted made : List TagRecord) : Type 0 where
+pub record PskCreated (setup : ServerSetup) (current : Option ℕ) (views : ServerViews) (accepted made : List TagRecord) : Type 0 where
   pub view : psk.View
   pub is_current : current ≡ Some psk_kind
   pub in_view : views.psk ≡ Some view
   pub told : PskServerTags setup view accepted made
 
-pub record GpskMade (setup : ServerSetup) (current : Option ℕ) (views : ServerViews) (accepted made : List TagRecord) : Type 0 where
+pub record GpskCreated (setup : ServerSetup) (current : Option ℕ) (views : ServerViews) (accepted made : List TagRecord) : Type 0 where
   pub view : gpsk.View
   pub is_current : current ≡ Some gpsk_kind
   pub in_view : views.gpsk ≡ Some view
   pub told : GpskServerTags setup view accepted made
 
 module _ (setup : ServerSetup) (current : Option ℕ) (views : ServerViews) where
-  pub made_by_psk : (accepted made : List TagRecord) (t : TagRecord) → ServerTags setup current views accepted made → IsIn t made → t.method ≡ psk_kind
-      → PskMade setup current views accepted made
-  made_by_psk _ _ t (none_current none) is same = elim is [ ]
-  made_by_psk _ _ t (identity_current is_current) is same = elim is [ ]
-  made_by_psk _ _ t (psk_current view accepted made is_current in_view told) is same =
+  pub created_by_psk : (accepted made : List TagRecord) (t : TagRecord) → ServerTags setup current views accepted made → IsIn t made → t.method ≡ psk_kind
+      → PskCreated setup current views accepted made
+  created_by_psk _ _ t (none_current none) is same = elim is [ ]
+  created_by_psk _ _ t (identity_current is_current) is same = elim is [ ]
+  created_by_psk _ _ t (psk_current view accepted made is_current in_view told) is same =
       record { view = view; is_current = is_current; in_view = in_view; told = told }
-  made_by_psk _ _ t (gpsk_current view accepted made is_current in_view told) is same = kinds_apart t.method same (gpsk_method setup view accepted made t told is)
+  created_by_psk _ _ t (gpsk_current view accepted made is_current in_view told) is same = kinds_apart t.method same (gpsk_method setup view accepted made t told is)
 
-  pub made_by_gpsk : (accepted made : List TagRecord) (t : TagRecord) → ServerTags setup current views accepted made → IsIn t made → t.method ≡ gpsk_kind
-      → GpskMade setup current views accepted made
-  made_by_gpsk _ _ t (none_current none) is same = elim is [ ]
-  made_by_gpsk _ _ t (identity_current is_current) is same = elim is [ ]
-  made_by_gpsk _ _ t (psk_current view accepted made is_current in_view told) is same = kinds_apart t.method (psk_method setup view accepted made t told is) same
-  made_by_gpsk _ _ t (gpsk_current view accepted made is_current in_view told) is same =
+  pub created_by_gpsk : (accepted made : List TagRecord) (t : TagRecord) → ServerTags setup current views accepted made → IsIn t made → t.method ≡ gpsk_kind
+      → GpskCreated setup current views accepted made
+  created_by_gpsk _ _ t (none_current none) is same = elim is [ ]
+  created_by_gpsk _ _ t (identity_current is_current) is same = elim is [ ]
+  created_by_gpsk _ _ t (psk_current view accepted made is_current in_view told) is same = kinds_apart t.method (psk_method setup view accepted made t told is) same
+  created_by_gpsk _ _ t (gpsk_current view accepted made is_current in_view told) is same =
       record { view = view; is_current = is_current; in_view = in_view; told = told }
 
 -- where no tag is accepted no nonce is held
@@ -152,8 +152,8 @@ untagged_none setup current views _ _ (gpsk_current view accepted made is_curren
 
 pub tags_few : (setup : ServerSetup) (current : Option ℕ) (views : ServerViews) (accepted made : List TagRecord)
     → ServerTags setup current views accepted made → AreFew accepted made
-tags_few setup current views _ _ (none_current none) = record { few_accepted = omega arith; few_made = omega arith }
-tags_few setup current views _ _ (identity_current is_current) = record { few_accepted = omega arith; few_made = omega arith }
+tags_few setup current views _ _ (none_current none) = record { few_accepted = omega arith; few_produced = omega arith }
+tags_few setup current views _ _ (identity_current is_current) = record { few_accepted = omega arith; few_produced = omega arith }
 tags_few setup current views _ _ (psk_current view accepted made is_current in_view told) = psk_few setup view accepted made told
 tags_few setup current views _ _ (gpsk_current view accepted made is_current in_view told) = gpsk_few setup view accepted made told
 
@@ -168,12 +168,12 @@ method_turned setup current views accepted made tags id kind octets _ is_current
     let is : current ≡ Some psk_kind = is_current ∙ ap (λ (k : ℕ). Some k) same in
     carried (λ (v : psk.View). record views { psk = Some v }) (λ v a m told. psk_current v a m is refl told)
     (λ v well. psk_server_succeeded well.0 is (ap (λ (v : psk.View). Some v) well.1)) out
-    (psk_turned setup id octets accepted made view out (told_by_psk setup current views view accepted made is at_view tags) row)
+    (psk_turned setup id octets accepted made view out (reported_by_psk setup current views view accepted made is at_view tags) row)
 method_turned setup current views accepted made tags id kind octets _ is_current (of_gpsk same view at_view out row) =
     let is : current ≡ Some gpsk_kind = is_current ∙ ap (λ (k : ℕ). Some k) same in
     carried (λ (v : gpsk.View). record views { gpsk = Some v }) (λ v a m told. gpsk_current v a m is refl told)
     (λ v well. gpsk_server_succeeded well.0 is (ap (λ (v : gpsk.View). Some v) well.1)) out
-    (gpsk_turned setup id octets accepted made view out (told_by_gpsk setup current views view accepted made is at_view tags) row)
+    (gpsk_turned setup id octets accepted made view out (reported_by_gpsk setup current views view accepted made is at_view tags) row)
 method_turned setup current views accepted made tags id kind octets _ is_current (of_none c) = drops views c
 
 -- ---- the offer of a Type

@@ -11,17 +11,17 @@ use Rattle.eap_method.specs.Server.{Offer, ServerViews, side_of}
 use Rattle.eap_method.specs.Steps.{is_end}
 use Rattle.eap_method.specs.Turns.{ServerOutcome}
 use Rattle.server_machine.specs.Expanded.{response_octets, discards_bad, wraps, wraps_sent}
-use Rattle.server_machine.specs.Inputs.{ServerInput, start, timeout, octets, restart, server_answers, server_takes}
+use Rattle.server_machine.specs.Inputs.{ServerInput, start, timeout, octets, restart, server_answers, server_accepts}
 use Rattle.server_machine.specs.Rows as rows
 use Rattle.server_machine.specs.Rows.{Selects, after_identity, after_nak, first_identity, first_nak, first_other}
 use Rattle.server_machine.specs.ServerTable.{ServerNow, ServerAnswer, is_started, is_backend, awaits_first, next_id, next_id_after, server_restart, server_start}
 use Rattle.server_machine.specs.declared.variables.ServerVariables.{ServerVariables}
-use Rattle.server_machine.proofs.Hearing.{ServerHearing, as_it_is, bad, wrapping}
+use Rattle.server_machine.proofs.Receiving.{ServerReceiving, as_it_is, bad, wrapping}
 use Rattle.server_machine.proofs.ServerRows.{server_answers_are_rows}
 use Rattle.world_laws.specs.SingleSteps.{is_again}
 use Rattle.world_laws.proofs.ServerByMethod.{offer_asks, offer_of, turn_asks, turn_of}
 use Rattle.world_laws.proofs.ServerTurns.{IsRequest, request_is}
-use Rattle.world_laws.proofs.Taking.{server_taken}
+use Rattle.world_laws.proofs.Accepting.{server_accepted_tags}
 
 -- ---- a Success or a Failure
 
@@ -67,9 +67,9 @@ pub data ServerSpeaks (now : ServerNow) (input : ServerInput) (out : ServerAnswe
       (new : list_any is_again out.step.path ≡ false) (current : out.after.vars.current_id ≡ Some id) (last : out.after.vars.last_request ≡ packet)
       → ServerSpeaks now input out
 
-unstarted_goes : (s : State) → (elim s [ state.Initialize ↦ false | _ ↦ true ]) ≡ false → is_end s ≡ false
-unstarted_goes state.Initialize e = refl
-unstarted_goes s e = absurd (false≢true (sym e))
+unstarted_proceeds : (s : State) → (elim s [ state.Initialize ↦ false | _ ↦ true ]) ≡ false → is_end s ≡ false
+unstarted_proceeds state.Initialize e = refl
+unstarted_proceeds s e = absurd (false≢true (sym e))
 
 one_end : (packet : List ℕ) → IsEnd packet → (other : List ℕ) → Some packet ≡ Some other → IsEnd other
 one_end packet is other e = let same : packet ≡ other = cc in subst IsEnd same is
@@ -109,10 +109,10 @@ module _ (now : ServerNow) where
   row_speaks _ _ (rows.begins nonce) = restart_speaks nonce
   row_speaks _ _ (rows.ended bytes over) = rests refl refl refl refl
   row_speaks _ _ (rows.rests over) = rests refl refl refl refl
-  row_speaks _ _ (rows.goes_on is_begun) = rests refl refl refl refl
+  row_speaks _ _ (rows.goes_on is_initiated) = rests refl refl refl refl
   row_speaks _ _ (rows.drops bytes path c going why) = rests refl refl refl refl
   row_speaks _ _ (rows.starts unstarted) =
-      asks _ now.vars.first_id (request_is now.vars.first_id _ _) (unstarted_goes now.vars.state unstarted) refl refl refl refl
+      asks _ now.vars.first_id (request_is now.vars.first_id _ _) (unstarted_proceeds now.vars.state unstarted) refl refl refl refl
       (λ _ later. absurd (later refl))
   row_speaks _ _ (rows.resends going in_time) = repeats refl going refl refl refl refl
   row_speaks _ _ (rows.times_out going late) = gives_up going refl refl
@@ -177,11 +177,11 @@ module _ (now : ServerNow) where
   bad_speaks bytes =
       cond_both (awaits_first now.vars) _ _ (Speaks (octets bytes)) (λ _. rests refl refl refl refl) (λ _. rests refl refl refl refl)
 
-  hearing_speaks : (bytes : List ℕ) (out : ServerAnswer) → ServerHearing now bytes out → Speaks (octets bytes) out
-  hearing_speaks bytes _ as_it_is = answer_speaks (octets bytes)
-  hearing_speaks bytes _ (bad id kind body answers is_bad) = bad_speaks bytes
-  hearing_speaks bytes _ (wrapping id kind body answers good) =
+  receiving_speaks : (bytes : List ℕ) (out : ServerAnswer) → ServerReceiving now bytes out → Speaks (octets bytes) out
+  receiving_speaks bytes _ as_it_is = answer_speaks (octets bytes)
+  receiving_speaks bytes _ (bad id kind body answers is_bad) = bad_speaks bytes
+  receiving_speaks bytes _ (wrapping id kind body answers good) =
       wraps_speak bytes (response_octets now.vars bytes id kind body) _ (answer_speaks (octets _))
 
-pub server_speaks : (now : ServerNow) (input : ServerInput) → ServerSpeaks now input (server_takes now input)
-server_speaks now = server_taken now (ServerSpeaks now) (answer_speaks now) (hearing_speaks now)
+pub server_speaks : (now : ServerNow) (input : ServerInput) → ServerSpeaks now input (server_accepts now input)
+server_speaks now = server_accepted_tags now (ServerSpeaks now) (answer_speaks now) (receiving_speaks now)

@@ -41,19 +41,19 @@ asks_one id kind body tags = record {
 -- ---- tags
 
 -- a discard, or a turn whose tags are told by the view after it, which is a success where the turn says so
-pub data Turned (V : Type 0) (Tells : V → List TagRecord → List TagRecord → Type 0) (Succeeds : V → Type 0) (accepted made : List TagRecord)
+pub data Turned (V : Type 0) (IsResult : V → List TagRecord → List TagRecord → Type 0) (Succeeds : V → Type 0) (accepted made : List TagRecord)
     : ServerOutcome V → Type 0 where
-  drops : (view : V) (c : Cause) → Turned V Tells Succeeds accepted made (dropped view c)
-  requests : (packet : List ℕ) (tags : Tags) (view : V) (told : Tells view (accepted ++ tags.accepted) (made ++ tags.made))
-      → Turned V Tells Succeeds accepted made (record { turn = turn.Request packet tags; after = view })
-  ends : (good : Bool) (tags : Tags) (view : V) (told : Tells view (accepted ++ tags.accepted) (made ++ tags.made)) (well : good ≡ true → Succeeds view)
-      → Turned V Tells Succeeds accepted made (record { turn = turn.Done good tags; after = view })
+  drops : (view : V) (c : Cause) → Turned V IsResult Succeeds accepted made (dropped view c)
+  requests : (packet : List ℕ) (tags : Tags) (view : V) (told : IsResult view (accepted ++ tags.accepted) (made ++ tags.made))
+      → Turned V IsResult Succeeds accepted made (record { turn = turn.Request packet tags; after = view })
+  ends : (good : Bool) (tags : Tags) (view : V) (told : IsResult view (accepted ++ tags.accepted) (made ++ tags.made)) (well : good ≡ true → Succeeds view)
+      → Turned V IsResult Succeeds accepted made (record { turn = turn.Done good tags; after = view })
 
 -- a turn of one method's view is one of the views that it is in
-pub carried : {V W : Type 0} {Tells : V → List TagRecord → List TagRecord → Type 0} {Succeeds : V → Type 0}
+pub carried : {V W : Type 0} {IsResult : V → List TagRecord → List TagRecord → Type 0} {Succeeds : V → Type 0}
     {Shows : W → List TagRecord → List TagRecord → Type 0} {Wins : W → Type 0} {accepted made : List TagRecord} (into : V → W)
-    → ((view : V) (a m : List TagRecord) → Tells view a m → Shows (into view) a m) → ((view : V) → Succeeds view → Wins (into view))
-    → (out : ServerOutcome V) → Turned V Tells Succeeds accepted made out
+    → ((view : V) (a m : List TagRecord) → IsResult view a m → Shows (into view) a m) → ((view : V) → Succeeds view → Wins (into view))
+    → (out : ServerOutcome V) → Turned V IsResult Succeeds accepted made out
     → Turned W Shows Wins accepted made (record { turn = out.turn; after = into out.after })
 carried into shows wins _ (drops view c) = drops _ c
 carried into shows wins _ (requests packet tags view told) = requests packet tags _ (shows _ _ _ told)

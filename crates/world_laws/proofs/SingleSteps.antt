@@ -17,33 +17,33 @@ use Rattle.eap_packet.specs.declared.state.State.{State}
 use Rattle.eap_method.specs.Steps.{is_end}
 use Rattle.peer_machine.specs.PeerTable as peers
 use Rattle.peer_machine.specs.Inputs as peer_inputs
-use Rattle.peer_machine.specs.Inputs.{PeerInput, peer_takes}
+use Rattle.peer_machine.specs.Inputs.{PeerInput, peer_accepts}
 use Rattle.server_machine.specs.Inputs as server_inputs
-use Rattle.server_machine.specs.Inputs.{ServerInput, server_takes}
+use Rattle.server_machine.specs.Inputs.{ServerInput, server_accepts}
 use Rattle.server_machine.specs.ServerTable as servers
 use Rattle.server_machine.specs.ServerTable.{is_backend, is_started, server_start}
 use Rattle.server_machine.specs.declared.variables.Role.{Role}
 use Rattle.server_machine.specs.declared.variables.Role.TheVariants as role
 use Rattle.server_machine.proofs.Starting.{stays_as_it_is}
-use Rattle.pass_through.specs.Inputs.{PassInput, pass_takes}
+use Rattle.pass_through.specs.Inputs.{PassInput, pass_accepts}
 use Rattle.pass_through.specs.PassTable.{Side, is_over}
 use Rattle.eap_world.specs.Run.{run_of}
 use Rattle.eap_world.specs.Judgement.{is_success}
 use Rattle.eap_world.specs.Conversations.{Conversations}
 use Rattle.eap_world.specs.Sent.{Sent, last_to, packet_numbered}
-use Rattle.world_laws.specs.SingleSteps.{identifier_of, handed_in, is_delivery_of, is_restart, Sends, AnswersIt, is_again, CountsOn, has_ended, end_state, StepsAreLawful}
-use Rattle.eap_world.specs.World.{Call, Parties, WorldNow, WorldOutcome, act, call_at, call_of, call_with, act_of_call, called_unless, conversations_after, conversed_by, conversed_unless, first_skip, goes_to, held_anew, held_before, held_unless, is_alone, is_delivery, pass_port, pass_state, restart_call, restart_skips, role_in, run_after, sent_to, skip_table, act_of_skip, start_call, state_of, timer_call, timer_skips, to_pass, to_peer, to_server, world_made, world_start, world_step}
+use Rattle.world_laws.specs.SingleSteps.{identifier_of, delivered_in, is_delivery_of, is_restart, Sends, AnswersIt, is_again, CountsOn, has_ended, end_state, StepsAreLawful}
+use Rattle.eap_world.specs.World.{Call, Parties, WorldNow, WorldOutcome, act, call_at, call_of, call_with, act_of_call, called_unless, conversations_after, conversed_by, conversed_unless, first_skip, port_to, reported_anew, reported_before, reported_unless, is_alone, is_delivery, pass_port, pass_state, restart_call, restart_skips, role_in, run_after, sent_to, skip_table, act_of_skip, start_call, state_of, timer_call, timer_skips, to_pass, to_peer, to_server, initial_world, world_start, world_step}
 use Rattle.tag_book.specs.declared.book.End.{End}
 use Rattle.tag_book.specs.declared.book.End.TheVariants as end
 use Rattle.tag_book.specs.declared.book.Use.TheVariants.{Accepted}
 use Rattle.eap_world.specs.declared.told.Skip.{Skip}
-use Rattle.world_laws.specs.EndsStand.{BothStand, present_tags}
+use Rattle.world_laws.specs.EndInvariants.{BothInvariants, present_tags}
 use Rattle.world_laws.proofs.Acting.{counted_acted, next_is, restart_is, some_call, step_steps}
 use Rattle.world_laws.proofs.AsksByMethod.{peer_accepted, server_accepted}
-use Rattle.world_laws.proofs.EndsStand.{every_run_so_far, step_stands}
+use Rattle.world_laws.proofs.EndInvariants.{every_run_so_far, step_invariant}
 use Rattle.world_laws.proofs.OneMethod.{some_same}
 use Rattle.world_laws.proofs.SucceedingEnds.{peer_succeeds, server_succeeds}
-use Rattle.world_laws.proofs.LastSent.{Fits, HaveSaid, call_says, is_begin, starts_pass}
+use Rattle.world_laws.proofs.LastSent.{Fits, HaveSent, call_has_sent, is_first_line, starts_pass}
 use Rattle.world_laws.proofs.PassSpeaks as passing
 use Rattle.world_laws.proofs.PassSpeaks.{PassSpeaks, pass_speaks}
 use Rattle.world_laws.proofs.PeerSpeaks as peering
@@ -57,18 +57,18 @@ pub data StepOf (w : WorldNow) (e : Event) : WorldOutcome → Type 0 where
   is_skipped : (skip : Skip) → StepOf w e (counted_acted w w.held w.conversations (act_of_skip w.parties skip))
   is_called : (call : Call) (unskipped : first_skip (skip_table w.parties w.conversations w.sent e) ≡ None)
       (is_call : call_of w.conversations w.sent e ≡ Some call)
-      → StepOf w e (counted_acted w (held_anew w.held call) (conversations_after (w.counts.events + 1) w.conversations call) (act_of_call w.parties call))
+      → StepOf w e (counted_acted w (reported_anew w.held call) (conversations_after (w.counts.events + 1) w.conversations call) (act_of_call w.parties call))
 
 unless_of : (w : WorldNow) (e : Event) (skip : Option Skip) (call : Option Call)
     → first_skip (skip_table w.parties w.conversations w.sent e) ≡ skip → call_of w.conversations w.sent e ≡ call
     → StepOf w e
-    (counted_acted w (held_unless w.held skip call) (conversed_unless (w.counts.events + 1) w.conversations skip call) (called_unless w.parties skip call))
+    (counted_acted w (reported_unless w.held skip call) (conversed_unless (w.counts.events + 1) w.conversations skip call) (called_unless w.parties skip call))
 unless_of w e (Some skip) call skip_is call_is = is_skipped skip
 unless_of w e None None skip_is call_is = is_skipped _
 unless_of w e None (Some call) skip_is call_is = is_called call skip_is call_is
 
 step_of : (w : WorldNow) (e : Event) → StepOf w e (world_step w e)
-unfolding act conversed_by held_before world_step
+unfolding act conversed_by reported_before world_step
 step_of w e = unless_of w e (first_skip (skip_table w.parties w.conversations w.sent e)) (call_of w.conversations w.sent e) refl refl
 
 -- ---- what is handed in, and which timer ends
@@ -88,19 +88,19 @@ timer_peer party.Peer bytes e = absurd cc
 timer_peer party.Pass bytes e = absurd cc
 timer_peer party.Server bytes e = absurd cc
 
-handed_to_peer : (conversations : Conversations) (sent : List Sent) (e : Event) (bytes : List ℕ)
-    → call_of conversations sent e ≡ Some (to_peer (peer_inputs.octets bytes)) → bytes ≡ handed_in sent e
-handed_to_peer conversations sent (event.Deliver n) bytes is = with_peer (packet_numbered sent n) _ bytes is
-handed_to_peer conversations sent (event.Alter n place mask) bytes is = with_peer (packet_numbered sent n) _ bytes is
-handed_to_peer conversations sent (event.Cut n keep) bytes is = with_peer (packet_numbered sent n) _ bytes is
-handed_to_peer conversations sent (event.Inject to octets) bytes is = at_peer to octets bytes (some_call _ _ is)
-handed_to_peer conversations sent (event.Timeout of) bytes is = timer_peer of bytes (some_call _ _ is)
-handed_to_peer conversations sent event.AaaTimeout bytes is = cc is
-handed_to_peer conversations sent event.AaaNoReq bytes is = cc is
-handed_to_peer conversations sent event.Idle bytes is = cc is
-handed_to_peer conversations sent event.AltAccept bytes is = cc is
-handed_to_peer conversations sent event.AltReject bytes is = cc is
-handed_to_peer conversations sent (event.Restart of) bytes is =
+passed_to_peer : (conversations : Conversations) (sent : List Sent) (e : Event) (bytes : List ℕ)
+    → call_of conversations sent e ≡ Some (to_peer (peer_inputs.octets bytes)) → bytes ≡ delivered_in sent e
+passed_to_peer conversations sent (event.Deliver n) bytes is = with_peer (packet_numbered sent n) _ bytes is
+passed_to_peer conversations sent (event.Alter n place mask) bytes is = with_peer (packet_numbered sent n) _ bytes is
+passed_to_peer conversations sent (event.Cut n keep) bytes is = with_peer (packet_numbered sent n) _ bytes is
+passed_to_peer conversations sent (event.Inject to octets) bytes is = at_peer to octets bytes (some_call _ _ is)
+passed_to_peer conversations sent (event.Timeout of) bytes is = timer_peer of bytes (some_call _ _ is)
+passed_to_peer conversations sent event.AaaTimeout bytes is = cc is
+passed_to_peer conversations sent event.AaaNoReq bytes is = cc is
+passed_to_peer conversations sent event.Idle bytes is = cc is
+passed_to_peer conversations sent event.AltAccept bytes is = cc is
+passed_to_peer conversations sent event.AltReject bytes is = cc is
+passed_to_peer conversations sent (event.Restart of) bytes is =
     restart_is (λ (call : Call). call ≡ to_peer (peer_inputs.octets bytes) → bytes ≡ []) (λ nonce same. cc same) (λ same. cc same) (λ nonce same. cc same)
     conversations of _ is refl
 
@@ -152,7 +152,7 @@ abbrev is_start : Call → Bool
 is_start (to_peer (peer_inputs.restart nonce)) = true
 is_start (to_server server_inputs.start) = true
 is_start (to_server (server_inputs.restart nonce)) = true
-is_start (to_pass input) = is_begin input
+is_start (to_pass input) = is_first_line input
 is_start call = false
 
 -- ---- what is added to those sent
@@ -181,40 +181,40 @@ sent_same octets one other is is_other = cc
 -- ---- what holds in every run
 
 -- the server's role is that of the mode, and alone it has started
-pub record Begun (parties : Parties) : Type 0 where
+pub record ConversationStart (parties : Parties) : Type 0 where
   pub role : parties.server.vars.role ≡ role_in parties.mode
   pub begun : parties.mode ≡ mode.Alone → is_started parties.server.vars ≡ true
 
 pub record Holds (w : WorldNow) : Type 0 where
-  pub said : HaveSaid w.parties w.sent
-  pub begun : Begun w.parties
+  pub said : HaveSent w.parties w.sent
+  pub begun : ConversationStart w.parties
 
 -- a server to which octets may come has started, unless it is a backend
-alone_begun : (backend begun : Bool) → backend ≡ false → (backend || begun) ≡ true → begun ≡ true
-alone_begun true begun alone ready = cc alone
-alone_begun false begun alone ready = ready
+alone_started : (backend begun : Bool) → backend ≡ false → (backend || begun) ≡ true → begun ≡ true
+alone_started true begun alone ready = cc alone
+alone_started false begun alone ready = ready
 
 -- the role of a backend
 abbrev is_backend_role : Role → Bool
 is_backend_role of = elim of [ role.Backend ↦ true | role.StandAlone ↦ false ]
 
-call_begun : (parties : Parties) (call : Call) → Begun parties → Begun (act_of_call parties call).after
-call_begun parties (to_peer input) was = record { role = was.role; begun = was.begun }
-call_begun parties (to_server input) was =
+call_started : (parties : Parties) (call : Call) → ConversationStart parties → ConversationStart (act_of_call parties call).after
+call_started parties (to_peer input) was = record { role = was.role; begun = was.begun }
+call_started parties (to_server input) was =
     let before = parties.server.vars in
     let same = stays_as_it_is parties.server input in
     let of_mode = same.role ∙ was.role in
     record {
       role = of_mode;
       begun = λ alone.
-          alone_begun _ _ (ap is_backend_role (of_mode ∙ ap role_in alone)) (same.ready (or_right (is_backend before) (is_started before) (was.begun alone)));
+          alone_started _ _ (ap is_backend_role (of_mode ∙ ap role_in alone)) (same.ready (or_right (is_backend before) (is_started before) (was.begun alone)));
     }
-call_begun parties (to_pass input) was = record { role = was.role; begun = was.begun }
+call_started parties (to_pass input) was = record { role = was.role; begun = was.begun }
 
-fits_unstarted : (parties : Parties) (call : Call) → is_start call ≡ false → Fits parties call
-fits_unstarted parties (to_peer input) later alone = refl
-fits_unstarted parties (to_server input) later alone = refl
-fits_unstarted parties (to_pass input) later alone = later
+matches_unstarted : (parties : Parties) (call : Call) → is_start call ≡ false → Fits parties call
+matches_unstarted parties (to_peer input) later alone = refl
+matches_unstarted parties (to_server input) later alone = refl
+matches_unstarted parties (to_pass input) later alone = later
 
 at_start : (to : Port) (octets : List ℕ) → is_start (call_at to octets) ≡ false
 at_start port.Peer octets = refl
@@ -275,57 +275,57 @@ not_alone : (m : Mode) (skip : Skip) → m ≡ mode.Alone → first_skip ((is_al
 not_alone mode.Alone skip alone unskipped = cc unskipped
 not_alone mode.Through skip alone unskipped = cc alone
 
-restart_fits : (parties : Parties) (conversations : Conversations) (of : Party) (call : Call)
+restart_matches : (parties : Parties) (conversations : Conversations) (of : Party) (call : Call)
     → first_skip (restart_skips parties conversations of) ≡ None → restart_call conversations of ≡ Some call → Fits parties call
-restart_fits parties conversations party.Peer call unskipped is =
+restart_matches parties conversations party.Peer call unskipped is =
     next_is (Fits parties) (λ nonce. to_peer (peer_inputs.restart nonce)) (λ nonce alone. refl) conversations.peer_left call is
-restart_fits parties conversations party.Pass call unskipped is = λ alone. absurd (not_alone parties.mode _ alone unskipped)
-restart_fits parties conversations party.Server call unskipped is =
+restart_matches parties conversations party.Pass call unskipped is = λ alone. absurd (not_alone parties.mode _ alone unskipped)
+restart_matches parties conversations party.Server call unskipped is =
     next_is (Fits parties) (λ nonce. to_server (server_inputs.restart nonce)) (λ nonce alone. refl) conversations.server_left call is
 
-event_fits : (parties : Parties) (conversations : Conversations) (sent : List Sent) (e : Event) (call : Call)
+event_matches : (parties : Parties) (conversations : Conversations) (sent : List Sent) (e : Event) (call : Call)
     → first_skip (skip_table parties conversations sent e) ≡ None → call_of conversations sent e ≡ Some call → Fits parties call
-event_fits parties conversations sent (event.Restart of) call unskipped is = restart_fits parties conversations of call unskipped is
-event_fits parties conversations sent e call unskipped is = fits_unstarted parties call (of_start conversations sent e call refl is)
+event_matches parties conversations sent (event.Restart of) call unskipped is = restart_matches parties conversations of call unskipped is
+event_matches parties conversations sent e call unskipped is = matches_unstarted parties call (of_start conversations sent e call refl is)
 
-step_holds : (w : WorldNow) (e : Event) (out : WorldOutcome) → StepOf w e out → Holds w → Holds out.after
-step_holds w e _ (is_skipped skip) holds = record { said = rw (append-nil w.sent) holds.said; begun = holds.begun }
-step_holds w e _ (is_called call unskipped is_call) holds = record {
-  said = call_says w.parties w.sent holds.said call (event_fits w.parties w.conversations w.sent e call unskipped is_call);
-  begun = call_begun w.parties call holds.begun;
+step_satisfies : (w : WorldNow) (e : Event) (out : WorldOutcome) → StepOf w e out → Holds w → Holds out.after
+step_satisfies w e _ (is_skipped skip) holds = record { said = rw (append-nil w.sent) holds.said; begun = holds.begun }
+step_satisfies w e _ (is_called call unskipped is_call) holds = record {
+  said = call_has_sent w.parties w.sent holds.said call (event_matches w.parties w.conversations w.sent e call unskipped is_call);
+  begun = call_started w.parties call holds.begun;
 }
 
-run_holds : (w : WorldNow) (events : List Event) → Holds w → Holds (run_after w events)
+run_satisfies : (w : WorldNow) (events : List Event) → Holds w → Holds (run_after w events)
 unfolding run_after
-run_holds w [] holds = holds
-run_holds w (e ∷ rest) holds = run_holds (world_step w e).after rest (step_holds w e (world_step w e) (step_of w e) holds)
+run_satisfies w [] holds = holds
+run_satisfies w (e ∷ rest) holds = run_satisfies (world_step w e).after rest (step_satisfies w e (world_step w e) (step_of w e) holds)
 
-start_fits : (m : Mode) → m ≡ mode.Alone → starts_pass (start_call m) ≡ false
-start_fits mode.Alone alone = refl
-start_fits mode.Through alone = cc alone
+start_matches : (m : Mode) → m ≡ mode.Alone → starts_pass (start_call m) ≡ false
+start_matches mode.Alone alone = refl
+start_matches mode.Through alone = cc alone
 
-made_said : (setup : Setup) → (let w = world_made setup in HaveSaid w.parties w.sent)
-made_said setup = record {
+initial_has_sent : (setup : Setup) → (let w = initial_world setup in HaveSent w.parties w.sent)
+initial_has_sent setup = record {
   peer = λ id e. cc e;
   server = λ begun going. absurd (false≢true begun);
   pass = λ through goes. absurd (false≢true goes.begun);
   rests = λ alone. refl;
 }
 
-start_begun : (setup : Setup) (m : Mode) → setup.mode ≡ m → Begun (act_of_call (world_made setup).parties (start_call m)).after
+start_started : (setup : Setup) (m : Mode) → setup.mode ≡ m → ConversationStart (act_of_call (initial_world setup).parties (start_call m)).after
 unfolding server_start
-start_begun setup mode.Alone is = record { role = refl; begun = λ alone. refl }
-start_begun setup mode.Through is = record { role = refl; begun = λ alone. absurd (let both : mode.Alone ≡ mode.Through = sym alone ∙ is in cc) }
+start_started setup mode.Alone is = record { role = refl; begun = λ alone. refl }
+start_started setup mode.Through is = record { role = refl; begun = λ alone. absurd (let both : mode.Alone ≡ mode.Through = sym alone ∙ is in cc) }
 
-start_holds : (setup : Setup) → Holds (world_start (world_made setup)).after
+start_satisfies : (setup : Setup) → Holds (world_start (initial_world setup)).after
 unfolding world_start
-start_holds setup = record {
-  said = call_says (world_made setup).parties [] (made_said setup) (start_call setup.mode) (start_fits setup.mode);
-  begun = start_begun setup setup.mode refl;
+start_satisfies setup = record {
+  said = call_has_sent (initial_world setup).parties [] (initial_has_sent setup) (start_call setup.mode) (start_matches setup.mode);
+  begun = start_started setup setup.mode refl;
 }
 
-pub every_run_holds : (setup : Setup) (events : List Event) → Holds (run_of setup events)
-every_run_holds setup events = run_holds (world_start (world_made setup)).after events (start_holds setup)
+pub every_run_satisfies : (setup : Setup) (events : List Event) → Holds (run_of setup events)
+every_run_satisfies setup events = run_satisfies (world_start (initial_world setup)).after events (start_satisfies setup)
 
 -- ---- the laws
 
@@ -336,20 +336,20 @@ no_party : {A : Type 0} (of : Party) → ◌≡◌ {A = Option Party} None (Some
 no_party of e = absurd cc
 
 module _ (w : WorldNow) (e : Event) (holds : Holds w) where
-  peer_answers : (input : PeerInput) (packet : Sent) → (let out = peer_takes w.parties.peer input in
+  peer_answers : (input : PeerInput) (packet : Sent) → (let out = peer_accepts w.parties.peer input in
       PeerSpeaks w.parties.peer input out → call_of w.conversations w.sent e ≡ Some (to_peer input) → out.step.sent ≡ Some packet.octets
-      → AnswersIt (handed_in w.sent e) packet.octets)
+      → AnswersIt (delivered_in w.sent e) packet.octets)
   peer_answers input packet (peering.rests _ _ unsent same_id same) is_call sent = unsent_none _ _ unsent sent
   peer_answers _ packet (peering.answers bytes answer _ is going is_sent new last_id last) is_call sent =
       let same : answer ≡ packet.octets = sent_same _ _ _ is_sent sent in
-      let came : bytes ≡ handed_in w.sent e = handed_to_peer w.conversations w.sent e bytes is_call in
+      let came : bytes ≡ delivered_in w.sent e = passed_to_peer w.conversations w.sent e bytes is_call in
       record {
         is_response = ap code_of (sym same) ∙ is.code;
         same = ap identifier_of (sym same) ∙ (is.same ∙ ap identifier_of came);
       }
   peer_answers _ packet (peering.repeats bytes _ was_last going is_sent same_id same) is_call sent =
       let same_octets : w.parties.peer.vars.last_response ≡ packet.octets = sent_same _ _ _ is_sent sent in
-      let came : bytes ≡ handed_in w.sent e = handed_to_peer w.conversations w.sent e bytes is_call in
+      let came : bytes ≡ delivered_in w.sent e = passed_to_peer w.conversations w.sent e bytes is_call in
       let was = holds.said.peer (identifier_of bytes) was_last in
       record {
         is_response = ap code_of (sym same_octets) ∙ was.is.code;
@@ -357,7 +357,7 @@ module _ (w : WorldNow) (e : Event) (holds : Holds w) where
       }
   peer_answers _ packet (peering.begins nonce _ unsent none) is_call sent = unsent_none _ _ unsent sent
 
-  answers_law : (out : WorldOutcome) → StepOf w e out → (packet : Sent) → Sends w out party.Peer packet → AnswersIt (handed_in w.sent e) packet.octets
+  answers_law : (out : WorldOutcome) → StepOf w e out → (packet : Sent) → Sends w out party.Peer packet → AnswersIt (delivered_in w.sent e) packet.octets
   answers_law _ (is_skipped skip) packet sends = no_party _ sends.acts
   answers_law _ (is_called (to_peer input) unskipped is_call) packet sends =
       let is = one_sent _ _ packet (cancel w.sent _ _ sends.adds) in
@@ -366,19 +366,19 @@ module _ (w : WorldNow) (e : Event) (holds : Holds w) where
   answers_law _ (is_called (to_pass input) unskipped is_call) packet sends = absurd (let other = sends.acts in cc other)
 
   -- what is sent again
-  peer_again : (input : PeerInput) (octets : List ℕ) → (let out = peer_takes w.parties.peer input in
+  peer_again : (input : PeerInput) (octets : List ℕ) → (let out = peer_accepts w.parties.peer input in
       PeerSpeaks w.parties.peer input out → list_any is_again out.step.path ≡ true → out.step.sent ≡ Some octets
-      → last_to (goes_to party.Peer w.parties.mode) w.sent ≡ Some octets)
+      → last_to (port_to party.Peer w.parties.mode) w.sent ≡ Some octets)
   peer_again input octets (peering.rests _ _ unsent same_id same) again sent = unsent_none _ _ unsent sent
   peer_again _ octets (peering.answers bytes answer _ is going is_sent new last_id last) again sent = absurd (false≢true (sym new ∙ again))
   peer_again _ octets (peering.repeats bytes _ was_last going is_sent same_id same) again sent =
       (holds.said.peer (identifier_of bytes) was_last).is_last ∙ (sym is_sent ∙ sent)
   peer_again _ octets (peering.begins nonce _ unsent none) again sent = unsent_none _ _ unsent sent
 
-  server_again : (input : ServerInput) (octets : List ℕ) → (let out = server_takes w.parties.server input in
+  server_again : (input : ServerInput) (octets : List ℕ) → (let out = server_accepts w.parties.server input in
       ServerSpeaks w.parties.server input out → (input ≡ server_inputs.timeout → w.parties.mode ≡ mode.Alone)
       → list_any is_again out.step.path ≡ true → out.step.sent ≡ Some octets
-      → last_to (goes_to party.Server w.parties.mode) w.sent ≡ Some octets)
+      → last_to (port_to party.Server w.parties.mode) w.sent ≡ Some octets)
   server_again input octets (serving.rests unsent same_state same_id same) alone again sent = unsent_none _ _ unsent sent
   server_again input octets (serving.asks packet id is going is_sent new current last follows) alone again sent = absurd (false≢true (sym new ∙ again))
   server_again input octets (serving.repeats is_timer_input going is_sent same_state same_id same) alone again sent =
@@ -388,13 +388,13 @@ module _ (w : WorldNow) (e : Event) (holds : Holds w) where
   server_again input octets (serving.awaits nonce is_restart unsent unstarted) alone again sent = unsent_none _ _ unsent sent
   server_again input octets (serving.begins nonce is_restart packet id is is_sent new current last) alone again sent = absurd (false≢true (sym new ∙ again))
 
-  pass_again : (input : PassInput) (octets : List ℕ) (m : Mode) → w.parties.mode ≡ m → (let out = pass_takes w.parties.pass input in
+  pass_again : (input : PassInput) (octets : List ℕ) (m : Mode) → w.parties.mode ≡ m → (let out = pass_accepts w.parties.pass input in
       PassSpeaks w.parties.pass input out → list_any is_again out.step.path ≡ true → out.step.sent ≡ Some octets
       → last_to (pass_port out.step.to) w.sent ≡ Some octets)
   pass_again input octets m is_mode (passing.rests unsent same was still) again sent = unsent_none _ _ unsent sent
   pass_again input octets m is_mode (passing.onwards to goes new same) again sent = absurd (false≢true (sym new ∙ again))
   pass_again input octets m is_mode (passing.asks packet to going is_sent new last begins) again sent = absurd (false≢true (sym new ∙ again))
-  pass_again input octets m is_mode (passing.begins_anew is_restart packet to is_sent new last) again sent = absurd (false≢true (sym new ∙ again))
+  pass_again input octets m is_mode (passing.starts_anew is_restart packet to is_sent new last) again sent = absurd (false≢true (sym new ∙ again))
   pass_again input octets mode.Alone alone (passing.repeats to goes is_sent same) again sent =
       absurd (false≢true (sym (holds.said.rests alone) ∙ goes.begun))
   pass_again input octets mode.Through through (passing.repeats to goes is_sent same) again sent =
@@ -417,7 +417,7 @@ module _ (w : WorldNow) (e : Event) (holds : Holds w) where
       ∙ pass_again input packet.octets w.parties.mode refl (pass_speaks w.parties.pass input) again is.sent
 
   -- the next Identifier
-  server_counts : (input : ServerInput) (octets : List ℕ) → (let out = server_takes w.parties.server input in
+  server_counts : (input : ServerInput) (octets : List ℕ) → (let out = server_accepts w.parties.server input in
       ServerSpeaks w.parties.server input out → w.parties.mode ≡ mode.Alone → is_delivery (to_server input) ≡ true
       → out.step.sent ≡ Some octets → code_of octets ≡ 1 → CountsOn w.sent octets)
   server_counts input octets (serving.rests unsent same_state same_id same) alone delivered sent is_request = unsent_none _ _ unsent sent
@@ -429,7 +429,7 @@ module _ (w : WorldNow) (e : Event) (holds : Holds w) where
       let before : was.id ≡ after.before = some_same _ _ (sym was.is_id ∙ after.was) in
       record {
         last = w.parties.server.vars.last_request;
-        is_last = ap (λ (m : Mode). last_to (goes_to party.Server m) w.sent) (sym alone) ∙ was.is_last;
+        is_last = ap (λ (m : Mode). last_to (port_to party.Server m) w.sent) (sym alone) ∙ was.is_last;
         next = ap identifier_of (sym same_octets)
             ∙ (is.same ∙ (after.next ∙ ap (λ (n : ℕ). (n + 1) % 256) (sym before ∙ sym was.is.same)));
       }
@@ -453,14 +453,14 @@ module _ (w : WorldNow) (e : Event) (holds : Holds w) where
   counts_law _ (is_called (to_pass input) unskipped is_call) alone delivered packet sends is_request = absurd (let other = sends.acts in cc other)
 
   -- the end
-  peer_silent : (input : PeerInput) (octets : List ℕ) → (let out = peer_takes w.parties.peer input in
+  peer_silent : (input : PeerInput) (octets : List ℕ) → (let out = peer_accepts w.parties.peer input in
       PeerSpeaks w.parties.peer input out → is_end w.parties.peer.vars.state ≡ true → out.step.sent ≡ Some octets → ⊥)
   peer_silent input octets (peering.rests _ _ unsent same_id same) over sent = unsent_none _ _ unsent sent
   peer_silent _ octets (peering.answers bytes answer _ is going is_sent new last_id last) over sent = false≢true (sym going ∙ over)
   peer_silent _ octets (peering.repeats bytes _ was_last going is_sent same_id same) over sent = false≢true (sym going ∙ over)
   peer_silent _ octets (peering.begins nonce _ unsent none) over sent = unsent_none _ _ unsent sent
 
-  server_silent : (input : ServerInput) (octets : List ℕ) → (let out = server_takes w.parties.server input in
+  server_silent : (input : ServerInput) (octets : List ℕ) → (let out = server_accepts w.parties.server input in
       ServerSpeaks w.parties.server input out → is_start (to_server input) ≡ false → is_end w.parties.server.vars.state ≡ true
       → out.step.sent ≡ Some octets → ⊥)
   server_silent input octets (serving.rests unsent same_state same_id same) later over sent = unsent_none _ _ unsent sent
@@ -472,14 +472,14 @@ module _ (w : WorldNow) (e : Event) (holds : Holds w) where
   server_silent input octets (serving.begins nonce is_restart_input packet id is is_sent new current last) later over sent =
       false≢true (sym later ∙ ap (λ (i : ServerInput). is_start (to_server i)) is_restart_input)
 
-  pass_silent : (input : PassInput) (octets : List ℕ) → (let out = pass_takes w.parties.pass input in
-      PassSpeaks w.parties.pass input out → is_begin input ≡ false → is_over w.parties.pass.state ≡ true
+  pass_silent : (input : PassInput) (octets : List ℕ) → (let out = pass_accepts w.parties.pass input in
+      PassSpeaks w.parties.pass input out → is_first_line input ≡ false → is_over w.parties.pass.state ≡ true
       → out.step.sent ≡ Some octets → ⊥)
   pass_silent input octets (passing.rests unsent same was still) later over sent = unsent_none _ _ unsent sent
   pass_silent input octets (passing.onwards to goes new same) later over sent = false≢true (sym goes.going ∙ over)
   pass_silent input octets (passing.asks packet to going is_sent new last begins) later over sent = false≢true (sym going ∙ over)
   pass_silent input octets (passing.repeats to goes is_sent same) later over sent = false≢true (sym goes.going ∙ over)
-  pass_silent input octets (passing.begins_anew is_restart_input packet to is_sent new last) later over sent = false≢true (sym later ∙ ap is_begin is_restart_input)
+  pass_silent input octets (passing.starts_anew is_restart_input packet to is_sent new last) later over sent = false≢true (sym later ∙ ap is_first_line is_restart_input)
 
   pass_over : (m : Mode) (s : State) → pass_state m w.parties.pass ≡ Some s → is_over s ≡ true → is_over w.parties.pass.state ≡ true
   pass_over mode.Alone s stands over = cc stands
@@ -505,22 +505,22 @@ module _ (w : WorldNow) (e : Event) (holds : Holds w) where
   silent_law _ (is_called (to_pass input) unskipped is_call) goes_on party.Server s stands over packet sends = let other = sends.acts in cc other
 
 -- an end in SUCCESS has accepted a tag
-one_at_least : (setup : Setup) (w : WorldNow) → BothStand setup w → (of : End) → is_success (end_state w.parties of) ≡ true
+one_at_least : (setup : Setup) (w : WorldNow) → BothInvariants setup w → (of : End) → is_success (end_state w.parties of) ≡ true
     → 1 ≤ length (present_tags of Accepted w)
 one_at_least setup w both end.Peer sure =
-    let own = peers.own_nonce setup.peer w.parties.peer.vars.setup.nonce in
+    let own = peers.setup_with_nonce setup.peer w.parties.peer.vars.setup.nonce in
     peer_accepted own w.parties.peer _ _
-    (peer_succeeds own w.parties.peer _ _ both.peer_stands.tags (both.peer_stands.decided (both.peer_stands.sure sure)))
+    (peer_succeeds own w.parties.peer _ _ both.peer_invariant.tags (both.peer_invariant.decided (both.peer_invariant.sure sure)))
 one_at_least setup w both end.Server sure =
-    let own = servers.own_nonce setup.server w.parties.server.vars.setup.nonce in
-    server_accepted own w.parties.server _ _ (server_succeeds own w.parties.server _ _ both.server_stands.tags (both.server_stands.sure sure))
+    let own = servers.setup_with_nonce setup.server w.parties.server.vars.setup.nonce in
+    server_accepted own w.parties.server _ _ (server_succeeds own w.parties.server _ _ both.server_invariant.tags (both.server_invariant.sure sure))
 
 pub steps_are_lawful : StepsAreLawful
 steps_are_lawful setup events e =
     let w = run_of setup events in
-    let holds = every_run_holds setup events in
+    let holds = every_run_satisfies setup events in
     let step = step_of w e in
-    let so = step_stands setup w (world_step w e) (step_steps w e) (every_run_so_far setup events) in
+    let so = step_invariant setup w (world_step w e) (step_steps w e) (every_run_so_far setup events) in
     record {
       answers = answers_law w e holds _ step;
       repeats = repeats_law w e holds _ step;

@@ -1,7 +1,7 @@
 -- An event that is skipped changes nothing but the number of events.
 use Rattle.std.proofs.Common.{refl}
 use Rattle.std.specs.Prelude.{IsSome}
-use Rattle.world_laws.specs.Laws.{CountsAlone, SkipsKeep}
+use Rattle.world_laws.specs.Laws.{CountsAlone, SkipsChangeNothing}
 use Rattle.eap_world.specs.World.{WorldNow, WorldOutcome, to_pass, to_peer, to_server, world_step}
 use Rattle.world_laws.proofs.Acting.{Steps, skips, calls, peer_restarts, server_restarts, step_steps}
 
@@ -26,5 +26,5 @@ steps-keep w _ (calls (to_pass input) later same) is_skip = cc is_skip
 steps-keep w _ (peer_restarts one left next) is_skip = cc is_skip
 steps-keep w _ (server_restarts one left next) is_skip = cc is_skip
 
-pub skips_keep : SkipsKeep
-skips_keep w e = steps-keep w (world_step w e) (step_steps w e)
+pub skips_change_nothing : SkipsChangeNothing
+skips_change_nothing w e = steps-keep w (world_step w e) (step_steps w e)

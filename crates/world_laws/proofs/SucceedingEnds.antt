@@ -21,15 +21,15 @@ use Rattle.eap_world.specs.World.{WorldNow}
 use Rattle.world_laws.specs.Agreement.{AreTheirs}
 use Rattle.world_laws.specs.ByMethod.{server_foreign}
 use Rattle.world_laws.specs.ByMethod as by_method
-use Rattle.world_laws.specs.GpskPeerStands as gpsk_peer_stands
-use Rattle.world_laws.specs.GpskServerStands.{gpsk_rand_p_in}
-use Rattle.world_laws.specs.GpskServerStands as gpsk_server_stands
-use Rattle.world_laws.specs.PeerStands.{PeerStands}
-use Rattle.world_laws.specs.PskPeerStands as psk_peer_stands
-use Rattle.world_laws.specs.PskServerStands.{psk_rand_p_in}
-use Rattle.world_laws.specs.PskServerStands as psk_server_stands
+use Rattle.world_laws.specs.GpskPeerInvariant as gpsk_peer_stands
+use Rattle.world_laws.specs.GpskServerInvariant.{gpsk_rand_p_in}
+use Rattle.world_laws.specs.GpskServerInvariant as gpsk_server_stands
+use Rattle.world_laws.specs.PeerInvariant.{PeerInvariant}
+use Rattle.world_laws.specs.PskPeerInvariant as psk_peer_stands
+use Rattle.world_laws.specs.PskServerInvariant.{psk_rand_p_in}
+use Rattle.world_laws.specs.PskServerInvariant as psk_server_stands
 use Rattle.world_laws.specs.Records.{IsIn, AreInEither, here}
-use Rattle.world_laws.specs.ServerStands.{ServerStands}
+use Rattle.world_laws.specs.ServerInvariant.{ServerInvariant}
 use Rattle.world_laws.proofs.Among.{among_two, first_is}
 use Rattle.world_laws.proofs.GpskAgrees as gpsk
 use Rattle.world_laws.proofs.OneMethod.{apart as one_method}
@@ -54,11 +54,11 @@ one_of (inr b) not_other = absurd (not_other b)
 
 -- both ends have succeeded by one method, and speak of the same login
 pub data BothSucceed (peer_setup : PeerSetup) (server_setup : ServerSetup) (p : PeerNow) (s : ServerNow) : Type 0 where
-  by_psk : (login : psk_peer.Login) (facts : psk_peer_stands.PskBegun peer_setup login) (other : psk_server.Login) (checked : psk_server_stands.PskChecked server_setup other)
+  by_psk : (login : psk_peer.Login) (facts : psk_peer_stands.PskStarted peer_setup login) (other : psk_server.Login) (checked : psk_server_stands.PskChecked server_setup other)
       (is_selected : p.vars.selected ≡ Some psk_kind) (in_view : p.views.psk ≡ psk_peer.over login true)
       (is_current : s.vars.current ≡ Some psk_kind) (in_other : s.views.psk ≡ Some (psk_server.over other true)) (r_sent : other.r ≡ 2)
       (same : psk.IsSame login other) → BothSucceed peer_setup server_setup p s
-  by_gpsk : (login : gpsk_peer.Login) (list : List ℕ) (facts : gpsk_peer_stands.GpskBegun peer_setup login list)
+  by_gpsk : (login : gpsk_peer.Login) (list : List ℕ) (facts : gpsk_peer_stands.GpskStarted peer_setup login list)
       (other : gpsk_server.Login) (pd : List ℕ) (checked : gpsk_server_stands.GpskChecked server_setup other false)
       (is_selected : p.vars.selected ≡ Some gpsk_kind) (in_view : p.views.gpsk ≡ gpsk_peer.over login true)
       (is_current : s.vars.current ≡ Some gpsk_kind) (in_other : s.views.gpsk ≡ Some (gpsk_server.over other true))
@@ -67,11 +67,11 @@ pub data BothSucceed (peer_setup : PeerSetup) (server_setup : ServerSetup) (p : 
 -- a peer, or a server, that has succeeded, with its tags
 pub data PeerSucceeds (setup : PeerSetup) (now : PeerNow) : List TagRecord → List TagRecord → Type 0 where
   with_psk : (login : psk_peer.Login) (header : List ℕ) (sealed id : ℕ)
-      (is_selected : now.vars.selected ≡ Some psk_kind) (in_view : now.views.psk ≡ psk_peer.over login true) (facts : psk_peer_stands.PskBegun setup login)
-      → PeerSucceeds setup now (psk_peer_stands.psk3_taken login header sealed) (psk_peer_stands.psk2_record login ∷ psk_peer.psk4_record login id 2)
+      (is_selected : now.vars.selected ≡ Some psk_kind) (in_view : now.views.psk ≡ psk_peer.over login true) (facts : psk_peer_stands.PskStarted setup login)
+      → PeerSucceeds setup now (psk_peer_stands.psk3_records_of login header sealed) (psk_peer_stands.psk2_record login ∷ psk_peer.psk4_record login id 2)
   with_gpsk : (login : gpsk_peer.Login) (list pd : List ℕ)
-      (is_selected : now.vars.selected ≡ Some gpsk_kind) (in_view : now.views.gpsk ≡ gpsk_peer.over login true) (facts : gpsk_peer_stands.GpskBegun setup login list)
-      → PeerSucceeds setup now (sk_record login.cred.psk (gpsk_peer_stands.gpsk3_taken login pd) ∷ [])
+      (is_selected : now.vars.selected ≡ Some gpsk_kind) (in_view : now.views.gpsk ≡ gpsk_peer.over login true) (facts : gpsk_peer_stands.GpskStarted setup login list)
+      → PeerSucceeds setup now (sk_record login.cred.psk (gpsk_peer_stands.gpsk3_of_login login pd) ∷ [])
       (gpsk_peer_stands.gpsk2_record login list ∷ sk_record login.cred.psk (gpsk_peer.gpsk4_of login) ∷ [])
 
 pub data ServerSucceeds (setup : ServerSetup) (now : ServerNow) : List TagRecord → List TagRecord → Type 0 where
@@ -80,7 +80,7 @@ pub data ServerSucceeds (setup : ServerSetup) (now : ServerNow) : List TagRecord
       → ServerSucceeds setup now (psk_server_stands.psk2_record login ∷ psk_server_stands.psk4_taken login header sealed ∷ []) (psk_server.psk3_records login id)
   of_gpsk : (login : gpsk_server.Login) (pd last_pd : List ℕ) (is_current : now.vars.current ≡ Some gpsk_kind)
       (in_view : now.views.gpsk ≡ Some (gpsk_server.over login true)) (facts : gpsk_server_stands.GpskChecked setup login false)
-      → ServerSucceeds setup now (sk_record login.psk (gpsk_server_stands.gpsk2_taken login pd) ∷ sk_record login.psk (gpsk_server_stands.gpsk4_taken login last_pd) ∷ [])
+      → ServerSucceeds setup now (sk_record login.psk (gpsk_server_stands.gpsk2_of_login login pd) ∷ sk_record login.psk (gpsk_server_stands.gpsk4_of_login login last_pd) ∷ [])
       (sk_record login.psk (gpsk_server.gpsk3_of login) ∷ [])
 
 module _ (setup : PeerSetup) (now : PeerNow) where
@@ -97,11 +97,11 @@ module _ (setup : PeerSetup) (now : PeerNow) where
   peer_succeeds accepted made tags (by_method.psk_peer_succeeded login is_selected in_view) =
       peer_psk login is_selected in_view accepted made
       (subst (λ (v : psk_peer.View). psk_peer_stands.PskPeerTags setup v accepted made) in_view
-      (peer_by_method.told_by_psk setup now.vars.selected now.views accepted made (one_method now.vars.selected psk_kind gpsk_kind refl is_selected) tags))
+      (peer_by_method.reported_by_psk setup now.vars.selected now.views accepted made (one_method now.vars.selected psk_kind gpsk_kind refl is_selected) tags))
   peer_succeeds accepted made tags (by_method.gpsk_peer_succeeded login is_selected in_view) =
       peer_gpsk login is_selected in_view accepted made
       (subst (λ (v : gpsk_peer.View). gpsk_peer_stands.GpskPeerTags setup v accepted made) in_view
-      (peer_by_method.told_by_gpsk setup now.vars.selected now.views accepted made (one_method now.vars.selected gpsk_kind psk_kind refl is_selected) tags))
+      (peer_by_method.reported_by_gpsk setup now.vars.selected now.views accepted made (one_method now.vars.selected gpsk_kind psk_kind refl is_selected) tags))
 
 module _ (setup : ServerSetup) (now : ServerNow) where
   server_psk : (login : psk_server.Login) → now.vars.current ≡ Some psk_kind → now.views.psk ≡ Some (psk_server.over login true)
@@ -117,9 +117,9 @@ module _ (setup : ServerSetup) (now : ServerNow) where
   pub server_succeeds : (accepted made : List TagRecord) → by_method.ServerTags setup now.vars.current now.views accepted made
       → by_method.ServerHasSucceeded now.vars.current now.views → ServerSucceeds setup now accepted made
   server_succeeds accepted made tags (by_method.psk_server_succeeded login is_current in_view) =
-      server_psk login is_current in_view accepted made (server_by_method.told_by_psk setup now.vars.current now.views _ accepted made is_current in_view tags)
+      server_psk login is_current in_view accepted made (server_by_method.reported_by_psk setup now.vars.current now.views _ accepted made is_current in_view tags)
   server_succeeds accepted made tags (by_method.gpsk_server_succeeded login is_current in_view) =
-      server_gpsk login is_current in_view accepted made (server_by_method.told_by_gpsk setup now.vars.current now.views _ accepted made is_current in_view tags)
+      server_gpsk login is_current in_view accepted made (server_by_method.reported_by_gpsk setup now.vars.current now.views _ accepted made is_current in_view tags)
 
 -- the first tag that an end accepted is among these
 pub record FirstIn (accepted others : List TagRecord) : Type 0 where
@@ -132,9 +132,9 @@ first_in accepted others tag more first is =
 module _ (peer_setup : PeerSetup) (server_setup : ServerSetup) (p : PeerNow) (s : ServerNow)
     (peer_nonce : length peer_setup.nonce ≡ 32) (server_nonce : length server_setup.nonce ≡ 32) where
   -- the server's first tag is the peer's; so is the peer's first tag the server's, which only EAP-PSK asks
-  pub both_succeed : (peer_accepted peer_made server_accepted server_made : List TagRecord)
-      → PeerSucceeds peer_setup p peer_accepted peer_made → ServerSucceeds server_setup s server_accepted server_made
-      → (p.vars.selected ≡ Some psk_kind → FirstIn peer_accepted server_made) → FirstIn server_accepted peer_made → BothSucceed peer_setup server_setup p s
+  pub both_succeed : (peer_accepted initial_peer server_accepted initial_server : List TagRecord)
+      → PeerSucceeds peer_setup p peer_accepted initial_peer → ServerSucceeds server_setup s server_accepted initial_server
+      → (p.vars.selected ≡ Some psk_kind → FirstIn peer_accepted initial_server) → FirstIn server_accepted initial_peer → BothSucceed peer_setup server_setup p s
   both_succeed _ _ _ _ (with_psk login header sealed id is_selected in_view facts) (of_psk other _ _ other_id is_current in_other checked r_sent)
       of_peer of_server =
       by_psk login facts other checked is_selected in_view is_current in_other r_sent
@@ -164,10 +164,10 @@ module _ (peer_setup : PeerSetup) (server_setup : ServerSetup) (p : PeerNow) (s 
       first_in _ others _ _ refl (one_of (of_server.each _ (here _)) (gpsk.not_own login pd))
 
 pub ends_succeed : (peer_setup : PeerSetup) (server_setup : ServerSetup) (p : PeerNow) (s : ServerNow)
-    (peer_accepted peer_made server_accepted server_made : List TagRecord)
+    (peer_accepted initial_peer server_accepted initial_server : List TagRecord)
     → length peer_setup.nonce ≡ 32 → length server_setup.nonce ≡ 32
-    → PeerStands peer_setup p peer_accepted peer_made → ServerStands server_setup s server_accepted server_made
-    → AreInEither peer_accepted server_made peer_made → AreInEither server_accepted peer_made server_made
+    → PeerInvariant peer_setup p peer_accepted initial_peer → ServerInvariant server_setup s server_accepted initial_server
+    → AreInEither peer_accepted initial_server initial_peer → AreInEither server_accepted initial_peer initial_server
     → is_success p.vars.state ≡ true → is_success s.vars.state ≡ true
     → BothSucceed peer_setup server_setup p s
 ends_succeed peer_setup server_setup p s _ _ _ _ peer_nonce server_nonce p_in s_in of_peer of_server sure other_sure =
@@ -195,9 +195,9 @@ both_theirs setup w (by_gpsk login list facts other pd checked is_selected in_vi
 
 -- the nonces of the present conversations change nothing of that
 pub own_theirs : (setup : Setup) (w : WorldNow) (peer_nonce server_nonce : List ℕ)
-    → BothSucceed (peer_table.own_nonce setup.peer peer_nonce) (server_table.own_nonce setup.server server_nonce) w.parties.peer w.parties.server → AreTheirs setup w.parties.peer w.parties.server
+    → BothSucceed (peer_table.setup_with_nonce setup.peer peer_nonce) (server_table.setup_with_nonce setup.server server_nonce) w.parties.peer w.parties.server → AreTheirs setup w.parties.peer w.parties.server
 own_theirs setup w peer_nonce server_nonce succeed =
-    let own = record setup { peer = peer_table.own_nonce setup.peer peer_nonce; server = server_table.own_nonce setup.server server_nonce } in
+    let own = record setup { peer = peer_table.setup_with_nonce setup.peer peer_nonce; server = server_table.setup_with_nonce setup.server server_nonce } in
     let theirs = both_theirs own w succeed in
     record {
       report = theirs.report;
@@ -217,9 +217,9 @@ pub record Holds (o : Option (List ℕ)) : Type 0 where
   pub foreign : List ℕ
   pub is : o ≡ Some foreign
 
-pub server_holds : (setup : ServerSetup) (now : ServerNow) (accepted made : List TagRecord) → ServerSucceeds setup now accepted made
+pub server_knows_nonce : (setup : ServerSetup) (now : ServerNow) (accepted made : List TagRecord) → ServerSucceeds setup now accepted made
     → Holds (server_foreign now.vars.current now.views)
-server_holds setup now _ _ (of_psk login header sealed id is_current in_view facts r_sent) =
+server_knows_nonce setup now _ _ (of_psk login header sealed id is_current in_view facts r_sent) =
     record { foreign = _; is = ap (λ (o : Option ℕ). server_foreign o now.views) is_current ∙ ap psk_rand_p_in in_view }
-server_holds setup now _ _ (of_gpsk login pd last_pd is_current in_view facts) =
+server_knows_nonce setup now _ _ (of_gpsk login pd last_pd is_current in_view facts) =
     record { foreign = _; is = ap (λ (o : Option ℕ). server_foreign o now.views) is_current ∙ ap gpsk_rand_p_in in_view }

@@ -15,8 +15,8 @@ use Rattle.tag_book.specs.declared.book.End.TheVariants.{Peer, Server}
 use Rattle.tag_book.specs.declared.book.Use.{Use}
 use Rattle.tag_book.specs.declared.book.Use.TheVariants.{Accepted, Made}
 use Rattle.tag_book.specs.declared.book.Entry.{Entry}
-use Rattle.tag_book.specs.declared.book.Makers.{Makers}
-use Rattle.tag_book.specs.declared.book.Makers.TheVariants.{Either}
+use Rattle.tag_book.specs.declared.book.MadeBy.{MadeBy}
+use Rattle.tag_book.specs.declared.book.MadeBy.TheVariants.{Either}
 use Rattle.world_laws.specs.Records.{same_use, tags_by, IsIn, here, later, AreInEither}
 
 -- ---- the lists of a longer book
@@ -153,15 +153,15 @@ same_self Peer = refl
 same_self Server = refl
 
 -- one of the ends made a tag
-data IsMade (book : List Entry) (tag : TagRecord) : Type 0 where
-  made_by : (maker : End) (is_in : IsIn tag (tags_by maker Made book)) → IsMade book tag
+data IsCreated (book : List Entry) (tag : TagRecord) : Type 0 where
+  made_by : (maker : End) (is_in : IsIn tag (tags_by maker Made book)) → IsCreated book tag
 
-further : (e m : Entry) (rest : List Entry) → IsMade rest e.tag → IsMade (m ∷ rest) e.tag
+further : (e m : Entry) (rest : List Entry) → IsCreated rest e.tag → IsCreated (m ∷ rest) e.tag
 unfolding tags_by
 further e m rest (made_by maker is_in) = made_by maker (skip_if (same_end m.end maker && same_use m.used Made) e.tag m.tag (tags_by maker Made rest) is_in)
 
 -- an entry that vouches has its tag among those that its end made
-vouched : (e m : Entry) (rest : List Entry) → vouches Either e m ≡ true → IsMade (m ∷ rest) e.tag
+vouched : (e m : Entry) (rest : List Entry) → vouches Either e m ≡ true → IsCreated (m ∷ rest) e.tag
 unfolding tags_by
 vouched e m rest v =
     let a = and_parts (not (is_accepted m)) _ v in
@@ -173,7 +173,7 @@ vouched e m rest v =
     (in_if (same_end m.end m.end && same_use m.used Made) m.tag (tags_by m.end Made rest) test))
 
 -- where some entry vouches, one of the ends made the tag
-some_vouches : (e : Entry) (earlier : List Entry) → list_any (vouches Either e) earlier ≡ true → IsMade earlier e.tag
+some_vouches : (e : Entry) (earlier : List Entry) → list_any (vouches Either e) earlier ≡ true → IsCreated earlier e.tag
 some_vouches e [] v = cc
 some_vouches e (m ∷ rest) v =
     elim (or_cases (vouches Either e m) (list_any (vouches Either e) rest) v) [
@@ -204,47 +204,47 @@ test_true true x is e = e
 test_true false x is e = cc
 
 -- an honest accepted entry is vouched for
-pub honest_vouched : (makers : Makers) (e : Entry) (earlier : List Entry) → is_accepted e ≡ true → is_honest makers earlier e ≡ true
+pub honest_vouched : (makers : MadeBy) (e : Entry) (earlier : List Entry) → is_accepted e ≡ true → is_honest makers earlier e ≡ true
     → list_any (vouches makers e) earlier ≡ true
 honest_vouched makers e earlier is honest = test_true (is_accepted e) (list_any (vouches makers e) earlier) is honest
 
 -- the first entry is honest, and the rest is where it stands behind it
-pub record Unbroken (makers : Makers) (earlier : List Entry) (e : Entry) (rest : List Entry) : Type 0 where
+pub record Unbroken (makers : MadeBy) (earlier : List Entry) (e : Entry) (rest : List Entry) : Type 0 where
   pub honest : is_honest makers earlier e ≡ true
   pub behind : first_broken makers (earlier ++ e ∷ []) rest ≡ None
 
-unbroken_by : (makers : Makers) (b : Bool) (earlier : List Entry) (e : Entry) (rest : List Entry) → is_honest makers earlier e ≡ b
+unbroken_by : (makers : MadeBy) (b : Bool) (earlier : List Entry) (e : Entry) (rest : List Entry) → is_honest makers earlier e ≡ b
     → (if b then first_broken makers (earlier ++ e ∷ []) rest else Some e.event) ≡ None → Unbroken makers earlier e rest
 unbroken_by makers true earlier e rest is none = record { honest = is; behind = none }
 unbroken_by makers false earlier e rest is none = cc
 
-pub unbroken : (makers : Makers) (earlier : List Entry) (e : Entry) (rest : List Entry) → first_broken makers earlier (e ∷ rest) ≡ None
+pub unbroken : (makers : MadeBy) (earlier : List Entry) (e : Entry) (rest : List Entry) → first_broken makers earlier (e ∷ rest) ≡ None
     → Unbroken makers earlier e rest
 unfolding first_broken
 unbroken makers earlier e rest none = unbroken_by makers (is_honest makers earlier e) earlier e rest refl none
 
-in_longer : (tag : TagRecord) (one other : List Entry) → IsMade one tag → IsMade (one ++ other) tag
+in_longer : (tag : TagRecord) (one other : List Entry) → IsCreated one tag → IsCreated (one ++ other) tag
 in_longer tag one other (made_by maker is_in) =
     made_by maker (subst (IsIn tag) (sym (tags_append maker Made one other)) (is_in_front tag (tags_by maker Made one) (tags_by maker Made other) is_in))
 
 honest_each : (end : End) (earlier rest : List Entry) → first_broken Either earlier rest ≡ None → (tag : TagRecord) → IsIn tag (tags_by end Accepted rest)
-    → IsMade (earlier ++ rest) tag
+    → IsCreated (earlier ++ rest) tag
 unfolding tags_by
 honest_each end earlier [] none tag is = absurd (none_in tag [] is refl)
 honest_each end earlier (e ∷ rest) none tag is =
     let u = unbroken Either earlier e rest none in
-    by_test_in (same_end e.end end && same_use e.used Accepted) tag e.tag (tags_by end Accepted rest) (IsMade (earlier ++ e ∷ rest) tag)
+    by_test_in (same_end e.end end && same_use e.used Accepted) tag e.tag (tags_by end Accepted rest) (IsCreated (earlier ++ e ∷ rest) tag)
     (λ test same.
     let parts = and_parts (same_end e.end end) (same_use e.used Accepted) test in
     let vouch = some_vouches e earlier (honest_vouched Either e earlier (use_accepted e.used parts.1) u.honest) in
-    subst (IsMade (earlier ++ e ∷ rest)) (sym same) (in_longer e.tag earlier (e ∷ rest) vouch))
+    subst (IsCreated (earlier ++ e ∷ rest)) (sym same) (in_longer e.tag earlier (e ∷ rest) vouch))
     (λ behind.
-    subst (λ all. IsMade all tag) (append_assoc earlier (e ∷ []) rest)
+    subst (λ all. IsCreated all tag) (append_assoc earlier (e ∷ []) rest)
     (honest_each end (earlier ++ e ∷ []) rest u.behind tag behind))
     is
 
 -- seen from an end, the maker is the other or itself
-from_end : (end : End) (book : List Entry) (tag : TagRecord) → IsMade book tag → IsIn tag (tags_by (other_end end) Made book) ⊎ IsIn tag (tags_by end Made book)
+from_end : (end : End) (book : List Entry) (tag : TagRecord) → IsCreated book tag → IsIn tag (tags_by (other_end end) Made book) ⊎ IsIn tag (tags_by end Made book)
 from_end Peer book tag (made_by Peer is_in) = inr is_in
 from_end Peer book tag (made_by Server is_in) = inl is_in
 from_end Server book tag (made_by Peer is_in) = inl is_in

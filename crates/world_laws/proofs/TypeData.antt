@@ -10,21 +10,21 @@ use Rattle.eap_packet.specs.declared.cause.Cause.{Cause}
 use Rattle.eap_packet.proofs.Grammar.{fields_if_read}
 use Rattle.eap_method.specs.Plain.{plain_octets}
 use Rattle.eap_method.specs.Turns.{body_of}
-use Rattle.world_laws.proofs.StandsIn.{StandsIn, behind_of, none_within, part_of, rest_of, within}
+use Rattle.world_laws.proofs.Occurrence.{Occurrence, trailing_of, none_within, part_of, rest_of, within}
 
-abbrev pub BodyStands : List ℕ → PacketValue → Type 0
-BodyStands octets (request id kind body) = StandsIn body octets
-BodyStands octets (response id kind body) = StandsIn body octets
-BodyStands octets packet = Unit {0}
+abbrev pub BodyOccurs : List ℕ → PacketValue → Type 0
+BodyOccurs octets (request id kind body) = Occurrence body octets
+BodyOccurs octets (response id kind body) = Occurrence body octets
+BodyOccurs octets packet = Unit {0}
 
-fields_stand : (code : ℕ) (octets : List ℕ) → BodyStands octets (fields_of code octets)
-fields_stand code octets =
-    cond_both (code == 1) (request _ _ (take (length_of octets - 5) (drop 5 octets))) _ (BodyStands octets) (λ _. behind_of 5 (length_of octets - 5) octets)
-    (λ _. cond_both (code == 2) (response _ _ (take (length_of octets - 5) (drop 5 octets))) _ (BodyStands octets) (λ _. behind_of 5 (length_of octets - 5) octets)
-    (λ _. cond_both (code == 3) (success _) (failure _) (BodyStands octets) (λ _. tt) (λ _. tt)))
+fields_occur : (code : ℕ) (octets : List ℕ) → BodyOccurs octets (fields_of code octets)
+fields_occur code octets =
+    cond_both (code == 1) (request _ _ (take (length_of octets - 5) (drop 5 octets))) _ (BodyOccurs octets) (λ _. trailing_of 5 (length_of octets - 5) octets)
+    (λ _. cond_both (code == 2) (response _ _ (take (length_of octets - 5) (drop 5 octets))) _ (BodyOccurs octets) (λ _. trailing_of 5 (length_of octets - 5) octets)
+    (λ _. cond_both (code == 3) (success _) (failure _) (BodyOccurs octets) (λ _. tt) (λ _. tt)))
 
-pub body_stands : (octets : List ℕ) (packet : PacketValue) → packet_of octets ≡ Ok packet → BodyStands octets packet
-body_stands octets packet e = subst (BodyStands octets) (fields_if_read octets packet e) (fields_stand (code_of octets) octets)
+pub body_occurs : (octets : List ℕ) (packet : PacketValue) → packet_of octets ≡ Ok packet → BodyOccurs octets packet
+body_occurs octets packet e = subst (BodyOccurs octets) (fields_if_read octets packet e) (fields_occur (code_of octets) octets)
 
 pub request_body : (id kind : ℕ) (body : List ℕ) → body_of (spelled (request id kind body)) ≡ body
 unfolding spelled
@@ -56,53 +56,53 @@ pub response_data : (octets : List ℕ) (id kind : ℕ) (body : List ℕ) → pa
 response_data octets id kind body e is = rw e (cond-true (is_kind kind) body [] is)
 
 -- it stands behind the Type
-kept_data : (octets : List ℕ) (size kind : ℕ) → StandsIn (if is_kind kind then take size (drop 5 octets) else []) (body_of octets)
-kept_data octets size kind =
-    cond_both (is_kind kind) _ _ (λ (part : List ℕ). StandsIn part (body_of octets)) (λ _. part_of size (drop 5 octets))
+stored_data : (octets : List ℕ) (size kind : ℕ) → Occurrence (if is_kind kind then take size (drop 5 octets) else []) (body_of octets)
+stored_data octets size kind =
+    cond_both (is_kind kind) _ _ (λ (part : List ℕ). Occurrence part (body_of octets)) (λ _. part_of size (drop 5 octets))
     (λ _. none_within (body_of octets))
 
-fields_data : (code : ℕ) (octets : List ℕ) → StandsIn (data_in (fields_of code octets)) (body_of octets)
+fields_data : (code : ℕ) (octets : List ℕ) → Occurrence (data_in (fields_of code octets)) (body_of octets)
 fields_data code octets =
-    let Stands : PacketValue → Type 0 = λ (packet : PacketValue). StandsIn (data_in packet) (body_of octets) in
-    cond_both (code == 1) (request _ _ (take (length_of octets - 5) (drop 5 octets))) _ Stands (λ _. kept_data octets (length_of octets - 5) (type_of octets))
-    (λ _. cond_both (code == 2) (response _ _ (take (length_of octets - 5) (drop 5 octets))) _ Stands
-    (λ _. kept_data octets (length_of octets - 5) (type_of octets))
-    (λ _. cond_both (code == 3) (success _) (failure _) Stands (λ _. none_within (body_of octets)) (λ _. none_within (body_of octets))))
+    let OccursInMessage : PacketValue → Type 0 = λ (packet : PacketValue). Occurrence (data_in packet) (body_of octets) in
+    cond_both (code == 1) (request _ _ (take (length_of octets - 5) (drop 5 octets))) _ OccursInMessage (λ _. stored_data octets (length_of octets - 5) (type_of octets))
+    (λ _. cond_both (code == 2) (response _ _ (take (length_of octets - 5) (drop 5 octets))) _ OccursInMessage
+    (λ _. stored_data octets (length_of octets - 5) (type_of octets))
+    (λ _. cond_both (code == 3) (success _) (failure _) OccursInMessage (λ _. none_within (body_of octets)) (λ _. none_within (body_of octets))))
 
-read_data : (octets : List ℕ) (packet : Result PacketValue Cause) → packet_of octets ≡ packet → StandsIn (data_read packet) (body_of octets)
+read_data : (octets : List ℕ) (packet : Result PacketValue Cause) → packet_of octets ≡ packet → Occurrence (data_read packet) (body_of octets)
 read_data octets (Err c) e = none_within (body_of octets)
 read_data octets (Ok packet) e =
-    subst (λ (p : PacketValue). StandsIn (data_in p) (body_of octets)) (fields_if_read octets packet e) (fields_data (code_of octets) octets)
+    subst (λ (p : PacketValue). Occurrence (data_in p) (body_of octets)) (fields_if_read octets packet e) (fields_data (code_of octets) octets)
 
 -- the Type-Data of octets, and of the plain form of a packet that others begin with
-pub data_stands : (octets whole : List ℕ) → StandsIn (body_of octets) whole → StandsIn (data_read (packet_of octets)) whole
-data_stands octets whole stands = within _ (body_of octets) whole (read_data octets (packet_of octets) refl) stands
+pub data_occurs : (octets whole : List ℕ) → Occurrence (body_of octets) whole → Occurrence (data_read (packet_of octets)) whole
+data_occurs octets whole stands = within _ (body_of octets) whole (read_data octets (packet_of octets) refl) stands
 
-pub own_data : (octets : List ℕ) → StandsIn (data_read (packet_of octets)) octets
-own_data octets = data_stands octets octets (rest_of 5 octets)
+pub own_data : (octets : List ℕ) → Occurrence (data_read (packet_of octets)) octets
+own_data octets = data_occurs octets octets (rest_of 5 octets)
 
 pub plain_request : (octets : List ℕ) (id kind : ℕ) (body : List ℕ) → packet_of octets ≡ Ok (request id kind body)
-    → StandsIn (body_of (plain_octets octets (request id kind body))) octets
+    → Occurrence (body_of (plain_octets octets (request id kind body))) octets
 plain_request octets id kind body e =
-    cond_both (is_wrapped kind body) _ _ (λ (o : List ℕ). StandsIn (body_of o) octets)
+    cond_both (is_wrapped kind body) _ _ (λ (o : List ℕ). Occurrence (body_of o) octets)
     (λ is. rw (is, request_body id (inner_kind body) (inner_body body))
-    (within (inner_body body) body octets (rest_of 7 body) (body_stands octets (request id kind body) e)))
+    (within (inner_body body) body octets (rest_of 7 body) (body_occurs octets (request id kind body) e)))
     (λ _. rest_of 5 octets)
 
 pub plain_response : (octets : List ℕ) (id kind : ℕ) (body : List ℕ) → packet_of octets ≡ Ok (response id kind body)
-    → StandsIn (body_of (plain_octets octets (response id kind body))) octets
+    → Occurrence (body_of (plain_octets octets (response id kind body))) octets
 plain_response octets id kind body e =
-    cond_both (is_wrapped kind body) _ _ (λ (o : List ℕ). StandsIn (body_of o) octets)
+    cond_both (is_wrapped kind body) _ _ (λ (o : List ℕ). Occurrence (body_of o) octets)
     (λ is. rw (is, response_body id (inner_kind body) (inner_body body))
-    (within (inner_body body) body octets (rest_of 7 body) (body_stands octets (response id kind body) e)))
+    (within (inner_body body) body octets (rest_of 7 body) (body_occurs octets (response id kind body) e)))
     (λ _. rest_of 5 octets)
 
 -- that of a Nak is no method's
-pub nak_data : (id : ℕ) (list whole : List ℕ) → StandsIn (data_read (packet_of (spelled (response id 3 list)))) whole
+pub nak_data : (id : ℕ) (list whole : List ℕ) → Occurrence (data_read (packet_of (spelled (response id 3 list)))) whole
 unfolding spelled
 nak_data id list whole = read (packet_of (spelled (response id 3 list))) refl
   where
-    read : (packet : Result PacketValue Cause) → packet_of (spelled (response id 3 list)) ≡ packet → StandsIn (data_read packet) whole
+    read : (packet : Result PacketValue Cause) → packet_of (spelled (response id 3 list)) ≡ packet → Occurrence (data_read packet) whole
     read (Err c) e = none_within whole
     read (Ok packet) e =
-        subst (λ (p : PacketValue). StandsIn (data_in p) whole) (fields_if_read (spelled (response id 3 list)) packet e) (none_within whole)
+        subst (λ (p : PacketValue). Occurrence (data_in p) whole) (fields_if_read (spelled (response id 3 list)) packet e) (none_within whole)

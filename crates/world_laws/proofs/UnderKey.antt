@@ -23,18 +23,18 @@ use Rattle.tag_book.specs.Book.{first_broken, same_end, tags_verdict, tags_verdi
 use Rattle.tag_book.specs.declared.book.End.{End}
 use Rattle.tag_book.specs.declared.book.End.TheVariants as end
 use Rattle.tag_book.specs.declared.book.Entry.{Entry}
-use Rattle.tag_book.specs.declared.book.Makers.TheVariants.{Either, Other}
+use Rattle.tag_book.specs.declared.book.MadeBy.TheVariants.{Either, Other}
 use Rattle.tag_book.specs.declared.book.TagsVerdict.TheVariants.{Honest}
 use Rattle.tag_book.specs.declared.book.Use.{Use}
 use Rattle.tag_book.specs.declared.book.Use.TheVariants.{Accepted, Made}
 use Rattle.eap_world.specs.Judgement.{is_success}
 use Rattle.eap_world.specs.World.{WorldNow}
 use Rattle.world_laws.specs.ByMethod.{ServerTags, none_current, identity_current, psk_current, gpsk_current}
-use Rattle.world_laws.specs.EachConversation.{IsOneOf, OfPeer, OfServer, all_made, peer_holds, peer_nonce, server_holds, server_nonce}
+use Rattle.world_laws.specs.EachConversation.{IsOneOf, OfPeer, OfServer, all_produced, peer_knows_nonce, peer_nonce, server_knows_nonce, server_nonce}
 use Rattle.eap_world.specs.Conversations.{front}
-use Rattle.world_laws.specs.GpskServerStands as gpsk_stands
-use Rattle.world_laws.specs.Matching.{HoldNonces, PeerMatches, PeerRests, ReportsAgree, RestsOn, ServerMatches, ServerRests}
-use Rattle.world_laws.specs.PskServerStands as psk_stands
+use Rattle.world_laws.specs.GpskServerInvariant as gpsk_stands
+use Rattle.world_laws.specs.Matching.{HaveNonces, PeerMatches, PeerRests, ReportsAgree, RestsOn, ServerMatches, ServerRests}
+use Rattle.world_laws.specs.PskServerInvariant as psk_stands
 use Rattle.world_laws.specs.Records.{IsIn, same_use, tags_by}
 use Rattle.world_laws.specs.UnderKey.{ConversationsMatchUnder, IsOfKey, under}
 use Rattle.world_laws.proofs.Among.{among_one, among_two, first_is}
@@ -42,10 +42,10 @@ use Rattle.world_laws.proofs.Conversations.{run_known}
 use Rattle.world_laws.proofs.GpskAgrees as gpsk_agrees
 use Rattle.world_laws.proofs.HonestOfEither.{honest_of_either, none_if_honest}
 use Rattle.world_laws.proofs.HonestOther.{honest_other}
-use Rattle.world_laws.proofs.Leads.{own_key}
+use Rattle.world_laws.proofs.Results.{own_key}
 use Rattle.world_laws.proofs.Matching.{AllKnown, PeerKnown, ServerKnown}
 use Rattle.world_laws.proofs.Matching as matching
-use Rattle.world_laws.proofs.OneLogin.{first_is_in, one_held}
+use Rattle.world_laws.proofs.OneLogin.{first_is_in, one_stored}
 use Rattle.world_laws.proofs.OneMethod.{some_same}
 use Rattle.world_laws.proofs.OneOf.{accepted_in, made_in}
 use Rattle.world_laws.proofs.PskAgrees as psk_agrees
@@ -117,7 +117,7 @@ module _ (key : List ℕ) (book : List Entry) where
 pub record OneKey (accepted made : List TagRecord) : Type 0 where
   pub key : List ℕ
   pub of_accepted : (t : TagRecord) → IsIn t accepted → t.psk ≡ key
-  pub of_made : (t : TagRecord) → IsIn t made → t.psk ≡ key
+  pub of_created : (t : TagRecord) → IsIn t made → t.psk ≡ key
 
 one_of_one : (t a : TagRecord) → IsIn t (a ∷ []) → t.psk ≡ a.psk
 one_of_one t a is = ap (λ (r : TagRecord). r.psk) (among_one t a is)
@@ -130,30 +130,30 @@ one_of_two t a b key first second is =
     ]
 
 psk_one : (setup : ServerSetup) (view : psk_server.View) (accepted made : List TagRecord) → psk_stands.PskServerTags setup view accepted made → OneKey accepted made
-psk_one setup _ _ _ (psk_stands.psk_asked ordered) = record { key = []; of_accepted = λ t is. elim is [ ]; of_made = λ t is. elim is [ ] }
+psk_one setup _ _ _ (psk_stands.psk_asked ordered) = record { key = []; of_accepted = λ t is. elim is [ ]; of_created = λ t is. elim is [ ] }
 psk_one setup _ _ _ (psk_stands.psk_checked login id facts) =
-    record { key = login.psk; of_accepted = λ t is. one_of_one t _ is; of_made = λ t is. one_of_two t _ _ login.psk refl refl is }
-psk_one setup _ _ _ psk_stands.psk_refused = record { key = []; of_accepted = λ t is. elim is [ ]; of_made = λ t is. elim is [ ] }
+    record { key = login.psk; of_accepted = λ t is. one_of_one t _ is; of_created = λ t is. one_of_two t _ _ login.psk refl refl is }
+psk_one setup _ _ _ psk_stands.psk_refused = record { key = []; of_accepted = λ t is. elim is [ ]; of_created = λ t is. elim is [ ] }
 psk_one setup _ _ _ (psk_stands.psk_over login good header sealed id facts r_sent rand_in r_came) =
-    record { key = login.psk; of_accepted = λ t is. one_of_two t _ _ login.psk refl refl is; of_made = λ t is. one_of_two t _ _ login.psk refl refl is }
+    record { key = login.psk; of_accepted = λ t is. one_of_two t _ _ login.psk refl refl is; of_created = λ t is. one_of_two t _ _ login.psk refl refl is }
 
 gpsk_one : (setup : ServerSetup) (view : gpsk_server.View) (accepted made : List TagRecord) → gpsk_stands.GpskServerTags setup view accepted made → OneKey accepted made
-gpsk_one setup _ _ _ (gpsk_stands.gpsk_asked ordered) = record { key = []; of_accepted = λ t is. elim is [ ]; of_made = λ t is. elim is [ ] }
-gpsk_one setup _ _ _ gpsk_stands.gpsk_refusing = record { key = []; of_accepted = λ t is. elim is [ ]; of_made = λ t is. elim is [ ] }
-gpsk_one setup _ _ _ gpsk_stands.gpsk_refused = record { key = []; of_accepted = λ t is. elim is [ ]; of_made = λ t is. elim is [ ] }
+gpsk_one setup _ _ _ (gpsk_stands.gpsk_asked ordered) = record { key = []; of_accepted = λ t is. elim is [ ]; of_created = λ t is. elim is [ ] }
+gpsk_one setup _ _ _ gpsk_stands.gpsk_refusing = record { key = []; of_accepted = λ t is. elim is [ ]; of_created = λ t is. elim is [ ] }
+gpsk_one setup _ _ _ gpsk_stands.gpsk_refused = record { key = []; of_accepted = λ t is. elim is [ ]; of_created = λ t is. elim is [ ] }
 gpsk_one setup _ _ _ (gpsk_stands.gpsk_barring login pd facts) =
-    record { key = login.psk; of_accepted = λ t is. one_of_one t _ is; of_made = λ t is. one_of_one t _ is }
+    record { key = login.psk; of_accepted = λ t is. one_of_one t _ is; of_created = λ t is. one_of_one t _ is }
 gpsk_one setup _ _ _ (gpsk_stands.gpsk_checked login pd facts) =
-    record { key = login.psk; of_accepted = λ t is. one_of_one t _ is; of_made = λ t is. one_of_one t _ is }
+    record { key = login.psk; of_accepted = λ t is. one_of_one t _ is; of_created = λ t is. one_of_one t _ is }
 gpsk_one setup _ _ _ (gpsk_stands.gpsk_barred login pd facts) =
-    record { key = login.psk; of_accepted = λ t is. one_of_two t _ _ login.psk refl refl is; of_made = λ t is. one_of_one t _ is }
+    record { key = login.psk; of_accepted = λ t is. one_of_two t _ _ login.psk refl refl is; of_created = λ t is. one_of_one t _ is }
 gpsk_one setup _ _ _ (gpsk_stands.gpsk_confirmed login pd last_pd facts) =
-    record { key = login.psk; of_accepted = λ t is. one_of_two t _ _ login.psk refl refl is; of_made = λ t is. one_of_one t _ is }
+    record { key = login.psk; of_accepted = λ t is. one_of_two t _ _ login.psk refl refl is; of_created = λ t is. one_of_one t _ is }
 
 server_one : (setup : ServerSetup) (current : Option ℕ) (views : ServerViews) (accepted made : List TagRecord) → ServerTags setup current views accepted made
     → OneKey accepted made
-server_one setup current views _ _ (none_current none) = record { key = []; of_accepted = λ t is. elim is [ ]; of_made = λ t is. elim is [ ] }
-server_one setup current views _ _ (identity_current is_current) = record { key = []; of_accepted = λ t is. elim is [ ]; of_made = λ t is. elim is [ ] }
+server_one setup current views _ _ (none_current none) = record { key = []; of_accepted = λ t is. elim is [ ]; of_created = λ t is. elim is [ ] }
+server_one setup current views _ _ (identity_current is_current) = record { key = []; of_accepted = λ t is. elim is [ ]; of_created = λ t is. elim is [ ] }
 server_one setup current views _ _ (psk_current view accepted made is_current in_view told) = psk_one setup view accepted made told
 server_one setup current views _ _ (gpsk_current view accepted made is_current in_view told) = gpsk_one setup view accepted made told
 
@@ -209,25 +209,25 @@ module _ (setup : Setup) (last : WorldNow) (ps : List OfPeer) (ss : List OfServe
 
   one_key : (s : OfServer) → IsOneOf s ss → OneKey s.accepted s.made
   one_key s is_one =
-      server_one (servers.own_nonce setup.server (server_nonce s)) s.now.vars.current s.now.views s.accepted s.made (all.servers s is_one).stands.tags
+      server_one (servers.setup_with_nonce setup.server (server_nonce s)) s.now.vars.current s.now.views s.accepted s.made (all.servers s is_one).stands.tags
 
   keyed_by_first : (s : OfServer) → IsOneOf s ss → (t : TagRecord) → IsIn t s.accepted → t.psk ≡ key → IsKeyed s
   keyed_by_first s is_one t is e u there = let k = one_key s is_one in k.of_accepted u there ∙ sym (k.of_accepted t is) ∙ e
 
   keyed_by_made : (s : OfServer) → IsOneOf s ss → (t : TagRecord) → IsIn t s.made → t.psk ≡ key → IsKeyed s
-  keyed_by_made s is_one t is e u there = let k = one_key s is_one in k.of_accepted u there ∙ sym (k.of_made t is) ∙ e
+  keyed_by_made s is_one t is e u there = let k = one_key s is_one in k.of_accepted u there ∙ sym (k.of_created t is) ∙ e
 
   module _ (either : (t : TagRecord) → t.psk ≡ key → IsIn t (tags_by end.Server Accepted last.book)
       → IsIn t (tags_by end.Peer Made last.book) ⊎ IsIn t (tags_by end.Server Made last.book)) where
-    answered : (s : OfServer) → IsOneOf s ss → IsKeyed s → (foreign : List ℕ) → server_holds s ≡ Some foreign → ServerRests ps s
+    answered : (s : OfServer) → IsOneOf s ss → IsKeyed s → (foreign : List ℕ) → server_knows_nonce s ≡ Some foreign → ServerRests ps s
     answered s is_one keyed foreign holds =
         let asks = matching.server_asking setup s (all.servers s is_one) foreign holds in
         let its : IsIn asks.tag s.accepted = first_is_in asks.tag asks.rest s.accepted asks.first in
         let listed : IsIn asks.tag (tags_by end.Server Accepted last.book) =
         subst (λ (l : List TagRecord). IsIn asks.tag l) (sym all.are.server_accepted) (accepted_in asks.tag s ss is_one its) in
-        let made : IsIn asks.tag (all_made ps) =
+        let made : IsIn asks.tag (all_produced ps) =
         elim (either asks.tag (keyed asks.tag its) listed) [
-          | inl made ↦ subst (λ (l : List TagRecord). IsIn asks.tag l) all.are.peer_made made
+          | inl made ↦ subst (λ (l : List TagRecord). IsIn asks.tag l) all.are.initial_peer made
           | inr own ↦ absurd (matching.not_servers setup last ps ss all asks.tag asks.alien own)
         ] in
         let m = made_in asks.tag ps made in
@@ -261,21 +261,21 @@ module _ (setup : Setup) (last : WorldNow) (ps : List OfPeer) (ss : List OfServe
               ((matching.server_on setup s known s_in p (all.peers p p_is) rests).0 ∙ sym (matching.server_on setup s known s_in r.on on_known r.rests).0));
           by_no_other = λ t t_is t_in rests.
               (matching.the_same_server setup last ps ss all fresh t s t_is is_one
-              (one_held (peer_holds r.on) _ _ (matching.server_on setup t (all.servers t t_is) t_in r.on on_known rests).1 r.hold.rand_s));
+              (one_stored (peer_knows_nonce r.on) _ _ (matching.server_on setup t (all.servers t t_is) t_in r.on on_known rests).1 r.hold.rand_s));
         }
 
     module _ (fresh : last.conversations.fresh ≡ true) (p : OfPeer) (is_one : IsOneOf p ps) where
       record Back (s : OfServer) : Type 0 where
         pub back : RestsOn s.accepted p.made
-        pub hold : HoldNonces p s
+        pub hold : HaveNonces p s
 
-      back_on : (s : OfServer) → IsOneOf s ss → IsKeyed s → server_holds s ≡ Some (front (peer_nonce p)) → Back s
+      back_on : (s : OfServer) → IsOneOf s ss → IsKeyed s → server_knows_nonce s ≡ Some (front (peer_nonce p)) → Back s
       back_on s is keyed rand_p =
           let r = answered s is keyed (front (peer_nonce p)) rand_p in
-          let same = matching.the_same setup last ps ss all fresh r.on p r.is_one is_one (one_held (server_holds s) _ _ r.hold.rand_p rand_p) in
+          let same = matching.the_same setup last ps ss all fresh r.on p r.is_one is_one (one_stored (server_knows_nonce s) _ _ r.hold.rand_p rand_p) in
           record {
             back = subst (λ (q : OfPeer). RestsOn s.accepted q.made) same r.rests;
-            hold = subst (λ (q : OfPeer). HoldNonces q s) same r.hold;
+            hold = subst (λ (q : OfPeer). HaveNonces q s) same r.hold;
           }
 
       peer_matches : is_success p.now.vars.state ≡ true → PeerRests ss p
@@ -292,14 +292,14 @@ module _ (setup : Setup) (last : WorldNow) (ps : List OfPeer) (ss : List OfServe
             hold = b.hold;
             no_other = λ s s_is rests.
                 (matching.the_same_server setup last ps ss all fresh s r.on s_is r.is_one
-                (one_held (peer_holds p) _ _
+                (one_stored (peer_knows_nonce p) _ _
                 (back_on s s_is (keyed s s_is rests) (matching.peer_on setup p known p_in s (all.servers s s_is) rests)).hold.rand_s b.hold.rand_s));
             by_no_other = λ q q_is q_in rests.
                 (matching.the_same setup last ps ss all fresh q p q_is is_one
-                (one_held (server_holds r.on) _ _ (matching.peer_on setup q (all.peers q q_is) q_in r.on on_known rests) r.rand_p));
+                (one_stored (server_knows_nonce r.on) _ _ (matching.peer_on setup q (all.peers q q_is) q_in r.on on_known rests) r.rand_p));
             back_by_no_other = λ s s_is s_in rests.
                 (matching.the_same_server setup last ps ss all fresh s r.on s_is r.is_one
-                (one_held (peer_holds p) _ _ (matching.server_on setup s (all.servers s s_is) s_in p known rests).1 b.hold.rand_s));
+                (one_stored (peer_knows_nonce p) _ _ (matching.server_on setup s (all.servers s s_is) s_in p known rests).1 b.hold.rand_s));
             agree = λ s_in. matching.reports_agree setup p known p_in r.on on_known s_in r.rests b.back;
           }
 
@@ -326,7 +326,7 @@ module _ (setup : Setup) (last : WorldNow) (ps : List OfPeer) (ss : List OfServe
   its_first : (p : OfPeer) → IsOneOf p ps → is_success p.now.vars.state ≡ true → p.now.vars.selected ≡ Some kind
       → (t : TagRecord) (more : List TagRecord) → p.accepted ≡ t ∷ more → t.psk ≡ shared
   its_first p is_one p_in selected t more first =
-      first_key (peers.own_nonce setup.peer (peer_nonce p)) p.now kind p.accepted p.made (matching.peer_won setup p (all.peers p is_one) p_in) selected t more first
+      first_key (peers.setup_with_nonce setup.peer (peer_nonce p)) p.now kind p.accepted p.made (matching.peer_won setup p (all.peers p is_one) p_in) selected t more first
 
   match_peers : tags_verdict (under shared last.book) ≡ Honest → last.conversations.fresh ≡ true → (p : OfPeer) → IsOneOf p ps
       → is_success p.now.vars.state ≡ true → p.now.vars.selected ≡ Some kind → PeerMatches ps ss p
@@ -340,7 +340,7 @@ module _ (setup : Setup) (last : WorldNow) (ps : List OfPeer) (ss : List OfServe
   match_servers honest fresh s is_one s_in of_key =
       let known = all.servers s is_one in
       let a = matching.server_in setup s known s_in in
-      let first = report_key (servers.own_nonce setup.server (server_nonce s)) s.now s.accepted s.made (matching.server_won setup s known s_in)
+      let first = report_key (servers.setup_with_nonce setup.server (server_nonce s)) s.now s.accepted s.made (matching.server_won setup s known s_in)
       of_key.report of_key.holds of_key.user of_key.known a.asks.tag a.asks.rest a.asks.first ∙ of_key.is_key in
       servers_match setup last ps ss all shared (either_under shared last.book honest) fresh s is_one s_in
       (keyed_by_first setup last ps ss all shared s is_one a.asks.tag (first_is_in a.asks.tag a.asks.rest s.accepted a.asks.first) first)

@@ -19,16 +19,16 @@ use Rattle.eap_method.specs.Peer as peer
 use Rattle.eap_method.specs.Server as server
 use Rattle.eap_method.specs.declared.values.MethodState.TheVariants.{NotSet}
 use Rattle.eap_method.specs.declared.values.Decision.TheVariants.{Fail}
-use Rattle.peer_machine.specs.Expanded.{peer_hears}
+use Rattle.peer_machine.specs.Expanded.{peer_receives}
 use Rattle.peer_machine.specs.PeerTable.{peer_deliver}
-use Rattle.server_machine.specs.Expanded.{server_hears}
+use Rattle.server_machine.specs.Expanded.{server_receives}
 use Rattle.server_machine.specs.ServerTable.{server_start, server_deliver, select_action}
 use Rattle.server_machine.specs.declared.variables.Progress.TheVariants.{End}
 use Rattle.server_machine.specs.declared.variables.Role.TheVariants.{StandAlone}
-use Rattle.pass_through.specs.PassTable.{pass_made}
+use Rattle.pass_through.specs.PassTable.{initial_pass}
 use Rattle.eap_world.specs.Conversations.{beginning}
 use Rattle.tag_book.specs.declared.book.End.TheVariants as end
-use Rattle.eap_world.specs.World.{world_made, world_start, act, conversed_by, held_before, world_step, outcomes_after, run_after}
+use Rattle.eap_world.specs.World.{initial_world, world_start, act, conversed_by, reported_before, world_step, outcomes_after, run_after}
 
 -- alice logs in at the server srv, which sends a Request again four times; no end has a method
 example_setup : Setup
@@ -54,7 +54,7 @@ three : List Event
 three = Deliver 1 ∷ Deliver 2 ∷ Deliver 3 ∷ []
 
 -- the server asks, the peer answers, the server ends in a Failure
-identity_round : run_after (world_start (world_made example_setup)).after three
+identity_round : run_after (world_start (initial_world example_setup)).after three
     ≡ record {
       parties = record {
         mode = mode.Alone;
@@ -86,7 +86,7 @@ identity_round : run_after (world_start (world_made example_setup)).after three
           };
           views = record { psk = None; gpsk = None };
         };
-        pass = pass_made 0 4;
+        pass = initial_pass 0 4;
       };
       sent = record { port = port.Peer; octets = 1 ∷ 0 ∷ 0 ∷ 5 ∷ 1 ∷ [] }
           ∷ record { port = port.Server; octets = 2 ∷ 0 ∷ 0 ∷ 10 ∷ 1 ∷ codes "alice" }
@@ -103,11 +103,11 @@ identity_round : run_after (world_start (world_made example_setup)).after three
       version = 1;
       started = true;
     }
-unfolding run_after world_start world_step act conversed_by held_before server_start server_hears server_deliver peer_hears peer_deliver select_action next_kind packet_of fault spelled example_setup three peer.views_begun server.views_begun peer.peer_report_of server.server_report_of
+unfolding run_after world_start world_step act conversed_by reported_before server_start server_receives server_deliver peer_receives peer_deliver select_action next_kind packet_of fault spelled example_setup three peer.views_started server.views_started peer.peer_report_of server.server_report_of
 identity_round = refl
 
 -- what is told of its events
-identity_round_told : map (λ out. out.told) (outcomes_after (world_start (world_made example_setup)).after three)
+identity_round_reported : map (λ out. out.told) (outcomes_after (world_start (initial_world example_setup)).after three)
     ≡ record {
       event = 1;
       party = Some party.Peer;
@@ -135,5 +135,5 @@ identity_round_told : map (λ out. out.told) (outcomes_after (world_start (world
       sent = None;
       named = None;
     } ∷ []
-unfolding outcomes_after world_start world_step act conversed_by held_before server_start server_hears server_deliver peer_hears peer_deliver select_action next_kind packet_of fault spelled example_setup three peer.views_begun server.views_begun peer.peer_report_of server.server_report_of
-identity_round_told = refl
+unfolding outcomes_after world_start world_step act conversed_by reported_before server_start server_receives server_deliver peer_receives peer_deliver select_action next_kind packet_of fault spelled example_setup three peer.views_started server.views_started peer.peer_report_of server.server_report_of
+identity_round_reported = refl

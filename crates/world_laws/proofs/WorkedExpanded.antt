@@ -16,12 +16,12 @@ use Rattle.login_policy.specs.Policy.{nak_of, next_kind}
 use Rattle.eap_method.specs.Peer as peer
 use Rattle.eap_method.specs.PskServer as psk_server
 use Rattle.eap_method.specs.Server as server
-use Rattle.peer_machine.specs.Expanded.{peer_hears}
+use Rattle.peer_machine.specs.Expanded.{peer_receives}
 use Rattle.peer_machine.specs.PeerTable.{peer_deliver}
-use Rattle.server_machine.specs.Expanded.{server_hears}
+use Rattle.server_machine.specs.Expanded.{server_receives}
 use Rattle.server_machine.specs.ServerTable.{server_start, server_deliver, select_action}
 use Rattle.eap_world.specs.Sent.{Sent}
-use Rattle.eap_world.specs.World.{world_made, world_start, act, conversed_by, held_before, world_step, run_after}
+use Rattle.eap_world.specs.World.{initial_world, world_start, act, conversed_by, reported_before, world_step, run_after}
 
 -- alice, who has no method, and the server srv, which proposes EAP-PSK
 refusing_setup : Setup
@@ -47,11 +47,11 @@ four_deliveries : List Event
 four_deliveries = Deliver 1 ∷ Deliver 2 ∷ Deliver 3 ∷ Deliver 4 ∷ []
 
 -- the Identity round is plain, the proposal is wrapped, the Expanded Nak has the one entry of Type 0, and the Failure is plain
-proposal_refused : map (λ (packet : Sent). packet.octets) (run_after (world_start (world_made refusing_setup)).after four_deliveries).sent
+proposal_refused : map (λ (packet : Sent). packet.octets) (run_after (world_start (initial_world refusing_setup)).after four_deliveries).sent
     ≡ (1 ∷ 0 ∷ 0 ∷ 5 ∷ 1 ∷ [])
     ∷ (2 ∷ 0 ∷ 0 ∷ 10 ∷ 1 ∷ codes "alice")
     ∷ (1 ∷ 1 ∷ 0 ∷ 32 ∷ 254 ∷ 0 ∷ 0 ∷ 0 ∷ 0 ∷ 0 ∷ 0 ∷ 47 ∷ 0 ∷ (replicate 16 34 ++ codes "srv"))
     ∷ (2 ∷ 1 ∷ 0 ∷ 20 ∷ 254 ∷ 0 ∷ 0 ∷ 0 ∷ 0 ∷ 0 ∷ 0 ∷ 3 ∷ 254 ∷ 0 ∷ 0 ∷ 0 ∷ 0 ∷ 0 ∷ 0 ∷ 0 ∷ [])
     ∷ (4 ∷ 1 ∷ 0 ∷ 4 ∷ []) ∷ []
-unfolding run_after world_start world_step act conversed_by held_before server_start server_hears server_deliver peer_hears peer_deliver select_action next_kind nak_of nak_entries kinds_in are_expanded packet_of fault packets.spelled psk.spelled psk_server.first psk_server.first_step refusing_setup four_deliveries peer.views_begun server.views_begun server.server_offer server.side_of peer.peer_report_of server.server_report_of
+unfolding run_after world_start world_step act conversed_by reported_before server_start server_receives server_deliver peer_receives peer_deliver select_action next_kind nak_of nak_entries kinds_in are_expanded packet_of fault packets.spelled psk.spelled psk_server.first psk_server.first_step refusing_setup four_deliveries peer.views_started server.views_started server.server_offer server.side_of peer.peer_report_of server.server_report_of
 proposal_refused = refl

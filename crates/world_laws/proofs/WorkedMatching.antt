@@ -14,13 +14,13 @@ use Rattle.eap_method.specs.declared.tags.TagRecord.{TagRecord}
 use Rattle.peer_machine.specs.PeerTable.{peer_restart}
 use Rattle.server_machine.specs.ServerTable.{server_restart, server_start}
 use Rattle.tag_book.specs.Book.{entry, first_broken, tags_verdict}
-use Rattle.eap_world.specs.Conversations.{heard_by, stands_in}
+use Rattle.eap_world.specs.Conversations.{delivered_by, occurs_in}
 use Rattle.world_laws.specs.EachConversation.{OfPeer, OfServer, conversations_along, moments, peer_along, peer_conversations, peer_nonce, server_along, server_conversations, server_nonce}
 use Rattle.eap_world.specs.Judgement.{is_success}
 use Rattle.world_laws.specs.Matching.{RestsOn}
 use Rattle.world_laws.specs.Records.{here, tags_by}
-use Rattle.eap_world.specs.Conversations.{begun_by}
-use Rattle.eap_world.specs.World.{WorldNow, act, conversed_by, held_before, world_made, world_start, world_step}
+use Rattle.eap_world.specs.Conversations.{initiated_by}
+use Rattle.eap_world.specs.World.{WorldNow, act, conversed_by, reported_before, initial_world, world_start, world_step}
 use Rattle.tag_book.specs.declared.book.End.TheVariants as end
 use Rattle.tag_book.specs.declared.book.TagsVerdict.TheVariants.{Honest}
 use Rattle.tag_book.specs.declared.book.Use.TheVariants.{Accepted, Made}
@@ -64,7 +64,7 @@ logs_in gpsk2 gpsk3 gpsk4 octets w =
           ++ (entry event end.Peer Made gpsk2 ∷ entry event end.Server Accepted gpsk2 ∷ entry event end.Server Made gpsk3
           ∷ entry event end.Peer Accepted gpsk3 ∷ entry event end.Peer Made gpsk4 ∷ entry event end.Server Accepted gpsk4 ∷ []);
       counts = record w.counts { events = event };
-      conversations = heard_by octets w.conversations;
+      conversations = delivered_by octets w.conversations;
     }
 
 -- the packets of the first login come again: the peer answers the old GPSK-1 with a GPSK-2 of its new nonce, and that is all
@@ -74,7 +74,7 @@ is_replayed gpsk2 octets w =
     record w {
       book = w.book ++ (entry event end.Peer Made gpsk2 ∷ []);
       counts = record w.counts { events = event };
-      conversations = heard_by octets w.conversations;
+      conversations = delivered_by octets w.conversations;
     }
 
 abbrev both_anew : WorldNow → WorldNow
@@ -82,25 +82,25 @@ both_anew w = (world_step (world_step w (Restart party.Peer)).after (Restart par
 
 -- the moments of the run
 abbrev at_first : WorldNow
-at_first = (world_start (world_made setup)).after
+at_first = (world_start (initial_world setup)).after
 
 abbrev one_login : WorldNow
 one_login = logs_in (tag 1) (tag 2) (tag 3) (replicate 32 17 ++ replicate 32 34) at_first
 
-abbrev begun_again : WorldNow
-begun_again = both_anew one_login
+abbrev started_again : WorldNow
+started_again = both_anew one_login
 
 abbrev replayed_to : WorldNow
-replayed_to = is_replayed (tag 4) (replicate 32 17 ++ replicate 32 34) begun_again
+replayed_to = is_replayed (tag 4) (replicate 32 17 ++ replicate 32 34) started_again
 
-abbrev begun_last : WorldNow
-begun_last = both_anew replayed_to
+abbrev started_last : WorldNow
+started_last = both_anew replayed_to
 
 abbrev last_login : WorldNow
-last_login = logs_in (tag 5) (tag 6) (tag 7) (replicate 32 85 ++ replicate 32 102) begun_last
+last_login = logs_in (tag 5) (tag 6) (tag 7) (replicate 32 85 ++ replicate 32 102) started_last
 
 abbrev later : List WorldNow
-later = one_login ∷ begun_again ∷ replayed_to ∷ begun_last ∷ last_login ∷ []
+later = one_login ∷ started_again ∷ replayed_to ∷ started_last ∷ last_login ∷ []
 
 -- a conversation: its nonce, whether it is in SUCCESS, and its tags
 record Seen : Type 0 where
@@ -120,7 +120,7 @@ peers_are : map peer_seen (peer_along at_first later)
     ≡ record { nonce = replicate 32 17; success = true; accepted = tag 2 ∷ []; made = tag 1 ∷ tag 3 ∷ [] }
     ∷ record { nonce = replicate 32 51; success = false; accepted = []; made = tag 4 ∷ [] }
     ∷ record { nonce = replicate 32 85; success = true; accepted = tag 6 ∷ []; made = tag 5 ∷ tag 7 ∷ [] } ∷ []
-unfolding conversations_along begun_by tags_by world_start world_step act conversed_by held_before peer_restart server_restart server_start stands_in
+unfolding conversations_along initiated_by tags_by world_start world_step act conversed_by reported_before peer_restart server_restart server_start occurs_in
 peers_are = refl
 
 -- three of the server
@@ -128,16 +128,16 @@ servers_are : map server_seen (server_along at_first later)
     ≡ record { nonce = replicate 32 34; success = true; accepted = tag 1 ∷ tag 3 ∷ []; made = tag 2 ∷ [] }
     ∷ record { nonce = replicate 32 68; success = false; accepted = []; made = [] }
     ∷ record { nonce = replicate 32 102; success = true; accepted = tag 5 ∷ tag 7 ∷ []; made = tag 6 ∷ [] } ∷ []
-unfolding conversations_along begun_by tags_by world_start world_step act conversed_by held_before peer_restart server_restart server_start stands_in
+unfolding conversations_along initiated_by tags_by world_start world_step act conversed_by reported_before peer_restart server_restart server_start occurs_in
 servers_are = refl
 
 -- over fresh nonces, and honest tags
 is_fresh : last_login.conversations.fresh ≡ true
-unfolding world_start world_step act conversed_by held_before peer_restart server_restart server_start stands_in
+unfolding world_start world_step act conversed_by reported_before peer_restart server_restart server_start occurs_in
 is_fresh = refl
 
 is_honest : tags_verdict last_login.book ≡ Honest
-unfolding first_broken world_start world_step act conversed_by held_before peer_restart server_restart server_start stands_in
+unfolding first_broken world_start world_step act conversed_by reported_before peer_restart server_restart server_start occurs_in
 is_honest = refl
 
 -- the third of the peer rests on the third of the server, and that on it
@@ -170,10 +170,10 @@ abbrev begins : List Event
 begins =
     Restart party.Peer ∷ Restart party.Server ∷ Restart party.Server ∷ Restart party.Peer ∷ Restart party.Peer ∷ Restart party.Server ∷ []
 
-peers_begun : map peer_nonce (peer_conversations setup begins) ≡ replicate 32 17 ∷ replicate 32 51 ∷ replicate 32 85 ∷ []
-unfolding conversations_along moments begun_by tags_by world_start world_step act conversed_by held_before peer_restart server_restart server_start
-peers_begun = refl
+peers_started : map peer_nonce (peer_conversations setup begins) ≡ replicate 32 17 ∷ replicate 32 51 ∷ replicate 32 85 ∷ []
+unfolding conversations_along moments initiated_by tags_by world_start world_step act conversed_by reported_before peer_restart server_restart server_start
+peers_started = refl
 
-servers_begun : map server_nonce (server_conversations setup begins) ≡ replicate 32 34 ∷ replicate 32 68 ∷ replicate 32 102 ∷ []
-unfolding conversations_along moments begun_by tags_by world_start world_step act conversed_by held_before peer_restart server_restart server_start
-servers_begun = refl
+servers_started : map server_nonce (server_conversations setup begins) ≡ replicate 32 34 ∷ replicate 32 68 ∷ replicate 32 102 ∷ []
+unfolding conversations_along moments initiated_by tags_by world_start world_step act conversed_by reported_before peer_restart server_restart server_start
+servers_started = refl

@@ -13,11 +13,11 @@ use Rattle.tag_book.specs.Book.{tags_verdict, tags_verdict_either}
 use Rattle.tag_book.specs.declared.book.TagsVerdict.TheVariants.{Honest}
 use Rattle.tag_book.specs.declared.book.End.{End}
 use Rattle.tag_book.specs.declared.book.Entry.{Entry}
-use Rattle.eap_world.specs.declared.conversations.Begun.{Begun}
+use Rattle.eap_world.specs.declared.conversations.ConversationStart.{ConversationStart}
 use Rattle.tag_book.specs.declared.book.Use.{Use}
-use Rattle.eap_world.specs.Conversations.{Conversations, begun_by, front}
+use Rattle.eap_world.specs.Conversations.{Conversations, initiated_by, front}
 use Rattle.world_laws.specs.ByMethod.{peer_foreign, server_foreign}
-use Rattle.world_laws.specs.GpskLogins.{HasFirstSuite, HoldAllOctets}
+use Rattle.world_laws.specs.GpskLogins.{HasFirstSuite, HaveAllOctets}
 use Rattle.eap_world.specs.Judgement.{verdict_of, is_success}
 use Rattle.eap_world.specs.declared.verdict.Verdict.TheVariants.{Agree, Apart}
 use Rattle.eap_world.specs.Run.{run_of}
@@ -44,10 +44,10 @@ AreApart all = (length all.begun ≡ 2) ⊎ (all.fresh ≡ true)
 
 -- each end has the nonce of the other's present conversation, by its prefix; by EAP-GPSK all its 32 octets. EAP-PSK has
 -- no more than these 16 of it (RFC 4764 section 3.2)
-pub record HoldEachOther (w : WorldNow) : Type 0 where
+pub record HaveEachOthers (w : WorldNow) : Type 0 where
   pub rand_s : peer_foreign w.parties.peer.vars.selected w.parties.peer.views ≡ Some (front w.parties.server.vars.setup.nonce)
   pub rand_p : server_foreign w.parties.server.vars.current w.parties.server.views ≡ Some (front w.parties.peer.vars.setup.nonce)
-  pub whole : HoldAllOctets w.parties.peer.vars.selected w.parties.peer.views w.parties.peer.vars.setup.nonce
+  pub whole : HaveAllOctets w.parties.peer.vars.selected w.parties.peer.views w.parties.peer.vars.setup.nonce
       w.parties.server.views w.parties.server.vars.setup.nonce
 
 -- two ends that are both in SUCCESS in their present conversations agree, and the verdict is never that they don't
@@ -62,7 +62,7 @@ pub record AgreesWhereHonest (w : WorldNow) : Type 0 where
   pub reflected_never_apart : tags_verdict_either w.book ≡ Honest → length w.conversations.begun ≡ 2 → verdict_of w ≡ Apart → ⊥
   -- if nonces are fresh, each has the other's nonce
   pub hold : tags_verdict w.book ≡ Honest → w.conversations.fresh ≡ true
-      → is_success w.parties.peer.vars.state ≡ true → is_success w.parties.server.vars.state ≡ true → HoldEachOther w
+      → is_success w.parties.peer.vars.state ≡ true → is_success w.parties.server.vars.state ≡ true → HaveEachOthers w
 
 -- whatever is delivered, lost, repeated, reordered, altered, injected or restarted: if each accepted tag was made
 -- earlier by the other end, and no end has begun again or nonces are fresh, two ends that are both in SUCCESS agree
@@ -71,8 +71,8 @@ HonestEndsAgree =
     (setup : Setup) (events : List Event) → IsWhole setup → AgreesWhereHonest (run_of setup events)
 
 -- an end that has no later nonces never begins a second conversation
-abbrev pub BeginsOnce : Type 0
-BeginsOnce = (setup : Setup) (events : List Event) → setup.later.peer ≡ [] → setup.later.server ≡ []
+abbrev pub StartsOnce : Type 0
+StartsOnce = (setup : Setup) (events : List Event) → setup.later.peer ≡ [] → setup.later.server ≡ []
     → length (run_of setup events).conversations.begun ≡ 2
 
 -- both ends have one report, whose names are those of both setups; the server knows the peer by its name, with
@@ -92,7 +92,7 @@ pub record AreTheirs (setup : Setup) (peer : PeerNow) (server : ServerNow) : Typ
 -- two ends agree on names, key and suite that are their own, and each has the nonce of the other's present conversation
 pub record AgreeAnew (setup : Setup) (w : WorldNow) : Type 0 where
   pub agree : verdict_of w ≡ Agree
-  pub hold : HoldEachOther w
+  pub hold : HaveEachOthers w
   pub theirs : AreTheirs setup w.parties.peer w.parties.server
 
 -- what two ends that are both in SUCCESS report in their present conversations is their own
@@ -107,8 +107,8 @@ abbrev pub HonestNamesAreTheirs : Type 0
 HonestNamesAreTheirs = (setup : Setup) (events : List Event) → IsWhole setup → TheirsWhereHonest setup (run_of setup events)
 
 -- on the whole at most two tags of each end and use for each of its conversations, so at most four a conversation
-pub record HasFewTags (begun : List Begun) (book : List Entry) : Type 0 where
-  pub each : (end : End) (how : Use) → length (tags_by end how book) ≤ 2 * begun_by end begun
+pub record HasFewTags (begun : List ConversationStart) (book : List Entry) : Type 0 where
+  pub each : (end : End) (how : Use) → length (tags_by end how book) ≤ 2 * initiated_by end begun
   pub all : length book ≤ 4 * length begun
 
 -- the book stays small however many events there are

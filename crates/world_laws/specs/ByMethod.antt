@@ -12,10 +12,10 @@ use Rattle.eap_method.specs.PskPeer as psk_peer
 use Rattle.eap_method.specs.PskServer as psk_server
 use Rattle.eap_method.specs.Peer.{PeerViews}
 use Rattle.eap_method.specs.Server.{ServerViews}
-use Rattle.world_laws.specs.GpskPeerStands.{GpskPeerTags, gpsk_peer_login, gpsk_rand_s}
-use Rattle.world_laws.specs.GpskServerStands.{GpskServerTags, gpsk_rand_p_in, gpsk_server_login}
-use Rattle.world_laws.specs.PskPeerStands.{PskPeerTags, psk_peer_login, psk_rand_s}
-use Rattle.world_laws.specs.PskServerStands.{PskServerTags, psk_rand_p_in, psk_server_login}
+use Rattle.world_laws.specs.GpskPeerInvariant.{GpskPeerTags, gpsk_peer_login, gpsk_rand_s}
+use Rattle.world_laws.specs.GpskServerInvariant.{GpskServerTags, gpsk_rand_p_in, gpsk_server_login}
+use Rattle.world_laws.specs.PskPeerInvariant.{PskPeerTags, psk_peer_login, psk_rand_s}
+use Rattle.world_laws.specs.PskServerInvariant.{PskServerTags, psk_rand_p_in, psk_server_login}
 
 -- by the method, if the Type is that of one
 abbrev pub by_kind : {A : Type 0} → Bool → Bool → Option A → Option A → Option A
@@ -40,7 +40,7 @@ peer_login (Some kind) views = by_kind (kind == psk_kind) (kind == gpsk_kind) (p
 
 -- the tags of a peer are those of its selected method; there are none before it selects one
 pub data PeerTags (setup : PeerSetup) (selected : Option ℕ) (views : PeerViews) : List TagRecord → List TagRecord → Type 0 where
-  none_selected : (unselected : selected ≡ None) (psk_told : PskPeerTags setup views.psk [] []) (gpsk_told : GpskPeerTags setup views.gpsk [] [])
+  none_selected : (unselected : selected ≡ None) (psk_verdict : PskPeerTags setup views.psk [] []) (gpsk_verdict : GpskPeerTags setup views.gpsk [] [])
       → PeerTags setup selected views [] []
   psk_selected : (accepted made : List TagRecord) (is_selected : selected ≡ Some psk_kind) (told : PskPeerTags setup views.psk accepted made)
       → PeerTags setup selected views accepted made

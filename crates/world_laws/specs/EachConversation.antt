@@ -6,14 +6,14 @@ use Rattle.eap_method.specs.declared.tags.TagRecord.{TagRecord}
 use Rattle.peer_machine.specs.PeerTable.{PeerNow}
 use Rattle.server_machine.specs.ServerTable.{ServerNow}
 use Rattle.tag_book.specs.Book.{same_end}
-use Rattle.eap_world.specs.Conversations.{begun_by}
+use Rattle.eap_world.specs.Conversations.{initiated_by}
 use Rattle.world_laws.specs.ByMethod.{peer_foreign, server_foreign}
 use Rattle.world_laws.specs.Records.{tags_by}
-use Rattle.eap_world.specs.World.{WorldNow, world_made, world_start, world_step}
+use Rattle.eap_world.specs.World.{WorldNow, initial_world, world_start, world_step}
 use Rattle.tag_book.specs.declared.book.End.{End}
 use Rattle.tag_book.specs.declared.book.End.TheVariants as end
 use Rattle.tag_book.specs.declared.book.Use.TheVariants.{Accepted, Made}
-use Rattle.eap_world.specs.declared.conversations.Begun.{Begun}
+use Rattle.eap_world.specs.declared.conversations.ConversationStart.{ConversationStart}
 
 -- a conversation of an end: the end's state in it, or when it began the next one, and the tags that it accepted and
 -- made in it, in their order
@@ -29,8 +29,8 @@ abbrev pub OfServer : Type 0
 OfServer = Conversation ServerNow
 
 -- whether an end has begun another conversation from the one moment to the other
-abbrev pub begins_another : End → WorldNow → WorldNow → Bool
-begins_another of before after = nat_lt (begun_by of before.conversations.begun) (begun_by of after.conversations.begun)
+abbrev pub starts_another : End → WorldNow → WorldNow → Bool
+starts_another of before after = nat_lt (initiated_by of before.conversations.begun) (initiated_by of after.conversations.begun)
 
 -- the present conversation of an end, which began when the book had so many entries
 abbrev pub present_one : {N : Type 0} → (WorldNow → N) → End → WorldNow → ℕ → Conversation N
@@ -41,7 +41,7 @@ present_one at of w from =
 unfoldable pub conversations_along : {N : Type 0} → (WorldNow → N) → End → WorldNow → ℕ → List WorldNow → List (Conversation N)
 conversations_along at of w from [] = present_one at of w from ∷ []
 conversations_along at of w from (next ∷ rest) =
-    if begins_another of w next then present_one at of w from ∷ conversations_along at of next (length w.book) rest
+    if starts_another of w next then present_one at of w from ∷ conversations_along at of next (length w.book) rest
     else conversations_along at of next from rest
 
 -- the moments of a run: the world after each of these events
@@ -64,10 +64,10 @@ server_along w later = conversations_along server_at end.Server w 0 later
 
 -- in the run of these events
 abbrev pub peer_conversations : Setup → List Event → List OfPeer
-peer_conversations setup events = let begun = (world_start (world_made setup)).after in peer_along begun (moments begun events)
+peer_conversations setup events = let begun = (world_start (initial_world setup)).after in peer_along begun (moments begun events)
 
 abbrev pub server_conversations : Setup → List Event → List OfServer
-server_conversations setup events = let begun = (world_start (world_made setup)).after in server_along begun (moments begun events)
+server_conversations setup events = let begun = (world_start (initial_world setup)).after in server_along begun (moments begun events)
 
 -- the nonce of a conversation, and the first octets of the other end's that it has
 abbrev pub peer_nonce : OfPeer → List ℕ
@@ -76,11 +76,11 @@ peer_nonce p = p.now.vars.setup.nonce
 abbrev pub server_nonce : OfServer → List ℕ
 server_nonce s = s.now.vars.setup.nonce
 
-abbrev pub peer_holds : OfPeer → Option (List ℕ)
-peer_holds p = peer_foreign p.now.vars.selected p.now.views
+abbrev pub peer_knows_nonce : OfPeer → Option (List ℕ)
+peer_knows_nonce p = peer_foreign p.now.vars.selected p.now.views
 
-abbrev pub server_holds : OfServer → Option (List ℕ)
-server_holds s = server_foreign s.now.vars.current s.now.views
+abbrev pub server_knows_nonce : OfServer → Option (List ℕ)
+server_knows_nonce s = server_foreign s.now.vars.current s.now.views
 
 -- ---- one of these; two of these, the one before the other
 
@@ -98,9 +98,9 @@ unfoldable pub all_accepted : {N : Type 0} → List (Conversation N) → List Ta
 all_accepted [] = []
 all_accepted (k ∷ rest) = k.accepted ++ all_accepted rest
 
-unfoldable pub all_made : {N : Type 0} → List (Conversation N) → List TagRecord
-all_made [] = []
-all_made (k ∷ rest) = k.made ++ all_made rest
+unfoldable pub all_produced : {N : Type 0} → List (Conversation N) → List TagRecord
+all_produced [] = []
+all_produced (k ∷ rest) = k.made ++ all_produced rest
 
 -- the end's state in the last one
 unfoldable pub last_now : {N : Type 0} → Option N → List (Conversation N) → Option N
@@ -108,6 +108,6 @@ last_now o [] = o
 last_now o (k ∷ rest) = last_now (Some k.now) rest
 
 -- the nonces with which an end has begun conversations
-unfoldable pub nonces_of : End → List Begun → List (List ℕ)
+unfoldable pub nonces_of : End → List ConversationStart → List (List ℕ)
 nonces_of of [] = []
 nonces_of of (b ∷ rest) = if same_end b.end of then b.nonce ∷ nonces_of of rest else nonces_of of rest

@@ -7,8 +7,8 @@ use Rattle.login_setup.specs.declared.setup.Setup.{Setup}
 use Rattle.peer_machine.specs.Inputs as peer_inputs
 use Rattle.server_machine.specs.Inputs as server_inputs
 use Rattle.eap_world.specs.Run.{run_of}
-use Rattle.eap_world.specs.Conversations.{front, stands_in}
-use Rattle.eap_world.specs.World.{Call, WorldNow, call_octets, call_of, first_skip, skip_table, to_peer, to_server, world_made, world_start, world_step}
+use Rattle.eap_world.specs.Conversations.{front, occurs_in}
+use Rattle.eap_world.specs.World.{Call, WorldNow, call_octets, call_of, first_skip, skip_table, to_peer, to_server, initial_world, world_start, world_step}
 use Rattle.eap_world.specs.declared.told.Skip.{Skip}
 
 -- octets were delivered to some party; an end began a conversation with a nonce
@@ -18,7 +18,7 @@ pub data Happening : Type 0 where
 
 -- what was delivered has the prefix of a nonce in it, or that conversation has a nonce of the same prefix
 abbrev pub clashes : List ℕ → Happening → Bool
-clashes nonce (came octets) = stands_in (front nonce) octets
+clashes nonce (came octets) = occurs_in (front nonce) octets
 clashes nonce (began other) = bytes_eq (front other) (front nonce)
 
 -- each conversation began with a nonce that clashes with nothing before it
@@ -26,14 +26,14 @@ pub record IsFresh (all : List Happening) : Type 0 where
   pub each : (before after : List Happening) (nonce : List ℕ) → all ≡ before ++ began nonce ∷ after → list_any (clashes nonce) before ≡ false
 
 -- what happens in a call
-abbrev pub came_of : Option (List ℕ) → List Happening
-came_of None = []
-came_of (Some octets) = came octets ∷ []
+abbrev pub received_of : Option (List ℕ) → List Happening
+received_of None = []
+received_of (Some octets) = came octets ∷ []
 
 abbrev pub happens_at : Call → List Happening
 happens_at (to_peer (peer_inputs.restart nonce)) = began nonce ∷ []
 happens_at (to_server (server_inputs.restart nonce)) = began nonce ∷ []
-happens_at call = came_of (call_octets call)
+happens_at call = received_of (call_octets call)
 
 -- in an event
 abbrev pub happens_unless : Option Skip → Option Call → List Happening
@@ -50,8 +50,8 @@ history_after w [] = []
 history_after w (e ∷ rest) = happens_in w e ++ history_after (world_step w e).after rest
 
 abbrev pub history_of : Setup → List Event → List Happening
-history_of setup events = began setup.peer.nonce ∷ began setup.server.nonce ∷ history_after (world_start (world_made setup)).after events
+history_of setup events = began setup.peer.nonce ∷ began setup.server.nonce ∷ history_after (world_start (initial_world setup)).after events
 
 -- the world says so
-abbrev pub FreshIsTold : Type 0
-FreshIsTold = (setup : Setup) (events : List Event) → ((run_of setup events).conversations.fresh ≡ true) ↔ IsFresh (history_of setup events)
+abbrev pub FreshnessIsExact : Type 0
+FreshnessIsExact = (setup : Setup) (events : List Event) → ((run_of setup events).conversations.fresh ≡ true) ↔ IsFresh (history_of setup events)

@@ -9,26 +9,26 @@ use Rattle.eap_method.specs.declared.values.Report.{Report}
 use Rattle.eap_method.specs.GpskTags.{suite_list}
 use Rattle.eap_method.specs.Peer.{PeerViews}
 use Rattle.eap_method.specs.Server.{ServerViews}
-use Rattle.world_laws.specs.GpskPeerStands.{gpsk_whole_rand_s}
-use Rattle.world_laws.specs.GpskServerStands.{gpsk_whole_rand_p_in}
+use Rattle.world_laws.specs.GpskPeerInvariant.{gpsk_whole_rand_s}
+use Rattle.world_laws.specs.GpskServerInvariant.{gpsk_whole_rand_p_in}
 
 -- the peer, with these views and this nonce, and the server have the whole of each other's nonces
-pub record HoldWhole (peer_views : PeerViews) (peer_nonce : List ℕ) (server_views : ServerViews) (server_nonce : List ℕ) : Type 0 where
+pub record HaveWhole (peer_views : PeerViews) (peer_nonce : List ℕ) (server_views : ServerViews) (server_nonce : List ℕ) : Type 0 where
   pub rand_s : gpsk_whole_rand_s peer_views.gpsk ≡ Some server_nonce
   pub rand_p : gpsk_whole_rand_p_in server_views.gpsk ≡ Some peer_nonce
 
-abbrev pub HoldAllOctets : Option ℕ → PeerViews → List ℕ → ServerViews → List ℕ → Type 0
-HoldAllOctets kind peer_views peer_nonce server_views server_nonce = kind ≡ Some gpsk_kind → HoldWhole peer_views peer_nonce server_views server_nonce
+abbrev pub HaveAllOctets : Option ℕ → PeerViews → List ℕ → ServerViews → List ℕ → Type 0
+HaveAllOctets kind peer_views peer_nonce server_views server_nonce = kind ≡ Some gpsk_kind → HaveWhole peer_views peer_nonce server_views server_nonce
 
 -- two logins are the same, each name by itself
 abbrev pub HaveSameNames : Report → Report → Type 0
 HaveSameNames one other = one.method ≡ gpsk_kind → one ≡ other
 
 -- the reported suite is the first of the server's own list that the peer allows
-pub record TakesFirstSuite (setup : Setup) (report : Report) : Type 0 where
+pub record PicksFirstSuite (setup : Setup) (report : Report) : Type 0 where
   pub suite : Suite
   pub picked : picked_suite setup.peer.suites (suite_list setup.server.suites) ≡ Some suite
   pub is_suite : report.suite ≡ suite_number suite
 
 abbrev pub HasFirstSuite : Setup → Report → Type 0
-HasFirstSuite setup report = report.method ≡ gpsk_kind → TakesFirstSuite setup report
+HasFirstSuite setup report = report.method ≡ gpsk_kind → PicksFirstSuite setup report

@@ -3,24 +3,24 @@ use Rattle.std.specs.Prelude.{◌≡◌, ◌+◌, List, [], true, None, IsSome}
 use Rattle.login_setup.specs.declared.event.Event.{Event}
 use Rattle.login_setup.specs.declared.setup.Party.{Party}
 use Rattle.login_setup.specs.declared.setup.Setup.{Setup}
-use Rattle.eap_world.specs.declared.world.Held.{Held}
-use Rattle.eap_world.specs.World.{WorldNow, WorldOutcome, Parties, has_held, report_of, world_made, world_start, world_step, run_after}
+use Rattle.eap_world.specs.declared.world.HasReported.{HasReported}
+use Rattle.eap_world.specs.World.{WorldNow, WorldOutcome, Parties, has_reported, report_of, initial_world, world_start, world_step, run_after}
 
 -- a report that an end has was reported
-pub record HasToldReports (held : Held) (parties : Parties) : Type 0 where
-  pub each : (party : Party) → IsSome (report_of parties party) → has_held held party ≡ true
+pub record HasTracedReports (held : HasReported) (parties : Parties) : Type 0 where
+  pub each : (party : Party) → IsSome (report_of parties party) → has_reported held party ≡ true
 
 -- no variable and no view of a method changed at either end, nothing was sent, and nothing was written
 -- into the book; if each report that an end has was reported, none is reported now
-pub record KeepsBothEnds (before after : WorldNow) : Type 0 where
+pub record PreservesBothEnds (before after : WorldNow) : Type 0 where
   pub parties : after.parties ≡ before.parties
   pub sent : after.sent ≡ before.sent
   pub book : after.book ≡ before.book
-  pub held : HasToldReports before.held before.parties → after.held ≡ before.held
+  pub held : HasTracedReports before.held before.parties → after.held ≡ before.held
 
 -- an event that is discarded changes nothing but the counts
-abbrev pub DiscardsKeep : Type 0
-DiscardsKeep = (w : WorldNow) (e : Event) → IsSome (world_step w e).told.cause → KeepsBothEnds w (world_step w e).after
+abbrev pub DiscardsChangeNothing : Type 0
+DiscardsChangeNothing = (w : WorldNow) (e : Event) → IsSome (world_step w e).told.cause → PreservesBothEnds w (world_step w e).after
 
 -- nothing but the number of events changed: no party, nothing sent, nothing in the book, no report seen, no other
 -- count, no conversation; and the result says that no party acted, entered a state, sent a packet or showed a report
@@ -39,10 +39,10 @@ pub record CountsAlone (before : WorldNow) (out : WorldOutcome) : Type 0 where
   pub unnamed : out.told.named ≡ None
 
 -- an event that is skipped changes nothing but the number of events
-abbrev pub SkipsKeep : Type 0
-SkipsKeep = (w : WorldNow) (e : Event) → IsSome (world_step w e).told.skip → CountsAlone w (world_step w e)
+abbrev pub SkipsChangeNothing : Type 0
+SkipsChangeNothing = (w : WorldNow) (e : Event) → IsSome (world_step w e).told.skip → CountsAlone w (world_step w e)
 
 -- in every run each report that an end has was reported
-abbrev pub RunsTellReports : Type 0
-RunsTellReports =
-    (setup : Setup) (events : List Event) → (let last = run_after (world_start (world_made setup)).after events in HasToldReports last.held last.parties)
+abbrev pub ReportsAreTraced : Type 0
+ReportsAreTraced =
+    (setup : Setup) (events : List Event) → (let last = run_after (world_start (initial_world setup)).after events in HasTracedReports last.held last.parties)

@@ -14,13 +14,13 @@ use Rattle.world_laws.specs.Agreement.{IsWhole}
 use Rattle.world_laws.specs.Alone.{SameKeys}
 use Rattle.tag_book.specs.Book.{tags_verdict, tags_verdict_either}
 use Rattle.eap_world.specs.Conversations.{front}
-use Rattle.world_laws.specs.EachConversation.{AreTwoOf, IsOneOf, OfPeer, OfServer, all_accepted, all_made, last_now, nonces_of, peer_conversations, peer_holds, peer_nonce, server_conversations, server_holds, server_nonce}
+use Rattle.world_laws.specs.EachConversation.{AreTwoOf, IsOneOf, OfPeer, OfServer, all_accepted, all_produced, last_now, nonces_of, peer_conversations, peer_knows_nonce, peer_nonce, server_conversations, server_knows_nonce, server_nonce}
 use Rattle.eap_world.specs.Judgement.{is_success, agreement_of}
 use Rattle.world_laws.specs.ByMethod.{peer_login, server_login}
-use Rattle.world_laws.specs.GpskLogins.{HoldAllOctets}
-use Rattle.world_laws.specs.PeerStands.{PeerStands}
+use Rattle.world_laws.specs.GpskLogins.{HaveAllOctets}
+use Rattle.world_laws.specs.PeerInvariant.{PeerInvariant}
 use Rattle.world_laws.specs.Records.{AreFew, IsIn, tags_by}
-use Rattle.world_laws.specs.ServerStands.{ServerStands}
+use Rattle.world_laws.specs.ServerInvariant.{ServerInvariant}
 use Rattle.eap_world.specs.World.{WorldNow}
 use Rattle.tag_book.specs.declared.book.End.TheVariants as end
 use Rattle.tag_book.specs.declared.book.TagsVerdict.TheVariants.{Honest}
@@ -38,12 +38,12 @@ pub record RestsOn (accepted made : List TagRecord) : Type 0 where
 -- a peer's and a server's conversation have one method; by EAP-GPSK they have all 32 octets of each other's nonces
 pub record AreOfOne (p : OfPeer) (s : OfServer) : Type 0 where
   pub method : p.now.vars.selected ≡ s.now.vars.current
-  pub whole : HoldAllOctets p.now.vars.selected p.now.views (peer_nonce p) s.now.views (server_nonce s)
+  pub whole : HaveAllOctets p.now.vars.selected p.now.views (peer_nonce p) s.now.views (server_nonce s)
 
 -- they have each other's nonces, whose prefixes are all that EAP-PSK has of them (RFC 4764 section 3.2)
-pub record HoldNonces (p : OfPeer) (s : OfServer) : Type 0 where
-  pub rand_s : peer_holds p ≡ Some (front (server_nonce s))
-  pub rand_p : server_holds s ≡ Some (front (peer_nonce p))
+pub record HaveNonces (p : OfPeer) (s : OfServer) : Type 0 where
+  pub rand_s : peer_knows_nonce p ≡ Some (front (server_nonce s))
+  pub rand_p : server_knows_nonce s ≡ Some (front (peer_nonce p))
   pub one : AreOfOne p s
 
 -- both report the same, keys included, and both policies allow it
@@ -75,14 +75,14 @@ pub record ServerRests (peers : List OfPeer) (s : OfServer) : Type 0 where
   pub on : OfPeer
   pub is_one : IsOneOf on peers
   pub rests : RestsOn s.accepted on.made
-  pub hold : HoldNonces on s
+  pub hold : HaveNonces on s
 
 -- a conversation of the peer rests on one of the server, which has its nonce; by EAP-GPSK they have each other's
 pub record PeerRests (servers : List OfServer) (p : OfPeer) : Type 0 where
   pub on : OfServer
   pub is_one : IsOneOf on servers
   pub rests : RestsOn p.accepted on.made
-  pub rand_p : server_holds on ≡ Some (front (peer_nonce p))
+  pub rand_p : server_knows_nonce on ≡ Some (front (peer_nonce p))
   pub one : AreOfOne p on
 
 -- a conversation of the server rests on one of the peer and on no other, no other one in SUCCESS rests on that, and
@@ -91,7 +91,7 @@ pub record ServerMatches (peers : List OfPeer) (servers : List OfServer) (s : Of
   pub on : OfPeer
   pub is_one : IsOneOf on peers
   pub rests : RestsOn s.accepted on.made
-  pub hold : HoldNonces on s
+  pub hold : HaveNonces on s
   pub no_other : (p : OfPeer) → IsOneOf p peers → RestsOn s.accepted p.made → p ≡ on
   pub by_no_other : (t : OfServer) → IsOneOf t servers → is_success t.now.vars.state ≡ true → RestsOn t.accepted on.made → t ≡ s
 
@@ -102,7 +102,7 @@ pub record PeerMatches (peers : List OfPeer) (servers : List OfServer) (p : OfPe
   pub is_one : IsOneOf on servers
   pub rests : RestsOn p.accepted on.made
   pub back : RestsOn on.accepted p.made
-  pub hold : HoldNonces p on
+  pub hold : HaveNonces p on
   pub no_other : (s : OfServer) → IsOneOf s servers → RestsOn p.accepted s.made → s ≡ on
   pub by_no_other : (q : OfPeer) → IsOneOf q peers → is_success q.now.vars.state ≡ true → RestsOn q.accepted on.made → q ≡ p
   pub back_by_no_other : (s : OfServer) → IsOneOf s servers → is_success s.now.vars.state ≡ true → RestsOn s.accepted p.made → s ≡ on
@@ -134,12 +134,12 @@ pub record Match (w : WorldNow) (peers : List OfPeer) (servers : List OfServer) 
       → (s : OfServer) → IsOneOf s servers → is_success s.now.vars.state ≡ true → s.now.vars.current ≡ Some psk_kind
       → (p : OfPeer) → IsOneOf p peers → RestsOn s.accepted p.made → peer_reports p.now ≡ server_reports s.now
   -- the login of the one of the peer on which one of the server in SUCCESS rests leads to just what that reports: names, suite and keys
-  pub peers_lead : tags_verdict w.book ≡ Honest → w.conversations.fresh ≡ true
+  pub peers_agree : tags_verdict w.book ≡ Honest → w.conversations.fresh ≡ true
       → (s : OfServer) → IsOneOf s servers → is_success s.now.vars.state ≡ true
       → (p : OfPeer) → IsOneOf p peers → RestsOn s.accepted p.made → peer_login p.now.vars.selected p.now.views ≡ server_reports s.now
   -- whatever the tags and nonces are: the login of one of the server on which one of the peer in SUCCESS rests, and which rests on it in
   -- its turn, leads to just what the peer's reports
-  pub servers_lead : (p : OfPeer) → IsOneOf p peers → is_success p.now.vars.state ≡ true → (s : OfServer) → IsOneOf s servers
+  pub servers_agree : (p : OfPeer) → IsOneOf p peers → is_success p.now.vars.state ≡ true → (s : OfServer) → IsOneOf s servers
       → RestsOn p.accepted s.made → RestsOn s.accepted p.made → server_login s.now.vars.current s.now.views ≡ peer_reports p.now
   -- and that of one of the peer on which one of the server in SUCCESS rests has the keys which that reports
   pub same_keys : (s : OfServer) → IsOneOf s servers → is_success s.now.vars.state ≡ true → (p : OfPeer) → IsOneOf p peers
@@ -165,11 +165,11 @@ pub record AreAll (setup : Setup) (w : WorldNow) (peers : List OfPeer) (servers 
   pub peer_last : last_now None peers ≡ Some w.parties.peer
   pub server_last : last_now None servers ≡ Some w.parties.server
   pub peer_accepted : tags_by end.Peer Accepted w.book ≡ all_accepted peers
-  pub peer_made : tags_by end.Peer Made w.book ≡ all_made peers
+  pub initial_peer : tags_by end.Peer Made w.book ≡ all_produced peers
   pub server_accepted : tags_by end.Server Accepted w.book ≡ all_accepted servers
-  pub server_made : tags_by end.Server Made w.book ≡ all_made servers
-  pub peer_stands : (p : OfPeer) → IsOneOf p peers → PeerStands (peer_table.own_nonce setup.peer (peer_nonce p)) p.now p.accepted p.made
-  pub server_stands : (s : OfServer) → IsOneOf s servers → ServerStands (server_table.own_nonce setup.server (server_nonce s)) s.now s.accepted s.made
+  pub initial_server : tags_by end.Server Made w.book ≡ all_produced servers
+  pub peer_invariant : (p : OfPeer) → IsOneOf p peers → PeerInvariant (peer_table.setup_with_nonce setup.peer (peer_nonce p)) p.now p.accepted p.made
+  pub server_invariant : (s : OfServer) → IsOneOf s servers → ServerInvariant (server_table.setup_with_nonce setup.server (server_nonce s)) s.now s.accepted s.made
   pub peer_few : (p : OfPeer) → IsOneOf p peers → AreFew p.accepted p.made
   pub server_few : (s : OfServer) → IsOneOf s servers → AreFew s.accepted s.made
 

@@ -10,38 +10,38 @@ use Rattle.login_setup.specs.declared.setup.Port.{Port}
 use Rattle.login_setup.specs.declared.setup.Port.TheVariants as port
 use Rattle.login_setup.specs.declared.setup.Setup.{Setup}
 use Rattle.pass_through.specs.Inputs.{PassInput, from_peer, from_backend}
-use Rattle.pass_through.specs.PassTable.{pass_made}
+use Rattle.pass_through.specs.PassTable.{initial_pass}
 use Rattle.pass_through.specs.Runs.{IsCarried, SentOn, pass_after, pass_sends}
 use Rattle.eap_world.specs.Run.{run_of}
 use Rattle.eap_world.specs.Sent.{Sent, packet_numbered}
-use Rattle.eap_world.specs.World.{Acted, Action, Call, Called, Skipped, WorldNow, act, alteration, call_of, act_of_call, first_skip, pass_octets, pass_port, sent_by, skip_table, start_call, to_pass, to_peer, to_server, world_made, world_start, world_step}
+use Rattle.eap_world.specs.World.{Acted, Action, Call, Called, Skipped, WorldNow, act, alteration, call_of, act_of_call, first_skip, pass_octets, pass_port, sent_by, skip_table, start_call, to_pass, to_peer, to_server, initial_world, world_start, world_step}
 use Rattle.eap_world.specs.declared.told.Skip.{Skip}
 
 -- ---- read off a run
 
 -- what comes to the pass-through in a call
-abbrev pub came_by : Call → List PassInput
-came_by (to_pass input) = input ∷ []
-came_by (to_peer input) = []
-came_by (to_server input) = []
+abbrev pub received_by : Call → List PassInput
+received_by (to_pass input) = input ∷ []
+received_by (to_peer input) = []
+received_by (to_server input) = []
 
 -- in an event
-abbrev pub came_unless : Option Skip → Option Call → List PassInput
-came_unless (Some skip) call = []
-came_unless None None = []
-came_unless None (Some call) = came_by call
+abbrev pub received_unless : Option Skip → Option Call → List PassInput
+received_unless (Some skip) call = []
+received_unless None None = []
+received_unless None (Some call) = received_by call
 
-abbrev pub came_in : WorldNow → Event → List PassInput
-came_in w e = came_unless (first_skip (skip_table w.parties w.conversations w.sent e)) (call_of w.conversations w.sent e)
+abbrev pub received_in : WorldNow → Event → List PassInput
+received_in w e = received_unless (first_skip (skip_table w.parties w.conversations w.sent e)) (call_of w.conversations w.sent e)
 
-unfoldable pub came_after : WorldNow → List Event → List PassInput
-came_after w [] = []
-came_after w (e ∷ rest) = came_in w e ++ came_after (world_step w e).after rest
+unfoldable pub received_after : WorldNow → List Event → List PassInput
+received_after w [] = []
+received_after w (e ∷ rest) = received_in w e ++ received_after (world_step w e).after rest
 
 -- in the run of these events: its start, octets from either side, the ends of its timer, that the server is lost or has
 -- nothing to ask, and its restarts
-abbrev pub came_to_pass : Setup → List Event → List PassInput
-came_to_pass setup events = came_by (start_call setup.mode) ++ came_after (world_start (world_made setup)).after events
+abbrev pub received_by_pass : Setup → List Event → List PassInput
+received_by_pass setup events = received_by (start_call setup.mode) ++ received_after (world_start (initial_world setup)).after events
 
 -- what the pass-through sends in what is done
 abbrev pub if_pass : Party → List Sent → List Sent
@@ -58,11 +58,11 @@ passed_after w [] = []
 passed_after w (e ∷ rest) = passed_by (act w.parties w.conversations w.sent e).action ++ passed_after (world_step w e).after rest
 
 abbrev pub start_act : Setup → Acted
-start_act setup = act_of_call (world_made setup).parties (start_call setup.mode)
+start_act setup = act_of_call (initial_world setup).parties (start_call setup.mode)
 
 -- in the run of these events, with the port to which each packet goes
 abbrev pub sent_by_pass : Setup → List Event → List Sent
-sent_by_pass setup events = passed_by (start_act setup).action ++ passed_after (world_start (world_made setup)).after events
+sent_by_pass setup events = passed_by (start_act setup).action ++ passed_after (world_start (initial_world setup)).after events
 
 -- the packets of a run to the ports of both ends: all that the ends can get of it
 abbrev pub if_to_end : Port → Sent → List Sent → List Sent
@@ -84,8 +84,8 @@ at_port packet = record { port = pass_port packet.to; octets = packet.octets }
 -- its state after a run, and what it sent, which is all that is sent to an end, are determined by what came to it
 -- alone, from its first Identifier and MaxRetrans
 pub record IsAlone (setup : Setup) (events : List Event) : Type 0 where
-  pub vars : (run_of setup events).parties.pass ≡ pass_after (pass_made setup.first_id setup.max_retrans) (came_to_pass setup events)
-  pub sent : sent_by_pass setup events ≡ map at_port (pass_sends (pass_made setup.first_id setup.max_retrans) (came_to_pass setup events))
+  pub vars : (run_of setup events).parties.pass ≡ pass_after (initial_pass setup.first_id setup.max_retrans) (received_by_pass setup events)
+  pub sent : sent_by_pass setup events ≡ map at_port (pass_sends (initial_pass setup.first_id setup.max_retrans) (received_by_pass setup events))
   pub to_both : to_ends (run_of setup events).sent ≡ sent_by_pass setup events
 
 abbrev pub PassIsAlone : Type 0
@@ -104,7 +104,7 @@ abbrev pub PassLearnsNothing : Type 0
 PassLearnsNothing =
     (one other : Setup) (events others : List Event) → one.mode ≡ mode.Through → other.mode ≡ mode.Through
     → one.first_id ≡ other.first_id → one.max_retrans ≡ other.max_retrans
-    → came_to_pass one events ≡ came_to_pass other others → AreAlike one other events others
+    → received_by_pass one events ≡ received_by_pass other others → AreAlike one other events others
 
 -- ---- the origin of its packets
 
@@ -114,26 +114,26 @@ pub data IsPassedOn (first_id : ℕ) (came : List PassInput) : Sent → Type 0 w
 
 -- each packet that it sends is its Identity Request, or came to it from the other side and goes on without its padding
 abbrev pub Carries : Setup → List Event → Type 0
-Carries setup events = All (IsPassedOn setup.first_id (came_to_pass setup events)) (sent_by_pass setup events)
+Carries setup events = All (IsPassedOn setup.first_id (received_by_pass setup events)) (sent_by_pass setup events)
 
 abbrev pub PassCarries : Type 0
 PassCarries = (setup : Setup) (events : List Event) → setup.mode ≡ mode.Through → Carries setup events
 
 -- octets that an event delivers at a port, if these packets were sent before it: those of a packet that was sent to it,
 -- as they are, altered or cut; or those that are injected
-pub data IsHanded (sent : List Sent) : Event → Port → List ℕ → Type 0 where
-  delivered : (n : ℕ) (packet : Sent) (is : packet_numbered sent n ≡ Some packet) → IsHanded sent (event.Deliver n) packet.port packet.octets
+pub data IsDelivered (sent : List Sent) : Event → Port → List ℕ → Type 0 where
+  delivered : (n : ℕ) (packet : Sent) (is : packet_numbered sent n ≡ Some packet) → IsDelivered sent (event.Deliver n) packet.port packet.octets
   delivered_altered : (n place mask : ℕ) (packet : Sent) (is : packet_numbered sent n ≡ Some packet)
-      → IsHanded sent (event.Alter n place mask) packet.port (alteration packet.octets place mask)
+      → IsDelivered sent (event.Alter n place mask) packet.port (alteration packet.octets place mask)
   delivered_cut : (n keep : ℕ) (packet : Sent) (is : packet_numbered sent n ≡ Some packet)
-      → IsHanded sent (event.Cut n keep) packet.port (take keep packet.octets)
-  injected : (to : Port) (octets : List ℕ) → IsHanded sent (event.Inject to octets) to octets
+      → IsDelivered sent (event.Cut n keep) packet.port (take keep packet.octets)
+  injected : (to : Port) (octets : List ℕ) → IsDelivered sent (event.Inject to octets) to octets
 
 -- an input of the pass-through carries no octets but such
 pub data IsOfEvent (sent : List Sent) (e : Event) : PassInput → Type 0 where
-  of_peer : (octets : List ℕ) (is : IsHanded sent e port.PassPeer octets) → IsOfEvent sent e (from_peer octets)
-  of_server : (octets : List ℕ) (is : IsHanded sent e port.PassServer octets) → IsOfEvent sent e (from_backend octets)
+  of_peer : (octets : List ℕ) (is : IsDelivered sent e port.PassPeer octets) → IsOfEvent sent e (from_peer octets)
+  of_server : (octets : List ℕ) (is : IsDelivered sent e port.PassServer octets) → IsOfEvent sent e (from_backend octets)
   silent : (input : PassInput) (none : pass_octets input ≡ None) → IsOfEvent sent e input
 
-abbrev pub PassIsHanded : Type 0
-PassIsHanded = (w : WorldNow) (e : Event) → All (IsOfEvent w.sent e) (came_in w e)
+abbrev pub PassIsDelivered : Type 0
+PassIsDelivered = (w : WorldNow) (e : Event) → All (IsOfEvent w.sent e) (received_in w e)

@@ -37,7 +37,7 @@ pub record AreInEither (accepted others own : List TagRecord) : Type 0 where
 -- at most two accepted and two made
 pub record AreFew (accepted made : List TagRecord) : Type 0 where
   pub few_accepted : length accepted ≤ 2
-  pub few_made : length made ≤ 2
+  pub few_produced : length made ≤ 2
 
 -- no tag at all
 pub data AreNone : List TagRecord → List TagRecord → Type 0 where

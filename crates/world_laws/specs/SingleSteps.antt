@@ -19,7 +19,7 @@ use Rattle.tag_book.specs.declared.book.End.TheVariants as end
 use Rattle.tag_book.specs.declared.book.Use.TheVariants.{Accepted}
 use Rattle.eap_world.specs.Run.{run_of}
 use Rattle.eap_world.specs.Judgement.{is_success}
-use Rattle.world_laws.specs.EndsStand.{present_tags}
+use Rattle.world_laws.specs.EndInvariants.{present_tags}
 use Rattle.eap_world.specs.Sent.{Sent, last_to, packet_numbered}
 use Rattle.eap_world.specs.World.{Parties, WorldNow, WorldOutcome, alteration, octets_of, state_of, world_step}
 
@@ -28,12 +28,12 @@ abbrev pub identifier_of : List ℕ → ℕ
 identifier_of octets = slice_index octets 1
 
 -- the octets that an event delivers to its party
-abbrev pub handed_in : List Sent → Event → List ℕ
-handed_in sent (event.Deliver n) = octets_of (packet_numbered sent n)
-handed_in sent (event.Alter n place mask) = alteration (octets_of (packet_numbered sent n)) place mask
-handed_in sent (event.Cut n keep) = take keep (octets_of (packet_numbered sent n))
-handed_in sent (event.Inject port octets) = octets
-handed_in sent _ = []
+abbrev pub delivered_in : List Sent → Event → List ℕ
+delivered_in sent (event.Deliver n) = octets_of (packet_numbered sent n)
+delivered_in sent (event.Alter n place mask) = alteration (octets_of (packet_numbered sent n)) place mask
+delivered_in sent (event.Cut n keep) = take keep (octets_of (packet_numbered sent n))
+delivered_in sent (event.Inject port octets) = octets
+delivered_in sent _ = []
 
 -- octets are delivered to a party
 abbrev pub is_delivery_of : Event → Bool
@@ -82,7 +82,7 @@ end_state parties end.Server = parties.server.vars.state
 -- what holds of each step from a world of a run to the result of an event
 pub record IsLawful (w : WorldNow) (e : Event) (out : WorldOutcome) : Type 0 where
   -- what the peer sends is a Response with the Identifier of what was delivered to it
-  pub answers : (packet : Sent) → Sends w out party.Peer packet → AnswersIt (handed_in w.sent e) packet.octets
+  pub answers : (packet : Sent) → Sends w out party.Peer packet → AnswersIt (delivered_in w.sent e) packet.octets
   -- what is sent again is the last packet to the same port
   pub repeats : (of : Party) (packet : Sent) → Sends w out of packet → list_any is_again out.told.path ≡ true
       → last_to packet.port w.sent ≡ Some packet.octets

@@ -1,12 +1,12 @@
 //! Laws of both ends over events. Each is the contract of a function that does nothing.
 
-ghost use Rattle.world_laws.specs.Agreement.{BeginsOnce, HonestOfEither, HonestEndsAgree, HonestNamesAreTheirs, FewPackets, FewTags};
-ghost use Rattle.world_laws.specs.Alone.{OneEndTells};
-ghost use Rattle.world_laws.specs.EndsStand.{EndsStand};
-ghost use Rattle.world_laws.specs.Fresh.{FreshIsTold};
-ghost use Rattle.world_laws.specs.Laws.{DiscardsKeep, RunsTellReports, SkipsKeep};
+ghost use Rattle.world_laws.specs.Agreement.{StartsOnce, HonestOfEither, HonestEndsAgree, HonestNamesAreTheirs, FewPackets, FewTags};
+ghost use Rattle.world_laws.specs.Alone.{OneEndImplies};
+ghost use Rattle.world_laws.specs.EndInvariants.{EndInvariants};
+ghost use Rattle.world_laws.specs.Fresh.{FreshnessIsExact};
+ghost use Rattle.world_laws.specs.Laws.{DiscardsChangeNothing, ReportsAreTraced, SkipsChangeNothing};
 ghost use Rattle.world_laws.specs.Matching.{ConversationsAreAll, ConversationsMatch};
-ghost use Rattle.world_laws.specs.Passing.{PassCarries, PassIsAlone, PassIsHanded, PassLearnsNothing};
+ghost use Rattle.world_laws.specs.Passing.{PassCarries, PassIsAlone, PassIsDelivered, PassLearnsNothing};
 ghost use Rattle.world_laws.specs.PskReflected.{ReflectedEndsAgree};
 ghost use Rattle.world_laws.specs.SingleSteps.{StepsAreLawful};
 ghost use Rattle.world_laws.specs.UnderKey.{ConversationsMatchUnder, HonestUnder};
@@ -14,22 +14,22 @@ ghost use Rattle.world_laws.specs.UnderKey.{ConversationsMatchUnder, HonestUnder
 /// An event that an end discards changes nothing but the counts and which of the nonces that are left have been seen in
 /// a delivery: no variable and no method's view at either end, nothing sent and nothing in the book. If each report
 /// that an end has was reported, as in every run, none is reported.
-#[tactic(auto, using(crate::proofs::Discards::discards_keep))]
-pub fn discards_keep()
-    ensures { DiscardsKeep }
+#[tactic(auto, using(crate::proofs::Discards::discards_change_nothing))]
+pub fn discards_change_nothing()
+    ensures { DiscardsChangeNothing }
 {}
 
 /// An event that is skipped changes nothing but the number of events: no variable and no method's view at any
 /// party, nothing sent, nothing in the book, no conversation and no nonce seen, neither the deliveries nor the
 /// discards. Its result names no party, no state, no packet and no report.
-#[tactic(auto, using(crate::proofs::Skips::skips_keep))]
-pub fn skips_keep()
-    ensures { SkipsKeep }
+#[tactic(auto, using(crate::proofs::Skips::skips_change_nothing))]
+pub fn skips_change_nothing()
+    ensures { SkipsChangeNothing }
 {}
 
 /// In every run each report that an end has was reported.
-pub fn runs_tell_reports()
-    ensures { RunsTellReports }
+pub fn reports_are_traced()
+    ensures { ReportsAreTraced }
 {}
 
 /// A book in which each accepted tag was made earlier by the other end is one in which each was made
@@ -75,8 +75,8 @@ pub fn honest_names_are_theirs()
 /// By EAP-GPSK they have all 32 octets of each other's nonces, by EAP-PSK the 16 that are all it has of them.
 ///
 /// It doesn't say that the other end has succeeded too, or will.
-pub fn one_end_tells()
-    ensures { OneEndTells }
+pub fn one_end_implies()
+    ensures { OneEndImplies }
 {}
 
 /// Tags may come back to their maker, and ends may begin new conversations: if each accepted tag was made earlier by
@@ -130,15 +130,15 @@ pub fn conversations_are_all()
 {}
 
 /// An end whose settings have no later nonces begins no second conversation: then both ends have begun one each in every run.
-pub fn begins_once()
-    ensures { BeginsOnce }
+pub fn starts_once()
+    ensures { StartsOnce }
 {}
 
 /// What a world says of freshness is so: in every run it is true exactly if each conversation began with a nonce whose
 /// first 16 octets no conversation before it had, of either end, and which occurred one after the other in nothing that
 /// had been delivered to a party before.
-pub fn fresh_is_told()
-    ensures { FreshIsTold }
+pub fn freshness_is_exact()
+    ensures { FreshnessIsExact }
 {}
 
 /// In every run in mode through, whatever the setup: the pass-through's state and what it has sent are determined by
@@ -147,7 +147,7 @@ pub fn fresh_is_told()
 /// they are, altered or cut by the event that brings them, or are injected there.
 pub fn pass_is_alone()
     ensures alone { PassIsAlone }
-    ensures handed { PassIsHanded }
+    ensures handed { PassIsDelivered }
 {}
 
 /// The pass-through learns nothing that isn't delivered to it: two runs in mode through in which the same came to it
@@ -168,8 +168,8 @@ pub fn pass_carries()
 /// is of its own settings, with the nonce of that conversation, but for the other end's name and nonce and the suite
 /// that it picked of a list; a decision other than FAIL comes from a method that has succeeded, and SUCCESS from such a
 /// decision.
-pub fn ends_stand()
-    ensures { EndsStand }
+pub fn end_invariants()
+    ensures { EndInvariants }
 {}
 
 /// A run of so many events sends at most one packet more.

@@ -8,16 +8,16 @@ ghost use Rattle.login_policy.specs.Policy.{picked_suite};
 ghost use Rattle.eap_method.specs.GpskPeer.{picks, fresh_reads};
 ghost use Rattle.gpsk_ends.specs.PeerStage.{outcome_of_offer};
 
-use crate::hearing::hear;
-use crate::peer::login::Begun;
+use crate::peer::login::Initial;
 use crate::peer::offer::Offer;
+use crate::receiving::receive;
 use eap_packet::Cause;
 use gpsk_messages::{Gpsk1, GpskMessage};
 use login_policy::pick_suite;
 
 /// GPSK-1 of a server that the peer accepts: the first suite of the list that it allows is picked.
 /// `NoSuite`: there is none.
-fn pick<'a>(own: &Begun, gpsk1: &Gpsk1<'a>) -> Result<Offer<'a>, Cause>
+fn pick<'a>(own: &Initial, gpsk1: &Gpsk1<'a>) -> Result<Offer<'a>, Cause>
     requires name { length gpsk1.now.id_s.now ≤ max_name }
     requires few { length gpsk1.now.list.now ≤ 120 }
     ensures { (id : ℕ) → outcome_of_offer own.now.cred own.now.nonce id result
@@ -36,11 +36,11 @@ fn pick<'a>(own: &Begun, gpsk1: &Gpsk1<'a>) -> Result<Offer<'a>, Cause>
 }
 
 /// The Type-Data at a peer that has begun. `UnknownServer`: it does not accept the server's name.
-pub fn fresh_reads<'a>(own: &Begun, body: &'a [u8]) -> Result<Offer<'a>, Cause>
+pub fn fresh_reads<'a>(own: &Initial, body: &'a [u8]) -> Result<Offer<'a>, Cause>
     requires { length body.now ≤ max_type_data }
     ensures { (id : ℕ) → outcome_of_offer own.now.cred own.now.nonce id result ≡ fresh_reads own.now.cred own.now.nonce id (read_of None body.now) }
 {
-    match hear(body, None) {
+    match receive(body, None) {
         Err(cause) => Err(cause),
         Ok(GpskMessage::M1(gpsk1)) => {
             if own.cred.accepts.takes(gpsk1.id_s) {

@@ -5,8 +5,8 @@ ghost use Rattle.octet_lists.specs.Suite.{ks_of};
 ghost use Rattle.eap_packet.specs.declared.packet.Code.TheVariants as code;
 ghost use Rattle.gpsk_messages.specs.Message.{message_of, mac_of, size_of, without_mac};
 ghost use Rattle.eap_method.specs.GpskTags.{gpsk_response, sk_record};
-ghost use Rattle.eap_method.specs.Room.{HasRoom};
-ghost use Rattle.gpsk_ends.specs.Heard.{IsHeard};
+ghost use Rattle.eap_method.specs.Capacity.{HasCapacity};
+ghost use Rattle.gpsk_ends.specs.Classified.{IsReceived};
 ghost use Rattle.gpsk_ends.specs.Sealed.{packet_of, record_of};
 
 use crate::keys::Keys;
@@ -22,7 +22,7 @@ use std::marker::Model;
 
 /// What a peer brings into a login.
 #[derive(Drop)]
-pub struct Begun {
+pub struct Initial {
     pub cred: Credential,
     /// RAND_Peer.
     pub nonce: Nonce,
@@ -33,7 +33,7 @@ pub struct Begun {
 /// by its definition.
 #[derive(Drop)]
 pub struct Login {
-    own: Begun,
+    own: Initial,
     /// ID_Server.
     id_s: Identity,
     /// RAND_Server.
@@ -46,11 +46,11 @@ impl Model for Login {
 
     ghost Value = { definition.Login };
 
-    ghost use Rattle.gpsk_ends.specs.PeerLogin.{login_of, IsKept};
+    ghost use Rattle.gpsk_ends.specs.PeerLogin.{login_of, IsConsistent};
 
     ghost view = { login_of };
 
-    ghost invariant = { IsKept };
+    ghost invariant = { IsConsistent };
 }
 
 impl Login {
@@ -60,7 +60,7 @@ impl Login {
 
     /// The login that begins with an offer. Its keys are derived here alone (RFC 5433 section 4).
     #[tactic(auto, unfolding(eap_method::specs::GpskPeer::keys_of))]
-    pub fn new(own: &Begun, offer: &Offer) -> Login
+    pub fn new(own: &Initial, offer: &Offer) -> Login
         ensures { result ≡ login_with own.now.cred own.now.nonce offer.now }
     {
         let psk = &own.cred.psk;
@@ -68,7 +68,7 @@ impl Login {
         let rand_s = &offer.rand_s;
         let keys = Keys::new(offer.suite, psk, &own.nonce, id_p, rand_s, offer.id_s);
         Login {
-            own: Begun {
+            own: Initial {
                 cred: own.cred.copy(),
                 nonce: own.nonce,
             },
@@ -98,7 +98,7 @@ impl Login {
 
     /// Whether a message, which the Type-Data encodes, has the MAC of the login.
     pub fn is_tagged(&self, view: &GpskMessage, body: &[u8]) -> bool
-        requires { IsHeard (message_of view.now) body.now }
+        requires { IsReceived (message_of view.now) body.now }
         ensures { result ≡ is_tagged_by self.now (message_of view.now) }
     {
         self.keys.is_tagged(view, body)
@@ -106,7 +106,7 @@ impl Login {
 
     /// Leaves the record of the MAC of a message, which the Type-Data encodes, alone in `accepted`.
     pub fn accept<R: Records>(&self, view: &GpskMessage, body: &[u8], accepted: &mut TagList<R>)
-        requires { IsHeard (message_of view.now) body.now }
+        requires { IsReceived (message_of view.now) body.now }
         ensures { accepted.new ≡ sk_record self.now.cred.psk (message_of view.now) ∷ [] }
     {
         record(accepted, view, body, &self.own.cred.psk);
@@ -124,7 +124,7 @@ impl Login {
         requires mac { length (mac_of (message_of view.now)) ≡ ks_of self.now.suite }
         ensures packet { packet.new ≡ packet_of code.Response id self.now.suite (keys_of self.now).sk (without_mac (message_of view.now)) }
         ensures record { made.new ≡ record_of self.now.suite (keys_of self.now).sk self.now.cred.psk (without_mac (message_of view.now)) ∷ [] }
-        ensures room { HasRoom packet.new }
+        ensures room { HasCapacity packet.new }
     {
         let psk = &self.own.cred.psk;
         self.keys.seal(view, Code::Response, id, psk, packet, made);
@@ -136,7 +136,7 @@ impl Login {
         requires { length list.now ≤ 120 }
         ensures packet { packet.new ≡ gpsk_response id (gpsk2_of self.now list.now) }
         ensures record { made.new ≡ sk_record self.now.cred.psk (gpsk2_of self.now list.now) ∷ [] }
-        ensures room { HasRoom packet.new }
+        ensures room { HasCapacity packet.new }
     {
         let suite = self.keys.suite();
         let open = GpskMessage::M2(Gpsk2 {
@@ -156,7 +156,7 @@ impl Login {
     pub fn gpsk4<R: Records>(&self, id: u8, packet: &mut Packet, made: &mut TagList<R>)
         ensures packet { packet.new ≡ gpsk_response id (gpsk4_of self.now) }
         ensures record { made.new ≡ sk_record self.now.cred.psk (gpsk4_of self.now) ∷ [] }
-        ensures room { HasRoom packet.new }
+        ensures room { HasCapacity packet.new }
     {
         let open = GpskMessage::M4(Gpsk4 {
             pd: &[],
@@ -175,7 +175,7 @@ impl Login {
     )
         ensures packet { packet.new ≡ gpsk_response id (protected_fail_of self.now code) }
         ensures record { made.new ≡ sk_record self.now.cred.psk (protected_fail_of self.now code) ∷ [] }
-        ensures room { HasRoom packet.new }
+        ensures room { HasCapacity packet.new }
     {
         let open = GpskMessage::ProtectedFail {
             code,

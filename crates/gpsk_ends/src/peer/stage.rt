@@ -1,6 +1,6 @@
 //! The state of a peer of EAP-GPSK.
 
-use crate::peer::login::{Begun, Login};
+use crate::peer::login::{Initial, Login};
 
 /// The state of a peer in a login.
 #[derive(Drop)]
@@ -17,7 +17,7 @@ pub enum Stage {
     /// It has not begun.
     Unset,
     /// It has begun, and awaits GPSK-1.
-    Fresh { own: Begun },
+    Fresh { own: Initial },
     /// It has accepted GPSK-1.
     Login { login: Login, phase: Phase },
 }

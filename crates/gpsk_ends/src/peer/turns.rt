@@ -10,18 +10,18 @@ ghost use Rattle.gpsk_messages.specs.Reading.{read_of};
 ghost use Rattle.eap_method.specs.Turns.{fault_if, discarded};
 ghost use Rattle.eap_method.specs.GpskPeer.{answers, over, over_reads, step};
 ghost use Rattle.eap_method.specs.GpskPeer.{confirms, repeats_fail, repeats_protected, is_tagged_by, wait_reads};
-ghost use Rattle.eap_method.specs.Room.{HasRoom, replies};
-ghost use Rattle.gpsk_ends.specs.Heard.{IsHeard};
+ghost use Rattle.eap_method.specs.Capacity.{HasCapacity, replies};
+ghost use Rattle.gpsk_ends.specs.Classified.{IsReceived};
 ghost use Rattle.gpsk_ends.specs.PeerStage.{view_in, view_of, outcome_with};
 ghost use Rattle.gpsk_ends.specs.declared.peer.stage.Phase.TheVariants.{Wait};
 ghost use Rattle.eap_method.specs.declared.turn.PeerAnswer.TheVariants.{Reply};
 ghost use Rattle.eap_method.specs.declared.values.MethodState.TheVariants.{Cont};
 ghost use Rattle.eap_method.specs.declared.values.Decision.TheVariants.{Fail};
 
-use crate::hearing::hear;
 use crate::peer::gpsk1::fresh_reads;
 use crate::peer::login::Login;
 use crate::peer::stage::{Phase, Stage};
+use crate::receiving::receive;
 use eap_method::{Decision, MethodState, PeerAnswer, Records, Tags};
 use eap_packet::{Cause, Code};
 use gpsk_messages::{GpskMessage, write_gpsk_into};
@@ -38,7 +38,7 @@ fn answer<R: Records>(
 ) -> PeerAnswer
     requires { length list.now ≤ 120 }
     ensures turn { outcome_with result packet.new tags.new (view_in login.now Wait) ≡ answers login.now id list.now }
-    ensures room { HasRoom packet.new }
+    ensures room { HasCapacity packet.new }
 {
     tags.accepted.clear();
     login.gpsk2(id, list, packet, &mut tags.made);
@@ -60,11 +60,11 @@ fn confirm<R: Records>(
     packet: &mut Packet,
     tags: &mut Tags<R>,
 ) -> PeerAnswer
-    requires heard { IsHeard (message_of view.now) body.now }
+    requires heard { IsReceived (message_of view.now) body.now }
     requires waits { phase.old ≡ Wait }
     ensures turn { outcome_with result packet.new tags.new (view_in login.now phase.new)
         ≡ confirms login.now id (message_of view.now) (fault_if (not (is_tagged_by login.now (message_of view.now))) BadTag None) }
-    ensures room { replies result ≡ true → HasRoom packet.new }
+    ensures room { replies result ≡ true → HasCapacity packet.new }
 {
     if !login.is_tagged(view, body) {
         return PeerAnswer::Discard(Cause::BadTag);
@@ -88,7 +88,7 @@ fn repeat_fail<R: Records>(
     tags: &mut Tags<R>,
 ) -> PeerAnswer
     ensures turn { outcome_with result packet.new tags.new (view_in login.now phase.new) ≡ repeats_fail login.now id code }
-    ensures room { HasRoom packet.new }
+    ensures room { HasCapacity packet.new }
 {
     write_gpsk_into(packet, &GpskMessage::Fail { code }, Code::Response, id);
     tags.clear();
@@ -112,11 +112,11 @@ fn repeat_protected<R: Records>(
     packet: &mut Packet,
     tags: &mut Tags<R>,
 ) -> PeerAnswer
-    requires heard { IsHeard (message_of view.now) body.now }
+    requires heard { IsReceived (message_of view.now) body.now }
     requires waits { phase.old ≡ Wait }
     ensures turn { outcome_with result packet.new tags.new (view_in login.now phase.new)
         ≡ repeats_protected login.now id code (message_of view.now) (fault_if (not (is_tagged_by login.now (message_of view.now))) BadTag None) }
-    ensures room { replies result ≡ true → HasRoom packet.new }
+    ensures room { replies result ≡ true → HasCapacity packet.new }
 {
     if !login.is_tagged(view, body) {
         return PeerAnswer::Discard(Cause::BadTag);
@@ -145,9 +145,9 @@ fn wait_reads<R: Records>(
     requires waits { phase.old ≡ Wait }
     ensures turn { outcome_with result packet.new tags.new (view_in login.now phase.new)
         ≡ wait_reads login.now id (read_of (Some (ks_of login.now.suite)) body.now) }
-    ensures room { replies result ≡ true → HasRoom packet.new }
+    ensures room { replies result ≡ true → HasCapacity packet.new }
 {
-    match hear(body, Some(login.suite())) {
+    match receive(body, Some(login.suite())) {
         Err(cause) => PeerAnswer::Discard(cause),
         Ok(view) => match &view {
             GpskMessage::M3(gpsk3) => {
@@ -171,7 +171,7 @@ fn over_cause(login: &Login, good: bool, body: &[u8]) -> Cause
     requires { length body.now ≤ max_type_data }
     ensures { discarded (over login.now good) result ≡ over_reads login.now good (read_of (Some (ks_of login.now.suite)) body.now) }
 {
-    match hear(body, Some(login.suite())) {
+    match receive(body, Some(login.suite())) {
         Err(cause) => cause,
         Ok(_) => Cause::WrongOp,
     }
@@ -179,7 +179,7 @@ fn over_cause(login: &Login, good: bool, body: &[u8]) -> Cause
 
 /// The turn for the octets of a Request of Type 51. After a discard `packet` and `tags` are unspecified.
 #[tactic(auto, unfolding(eap_method::specs::GpskPeer::step))]
-pub fn hears_request<R: Records>(
+pub fn handle_request<R: Records>(
     stage: &mut Stage,
     request: &[u8],
     packet: &mut Packet,
@@ -188,7 +188,7 @@ pub fn hears_request<R: Records>(
     requires header { 5 ≤ length request.now }
     requires size { length request.now ≤ max_packet }
     ensures turn { outcome_with result packet.new tags.new (view_of stage.new) ≡ step (view_of stage.old) request.now }
-    ensures room { replies result ≡ true → HasRoom packet.new }
+    ensures room { replies result ≡ true → HasCapacity packet.new }
 {
     let id = request[1];
     let body = &request[5..];

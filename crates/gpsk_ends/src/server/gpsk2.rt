@@ -3,18 +3,18 @@
 ghost use Rattle.std.specs.Prelude.{◌≡◌, ◌≤◌, ℕ, List, length, true, All, IsTrue, IfSome, None, option_copied};
 ghost use Rattle.octet_lists.specs.Among.{gpsk_kind};
 ghost use Rattle.eap_packet.specs.Packet.{max_type_data};
-ghost use Rattle.login_setup.specs.Setup.{fits_kind};
+ghost use Rattle.login_setup.specs.Setup.{is_valid_for};
 ghost use Rattle.login_setup.specs.Users.{user_of};
 ghost use Rattle.gpsk_messages.specs.Message.{message_of};
 ghost use Rattle.gpsk_messages.specs.Reading.{read_of};
-ghost use Rattle.eap_method.specs.GpskServer.{asked, refusing, refuses, answers, asked_hears, asked_reads};
+ghost use Rattle.eap_method.specs.GpskServer.{asked, refusing, refuses, answers, asked_receives, asked_reads};
 ghost use Rattle.eap_method.specs.declared.values.ServerSide.{ServerSide};
-ghost use Rattle.eap_method.specs.Room.{HasRoom, requests};
-ghost use Rattle.gpsk_ends.specs.Heard.{IsHeard};
+ghost use Rattle.eap_method.specs.Capacity.{HasCapacity, requests};
+ghost use Rattle.gpsk_ends.specs.Classified.{IsReceived};
 ghost use Rattle.gpsk_ends.specs.ServerStage.{outcome_with, view_in, view_of};
 ghost use Rattle.eap_method.specs.declared.turn.ServerAnswer.TheVariants.{Request};
 
-use crate::hearing::hear;
+use crate::receiving::receive;
 use crate::server::login::Login;
 use crate::server::stage::{Alone, Phase, Stage};
 use eap_method::{Records, ServerAnswer, Tags};
@@ -31,7 +31,7 @@ pub const PSK_NOT_FOUND: u32 = 1;
 fn refuse<R: Records>(next_id: u8, packet: &mut Packet, tags: &mut Tags<R>)
     ensures turn { (own : ServerSide) (nonce : List ℕ) →
         outcome_with Request packet.new tags.new (refusing own nonce) ≡ refuses own nonce next_id }
-    ensures room { HasRoom packet.new }
+    ensures room { HasCapacity packet.new }
 {
     let message = GpskMessage::Fail {
         code: PSK_NOT_FOUND,
@@ -51,9 +51,9 @@ fn answer<R: Records>(
     packet: &mut Packet,
     tags: &mut Tags<R>,
 ) -> Phase
-    requires { IsHeard (message_of view.now) body.now }
+    requires { IsReceived (message_of view.now) body.now }
     ensures turn { outcome_with Request packet.new tags.new (view_in login.now result) ≡ answers login.now barred next_id (message_of view.now) }
-    ensures room { HasRoom packet.new }
+    ensures room { HasCapacity packet.new }
 {
     login.accept(view, body, &mut tags.accepted);
     if barred {
@@ -68,7 +68,7 @@ fn answer<R: Records>(
 /// The user of this name, with a key for EAP-GPSK.
 #[tactic(auto, using(crate::proofs::UserKeys::key_is_long))]
 fn find_user<'a>(users: &'a Users, id_p: &[u8]) -> Option<&'a User>
-    requires { All (λ user. IsTrue (fits_kind user.kind user.psk)) users.now }
+    requires { All (λ user. IsTrue (is_valid_for user.kind user.psk)) users.now }
     ensures found { option_copied result ≡ user_of users.now id_p.now gpsk_kind }
     ensures key { IfSome result (λ user. 32 ≤ length user.now.psk) }
 {
@@ -78,7 +78,7 @@ fn find_user<'a>(users: &'a Users, id_p: &[u8]) -> Option<&'a User>
 /// A message at a server that has sent GPSK-1. `FieldMismatch`: GPSK-2 does not repeat what GPSK-1 said.
 /// `SuiteNotOffered`: it names a suite that was not offered. `BadTag`: its MAC is wrong; the keys that were
 /// derived for it are dropped.
-fn asked_hears<R: Records>(
+fn asked_receives<R: Records>(
     stage: &mut Stage,
     next_id: u8,
     view: &GpskMessage,
@@ -87,11 +87,11 @@ fn asked_hears<R: Records>(
     packet: &mut Packet,
     tags: &mut Tags<R>,
 ) -> ServerAnswer
-    requires heard { IsHeard (message_of view.now) body.now }
-    requires keys { All (λ user. IsTrue (fits_kind user.kind user.psk)) users.now }
+    requires heard { IsReceived (message_of view.now) body.now }
+    requires keys { All (λ user. IsTrue (is_valid_for user.kind user.psk)) users.now }
     ensures turn { (own : ServerSide) (nonce : List ℕ) → view_of stage.old ≡ asked own nonce
-        → outcome_with result packet.new tags.new (view_of stage.new) ≡ asked_hears users.now own nonce next_id (message_of view.now) }
-    ensures room { requests result ≡ true → HasRoom packet.new }
+        → outcome_with result packet.new tags.new (view_of stage.new) ≡ asked_receives users.now own nonce next_id (message_of view.now) }
+    ensures room { requests result ≡ true → HasCapacity packet.new }
 {
     let Stage::Alone { own, phase } = stage else {
         return ServerAnswer::Discard(Cause::WrongOp);
@@ -129,13 +129,13 @@ pub fn asked_reads<R: Records>(
     tags: &mut Tags<R>,
 ) -> ServerAnswer
     requires size { length body.now ≤ max_type_data }
-    requires keys { All (λ user. IsTrue (fits_kind user.kind user.psk)) users.now }
+    requires keys { All (λ user. IsTrue (is_valid_for user.kind user.psk)) users.now }
     ensures turn { (own : ServerSide) (nonce : List ℕ) → view_of stage.old ≡ asked own nonce
         → outcome_with result packet.new tags.new (view_of stage.new) ≡ asked_reads users.now own nonce next_id (read_of None body.now) }
-    ensures room { requests result ≡ true → HasRoom packet.new }
+    ensures room { requests result ≡ true → HasCapacity packet.new }
 {
-    match hear(body, None) {
+    match receive(body, None) {
         Err(cause) => ServerAnswer::Discard(cause),
-        Ok(view) => asked_hears(stage, next_id, &view, body, users, packet, tags),
+        Ok(view) => asked_receives(stage, next_id, &view, body, users, packet, tags),
     }
 }

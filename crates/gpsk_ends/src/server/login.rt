@@ -7,8 +7,8 @@ ghost use Rattle.octet_lists.specs.Sizes.{max_name};
 ghost use Rattle.eap_packet.specs.declared.packet.Code.TheVariants as code;
 ghost use Rattle.gpsk_messages.specs.Message.{message_of, mac_of, size_of, without_mac};
 ghost use Rattle.eap_method.specs.GpskTags.{gpsk_request, sk_record};
-ghost use Rattle.eap_method.specs.Room.{HasRoom};
-ghost use Rattle.gpsk_ends.specs.Heard.{IsHeard};
+ghost use Rattle.eap_method.specs.Capacity.{HasCapacity};
+ghost use Rattle.gpsk_ends.specs.Classified.{IsReceived};
 ghost use Rattle.gpsk_ends.specs.Sealed.{packet_of, record_of};
 
 use crate::keys::Keys;
@@ -27,13 +27,13 @@ pub const AUTHORIZATION_FAILURE: u32 = 3;
 
 /// What a server brings into a login, its users apart.
 #[derive(Drop)]
-pub struct Begun {
+pub struct Initial {
     pub side: ServerSide,
     /// RAND_Server.
     pub nonce: Nonce,
 }
 
-impl Begun {
+impl Initial {
     ghost use Rattle.eap_method.specs.GpskTags.{suite_list};
     ghost use Rattle.eap_method.specs.GpskServer.{first, repeats};
 
@@ -53,7 +53,7 @@ impl Begun {
     #[tactic(auto, unfolding(eap_method::specs::GpskServer::first))]
     pub fn gpsk1(&self, id: u8, packet: &mut Packet)
         ensures first { packet.new ≡ first self.now.side self.now.nonce id }
-        ensures room { HasRoom packet.new }
+        ensures room { HasCapacity packet.new }
     {
         let list = self.suite_list();
         let message = GpskMessage::M1(Gpsk1 {
@@ -88,7 +88,7 @@ impl Begun {
 /// by its definition.
 #[derive(Drop)]
 pub struct Login {
-    own: Begun,
+    own: Initial,
     /// ID_Peer.
     id_p: Identity,
     /// The user's key.
@@ -103,11 +103,11 @@ impl Model for Login {
 
     ghost Value = { definition.Login };
 
-    ghost use Rattle.gpsk_ends.specs.ServerLogin.{login_of, IsKept};
+    ghost use Rattle.gpsk_ends.specs.ServerLogin.{login_of, IsConsistent};
 
     ghost view = { login_of };
 
-    ghost invariant = { IsKept };
+    ghost invariant = { IsConsistent };
 }
 
 impl Login {
@@ -116,7 +116,7 @@ impl Login {
 
     /// The login of the user that GPSK-2 names. Its keys are derived here alone (RFC 5433 section 4).
     #[tactic(auto, unfolding(eap_method::specs::GpskServer::keys_of))]
-    pub fn new(own: &Begun, gpsk2: &Gpsk2, user: &User) -> Login
+    pub fn new(own: &Initial, gpsk2: &Gpsk2, user: &User) -> Login
         requires name { length gpsk2.now.id_p.now ≤ max_name }
         requires key { 32 ≤ length user.now.psk }
         ensures { result ≡ record {
@@ -133,7 +133,7 @@ impl Login {
         let id_s = own.side.id_s.as_slice();
         let keys = Keys::new(gpsk2.suite, psk, &gpsk2.rand_p, id_p, &own.nonce, id_s);
         Login {
-            own: Begun {
+            own: Initial {
                 side: own.side.copy(),
                 nonce: own.nonce,
             },
@@ -153,7 +153,7 @@ impl Login {
 
     /// Whether a message, which the Type-Data encodes, has the MAC of the login.
     pub fn is_tagged(&self, view: &GpskMessage, body: &[u8]) -> bool
-        requires { IsHeard (message_of view.now) body.now }
+        requires { IsReceived (message_of view.now) body.now }
         ensures { result ≡ is_tagged_by self.now (message_of view.now) }
     {
         self.keys.is_tagged(view, body)
@@ -161,7 +161,7 @@ impl Login {
 
     /// Leaves the record of the MAC of a message, which the Type-Data encodes, alone in `accepted`.
     pub fn accept<R: Records>(&self, view: &GpskMessage, body: &[u8], accepted: &mut TagList<R>)
-        requires { IsHeard (message_of view.now) body.now }
+        requires { IsReceived (message_of view.now) body.now }
         ensures { accepted.new ≡ sk_record self.now.psk (message_of view.now) ∷ [] }
     {
         record(accepted, view, body, &self.psk);
@@ -179,7 +179,7 @@ impl Login {
         requires mac { length (mac_of (message_of view.now)) ≡ ks_of self.now.suite }
         ensures packet { packet.new ≡ packet_of code.Request id self.now.suite (keys_of self.now).sk (without_mac (message_of view.now)) }
         ensures record { made.new ≡ record_of self.now.suite (keys_of self.now).sk self.now.psk (without_mac (message_of view.now)) ∷ [] }
-        ensures room { HasRoom packet.new }
+        ensures room { HasCapacity packet.new }
     {
         self.keys
             .seal(view, Code::Request, id, &self.psk, packet, made);
@@ -189,7 +189,7 @@ impl Login {
     pub fn gpsk3<R: Records>(&self, id: u8, packet: &mut Packet, made: &mut TagList<R>)
         ensures packet { packet.new ≡ gpsk_request id (gpsk3_of self.now) }
         ensures record { made.new ≡ sk_record self.now.psk (gpsk3_of self.now) ∷ [] }
-        ensures room { HasRoom packet.new }
+        ensures room { HasCapacity packet.new }
     {
         let suite = self.keys.suite();
         let open = GpskMessage::M3(Gpsk3 {
@@ -207,7 +207,7 @@ impl Login {
     pub fn protected_fail<R: Records>(&self, id: u8, packet: &mut Packet, made: &mut TagList<R>)
         ensures packet { packet.new ≡ gpsk_request id (bars_with self.now) }
         ensures record { made.new ≡ sk_record self.now.psk (bars_with self.now) ∷ [] }
-        ensures room { HasRoom packet.new }
+        ensures room { HasCapacity packet.new }
     {
         let open = GpskMessage::ProtectedFail {
             code: AUTHORIZATION_FAILURE,

@@ -1,12 +1,12 @@
 //! The state of a server of EAP-GPSK.
 
-use crate::server::login::{Begun, Login};
+use crate::server::login::{Initial, Login};
 
 /// The state of a server that has no login.
 #[derive(Drop)]
 pub enum Alone {
     /// It has begun, and made no Request.
-    Begun,
+    Initial,
     /// It has sent GPSK-1, and awaits GPSK-2.
     Asked,
     /// It has sent GPSK-Fail to a user that it doesn't know, and awaits it back.
@@ -32,7 +32,7 @@ pub enum Stage {
     /// It has not begun.
     Unset,
     /// It has begun.
-    Alone { own: Begun, phase: Alone },
+    Alone { own: Initial, phase: Alone },
     /// It has accepted GPSK-2.
     Login { login: Login, phase: Phase },
 }

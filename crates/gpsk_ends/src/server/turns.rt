@@ -1,7 +1,7 @@
 //! A server's first Request, and its turn for each Response (RFC 5433 section 10).
 
 ghost use Rattle.std.specs.Prelude.{◌≡◌, ◌≤◌, ℕ, List, ◌∷◌, [], length, true, All, IsTrue, None, Some, option_map};
-ghost use Rattle.login_setup.specs.Setup.{fits_kind};
+ghost use Rattle.login_setup.specs.Setup.{is_valid_for};
 ghost use Rattle.octet_lists.specs.Suite.{ks_of};
 ghost use Rattle.octet_lists.specs.Sizes.{max_packet};
 ghost use Rattle.eap_packet.specs.Packet.{max_type_data};
@@ -9,16 +9,16 @@ ghost use Rattle.gpsk_messages.specs.Message.{message_of};
 ghost use Rattle.gpsk_messages.specs.Reading.{read_of};
 ghost use Rattle.eap_method.specs.declared.values.ServerSide.{ServerSide};
 ghost use Rattle.eap_method.specs.GpskTags.{sk_record};
-ghost use Rattle.eap_method.specs.GpskServer.{View, is_begun, first_step, refusing_reads, over, idle_reads, step};
+ghost use Rattle.eap_method.specs.GpskServer.{View, is_initiated, first_step, refusing_reads, over, idle_reads, step};
 ghost use Rattle.eap_method.specs.GpskServer.{barring_reads, checked_reads};
-ghost use Rattle.eap_method.specs.Room.{HasRoom, requests};
+ghost use Rattle.eap_method.specs.Capacity.{HasCapacity, requests};
 ghost use Rattle.eap_method.specs.Turns.{done, dropped};
-ghost use Rattle.gpsk_ends.specs.Heard.{IsHeard};
+ghost use Rattle.gpsk_ends.specs.Classified.{IsReceived};
 ghost use Rattle.gpsk_ends.specs.ServerStage.{view_alone, view_in, view_of, outcome_with, reads_in};
 ghost use Rattle.gpsk_ends.specs.declared.server.stage.Alone.TheVariants.{Refusing};
 ghost use Rattle.gpsk_ends.specs.declared.server.stage.Phase.TheVariants.{Barring, Checked};
 
-use crate::hearing::hear;
+use crate::receiving::receive;
 use crate::server::gpsk2::{PSK_NOT_FOUND, asked_reads};
 use crate::server::login::{AUTHORIZATION_FAILURE, Login};
 use crate::server::stage::{Alone, Phase, Stage};
@@ -32,11 +32,11 @@ use octet_lists::{Packet, Suite};
 #[tactic(auto, unfolding(eap_method::specs::GpskServer::first_step))]
 pub fn ask(stage: &mut Stage, id: u8, packet: &mut Packet)
     ensures first { first_step (view_of stage.old) id ≡ record { packet = packet.new; after = view_of stage.new } }
-    ensures room { is_begun (view_of stage.old) ≡ true → HasRoom packet.new }
+    ensures room { is_initiated (view_of stage.old) ≡ true → HasCapacity packet.new }
 {
     match stage {
         Stage::Alone { own, phase } => match phase {
-            Alone::Begun => {
+            Alone::Initial => {
                 own.gpsk1(id, packet);
                 *phase = Alone::Asked;
             }
@@ -54,7 +54,7 @@ fn refusing_reads<R: Records>(body: &[u8], phase: &mut Alone, tags: &mut Tags<R>
     ensures { (own : ServerSide) (nonce packet : List ℕ) →
         outcome_with result packet tags.new (view_alone own nonce phase.new) ≡ refusing_reads own nonce (read_of None body.now) }
 {
-    match hear(body, None) {
+    match receive(body, None) {
         Err(cause) => ServerAnswer::Discard(cause),
         Ok(GpskMessage::Fail { code }) => {
             if code == PSK_NOT_FOUND {
@@ -78,7 +78,7 @@ fn end<R: Records>(
     body: &[u8],
     tags: &mut Tags<R>,
 ) -> ServerAnswer
-    requires { IsHeard (message_of view.now) body.now }
+    requires { IsReceived (message_of view.now) body.now }
     ensures { (packet : List ℕ) →
         outcome_with result packet tags.new (view_in login.now phase.new)
         ≡ done (over login.now success) success (sk_record login.now.psk (message_of view.now) ∷ []) }
@@ -103,7 +103,7 @@ fn barring_reads<R: Records>(
     ensures { (packet : List ℕ) →
         outcome_with result packet tags.new (view_in login.now phase.new) ≡ barring_reads login.now (read_of (Some (ks_of login.now.suite)) body.now) }
 {
-    match hear(body, Some(login.suite())) {
+    match receive(body, Some(login.suite())) {
         Err(cause) => ServerAnswer::Discard(cause),
         Ok(view) => match view {
             GpskMessage::ProtectedFail { code, .. } => {
@@ -134,7 +134,7 @@ fn checked_reads<R: Records>(
     ensures { (packet : List ℕ) →
         outcome_with result packet tags.new (view_in login.now phase.new) ≡ checked_reads login.now (read_of (Some (ks_of login.now.suite)) body.now) }
 {
-    match hear(body, Some(login.suite())) {
+    match receive(body, Some(login.suite())) {
         Err(cause) => ServerAnswer::Discard(cause),
         Ok(view) => match view {
             GpskMessage::M4(_) => {
@@ -154,7 +154,7 @@ fn idle_cause(suite: Option<Suite>, body: &[u8]) -> Cause
     requires { length body.now ≤ max_type_data }
     ensures { (view : View) → dropped view result ≡ idle_reads view (read_of (option_map ks_of suite) body.now) }
 {
-    match hear(body, suite) {
+    match receive(body, suite) {
         Err(cause) => cause,
         Ok(_) => Cause::WrongOp,
     }
@@ -181,7 +181,7 @@ fn login_reads<R: Records>(
 
 /// The turn for the octets of a Response of Type 51. After a discard `packet` and `tags` are unspecified.
 #[tactic(auto, unfolding(eap_method::specs::GpskServer::step))]
-pub fn hears_response<R: Records>(
+pub fn handle_response<R: Records>(
     stage: &mut Stage,
     response: &[u8],
     next_id: u8,
@@ -191,9 +191,9 @@ pub fn hears_response<R: Records>(
 ) -> ServerAnswer
     requires header { 5 ≤ length response.now }
     requires size { length response.now ≤ max_packet }
-    requires keys { All (λ user. IsTrue (fits_kind user.kind user.psk)) users.now }
+    requires keys { All (λ user. IsTrue (is_valid_for user.kind user.psk)) users.now }
     ensures turn { outcome_with result packet.new tags.new (view_of stage.new) ≡ step users.now next_id (view_of stage.old) response.now }
-    ensures room { requests result ≡ true → HasRoom packet.new }
+    ensures room { requests result ≡ true → HasCapacity packet.new }
 {
     let body = &response[5..];
     match stage {
@@ -201,7 +201,7 @@ pub fn hears_response<R: Records>(
         Stage::Alone { phase, .. } => match phase {
             Alone::Asked => asked_reads(stage, next_id, body, users, packet, tags),
             Alone::Refusing => refusing_reads(body, phase, tags),
-            Alone::Begun | Alone::Refused => ServerAnswer::Discard(idle_cause(None, body)),
+            Alone::Initial | Alone::Refused => ServerAnswer::Discard(idle_cause(None, body)),
         },
         Stage::Login { login, phase } => login_reads(login, phase, body, tags),
     }

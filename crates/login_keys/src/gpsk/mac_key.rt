@@ -3,15 +3,15 @@
 ghost use Rattle.std.specs.Prelude.{◌≡◌, ℕ, List, ◌++◌, length, map};
 ghost use Rattle.std.specs.List.{concat};
 ghost use Rattle.hmac_mac.specs.Hmac.{hmac_sha256};
-ghost use Rattle.hmac_mac.specs.Holds.{IsKeyOf};
+ghost use Rattle.hmac_mac.specs.Represents.{IsKeyOf};
 ghost use Rattle.octet_lists.specs.Suite.{ks_of};
 ghost use Rattle.octet_lists.specs.declared.suite.Suite.{Suite};
 ghost use Rattle.login_keys.specs.Gpsk.{gpsk_tag_of};
 ghost use Rattle.login_keys.specs.GpskMacKey.{IsMacKey};
 
 use cmac_mac::CmacKey;
-use octet_lists::{Octets, Suite, array_of};
 use hmac_mac::HmacKey;
+use octet_lists::{Octets, Suite, array_of};
 
 /// A key of the MAC of suite 1 or of suite 2 (RFC 5433, sections 8.1.2 and 8.2.2), made once for many
 /// texts.

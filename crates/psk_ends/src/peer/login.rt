@@ -16,7 +16,7 @@ use std::marker::Model;
 
 /// What a peer brings into a login.
 #[derive(Drop)]
-pub struct Begun {
+pub struct Initial {
     pub cred: Credential,
     /// Its first 16 octets are RAND_P.
     pub nonce: Nonce,
@@ -26,7 +26,7 @@ pub struct Begun {
 /// A login after PSK-1, with its keys, which are derived once. Contracts see what they come from.
 #[derive(Drop)]
 pub struct Login {
-    own: Begun,
+    own: Initial,
     /// ID_S.
     id_s: Identity,
     /// RAND_S.
@@ -60,14 +60,14 @@ impl Login {
     ghost use Rattle.psk_ends.specs.PeerStage.{login_with};
 
     /// The login of a peer that has accepted PSK-1.
-    pub fn new(own: &Begun, psk1: &Psk1) -> Login
+    pub fn new(own: &Initial, psk1: &Psk1) -> Login
         requires { length psk1.now.id_s.now ≤ max_name }
         ensures { result ≡ login_with own.now psk1.now }
     {
         let PskLong { ak, kdk } = long_keys(&own.cred.psk);
         let keys = psk_session(&kdk, &rand_of(&own.nonce));
         Login {
-            own: Begun {
+            own: Initial {
                 cred: own.cred.copy(),
                 nonce: own.nonce,
             },

@@ -4,10 +4,10 @@ ghost use Rattle.std.specs.Prelude.{◌≡◌, ◌≤◌, ◌<◌, [], length, n
 ghost use Rattle.eap_packet.specs.declared.cause.Cause.TheVariants.{BadTag};
 ghost use Rattle.psk_messages.specs.Message.{psk4, message_of};
 ghost use Rattle.psk_messages.specs.declared.view.PskMessage.TheVariants.{P3};
-ghost use Rattle.eap_method.specs.Room.{HasRoom, replies};
+ghost use Rattle.eap_method.specs.Capacity.{HasCapacity, replies};
 ghost use Rattle.eap_method.specs.Turns.{fault_if};
 ghost use Rattle.eap_method.specs.PskTags.{psk_response, blank_tag, hidden_octet, result_fault, result_of};
-ghost use Rattle.eap_method.specs.PskPeer.{keys_of, psk4_of, psk4_record, psk3_records, psk3_fault, are_right, confirms, wait_hears};
+ghost use Rattle.eap_method.specs.PskPeer.{keys_of, psk4_of, psk4_record, psk3_records, psk3_fault, are_right, confirms, wait_receives};
 ghost use Rattle.psk_ends.specs.Checks.{value_unless};
 ghost use Rattle.psk_ends.specs.PeerStage.{in_phase, outcome_with};
 ghost use Rattle.psk_ends.specs.declared.peer.stage.Phase.TheVariants.{Wait};
@@ -24,7 +24,7 @@ use psk_messages::{Channel, Psk3, Psk4, PskMessage, write_psk_into};
 /// Writes PSK-4 with PCHANNEL still blank.
 fn write_psk4(login: &Login, id: u8, packet: &mut Packet)
     ensures packet { packet.new ≡ psk_response id (psk4 login.now.rand_s 1 blank_tag 0) }
-    ensures room { HasRoom packet.new }
+    ensures room { HasCapacity packet.new }
 {
     let message = PskMessage::P4(Psk4 {
         rand_s: *login.rand_s(),
@@ -44,7 +44,7 @@ fn psk4<R: Records>(login: &Login, id: u8, r: u8, packet: &mut Packet, made: &mu
     requires none { made.old ≡ [] }
     ensures packet { packet.new ≡ psk_response id (psk4_of login.now id r) }
     ensures made { made.new ≡ psk4_record login.now id r }
-    ensures room { HasRoom packet.new }
+    ensures room { HasCapacity packet.new }
 {
     write_psk4(login, id, packet);
     seal_in(packet, login.tek(), login.psk(), 1, r, made);
@@ -62,7 +62,7 @@ fn confirm<R: Records>(
 ) -> PeerAnswer
     requires { tags.old.made ≡ [] }
     ensures turn { outcome_with result packet.new tags.new (in_phase phase.new login.now) ≡ confirms login.now id (result_of octet) tags.old.accepted None }
-    ensures room { HasRoom packet.new }
+    ensures room { HasCapacity packet.new }
 {
     if octet / 64 == DONE_SUCCESS {
         psk4(login, id, DONE_SUCCESS, packet, &mut tags.made);
@@ -130,7 +130,7 @@ fn add_psk3<R: Records>(login: &Login, header: &[u8], psk3: &Psk3, accepted: &mu
 
 /// PSK-3, with this Identifier and this header: it is answered, if it has no fault.
 #[tactic(auto, using(crate::proofs::PeerChecks::is_confirmed))]
-pub fn hears_psk3<R: Records>(
+pub fn handle_psk3<R: Records>(
     login: &Login,
     phase: &mut Phase,
     id: u8,
@@ -142,8 +142,8 @@ pub fn hears_psk3<R: Records>(
     requires header { length header.now ≤ 22 }
     requires waits { phase.old ≡ Wait }
     ensures turn { outcome_with result packet.new tags.new (in_phase phase.new login.now)
-        ≡ wait_hears login.now id header.now (message_of (P3 psk3.now)) }
-    ensures room { replies result ≡ true → HasRoom packet.new }
+        ≡ wait_receives login.now id header.now (message_of (P3 psk3.now)) }
+    ensures room { replies result ≡ true → HasCapacity packet.new }
 {
     match check_psk3(login, header, psk3) {
         Err(cause) => PeerAnswer::Discard(cause),

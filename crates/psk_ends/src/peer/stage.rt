@@ -1,6 +1,6 @@
 //! The state of a peer of EAP-PSK.
 
-use crate::peer::login::{Begun, Login};
+use crate::peer::login::{Initial, Login};
 
 /// How far a peer with a login is.
 #[derive(Drop)]
@@ -17,7 +17,7 @@ pub enum Stage {
     /// It hasn't begun.
     Unset,
     /// It has begun, and awaits PSK-1.
-    Fresh { own: Begun },
+    Fresh { own: Initial },
     /// It has accepted PSK-1.
     Known { login: Login, phase: Phase },
 }

@@ -4,7 +4,7 @@ ghost use Rattle.std.specs.Prelude.{◌≡◌, ◌≤◌, length, true, IfOk};
 ghost use Rattle.octet_lists.specs.Sizes.{max_name};
 ghost use Rattle.psk_messages.specs.Message.{psk2};
 ghost use Rattle.psk_messages.specs.Reading.{read_of};
-ghost use Rattle.eap_method.specs.Room.{HasRoom, replies};
+ghost use Rattle.eap_method.specs.Capacity.{HasCapacity, replies};
 ghost use Rattle.eap_method.specs.declared.turn.PeerAnswer.TheVariants.{Reply};
 ghost use Rattle.eap_method.specs.declared.values.MethodState.TheVariants.{Cont};
 ghost use Rattle.eap_method.specs.declared.values.Decision.TheVariants.{Fail};
@@ -15,8 +15,8 @@ ghost use Rattle.psk_ends.specs.PeerStage.{in_phase, view_of, outcome_with, fres
 ghost use Rattle.psk_ends.specs.declared.peer.stage.Phase.TheVariants.{Wait};
 
 use crate::octets::{header_of, idle_cause, message_in};
-use crate::peer::login::{Begun, Login};
-use crate::peer::psk4::hears_psk3;
+use crate::peer::login::{Initial, Login};
+use crate::peer::psk4::handle_psk3;
 use crate::peer::stage::{Phase, Stage};
 use eap_method::{Decision, MethodState, PeerAnswer, Records, Tags};
 use eap_packet::{Cause, Code};
@@ -25,7 +25,7 @@ use psk_messages::{Psk1, Psk2, PskMessage, write_psk_into};
 
 /// A Request at a peer that has begun: PSK-1 of a server that it accepts. `UnknownServer`: it doesn't
 /// accept the server's name.
-fn fresh_reads<'a>(own: &Begun, request: &'a [u8]) -> Result<Psk1<'a>, Cause>
+fn fresh_reads<'a>(own: &Initial, request: &'a [u8]) -> Result<Psk1<'a>, Cause>
     requires { 5 ≤ length request.now }
     ensures reads { fresh_with own.now (id_of request.now) result
         ≡ fresh_reads own.now.cred own.now.nonce (id_of request.now) (read_of (body_of request.now)) }
@@ -47,7 +47,7 @@ fn fresh_reads<'a>(own: &Begun, request: &'a [u8]) -> Result<Psk1<'a>, Cause>
 /// Writes PSK-2 with this MAC_P (RFC 4764 section 5.2).
 fn write_psk2(login: &Login, id: u8, mac: &[u8; 16], packet: &mut Packet)
     ensures packet { packet.new ≡ psk_response id (psk2 login.now.rand_s (rand_p_of login.now) mac.now login.now.cred.id_p) }
-    ensures room { HasRoom packet.new }
+    ensures room { HasCapacity packet.new }
 {
     let message = PskMessage::P2(Psk2 {
         rand_s: *login.rand_s(),
@@ -62,7 +62,7 @@ fn write_psk2(login: &Login, id: u8, mac: &[u8; 16], packet: &mut Packet)
 #[tactic(auto, unfolding(eap_method::specs::PskPeer::answers))]
 fn answer<R: Records>(login: &Login, id: u8, packet: &mut Packet, tags: &mut Tags<R>) -> PeerAnswer
     ensures turn { outcome_with result packet.new tags.new (wait login.now) ≡ answers login.now id }
-    ensures room { HasRoom packet.new }
+    ensures room { HasCapacity packet.new }
 {
     let mac = login.mac_p();
     write_psk2(login, id, &mac, packet);
@@ -86,13 +86,13 @@ fn wait_reads<R: Records>(
     requires waits { phase.old ≡ Wait }
     ensures turn { outcome_with result packet.new tags.new (in_phase phase.new login.now)
         ≡ wait_reads login.now (id_of request.now) (header_of request.now) (read_of (body_of request.now)) }
-    ensures room { replies result ≡ true → HasRoom packet.new }
+    ensures room { replies result ≡ true → HasCapacity packet.new }
 {
     match message_in(request) {
         Err(cause) => PeerAnswer::Discard(cause),
         Ok(PskMessage::P3(psk3)) => {
             let header = header_of(request);
-            hears_psk3(login, phase, request[1], header, &psk3, packet, tags)
+            handle_psk3(login, phase, request[1], header, &psk3, packet, tags)
         }
         Ok(_) => PeerAnswer::Discard(Cause::WrongOp),
     }
@@ -100,7 +100,7 @@ fn wait_reads<R: Records>(
 
 /// The turn for the octets of a Request of Type 47. After a discard `packet` and `tags` are unspecified.
 #[tactic(auto, unfolding(eap_method::specs::PskPeer::step))]
-pub fn hears_request<R: Records>(
+pub fn handle_request<R: Records>(
     stage: &mut Stage,
     request: &[u8],
     packet: &mut Packet,
@@ -108,7 +108,7 @@ pub fn hears_request<R: Records>(
 ) -> PeerAnswer
     requires { 5 ≤ length request.now }
     ensures turn { outcome_with result packet.new tags.new (view_of stage.new) ≡ step (view_of stage.old) request.now }
-    ensures room { replies result ≡ true → HasRoom packet.new }
+    ensures room { replies result ≡ true → HasCapacity packet.new }
 {
     match stage {
         Stage::Unset => PeerAnswer::Discard(Cause::WrongOp),

@@ -21,13 +21,13 @@ use std::marker::Model;
 
 /// What a server brings into a login, its users apart.
 #[derive(Drop)]
-pub struct Begun {
+pub struct Initial {
     pub side: ServerSide,
     /// Its first 16 octets are RAND_S.
     pub nonce: Nonce,
 }
 
-impl Begun {
+impl Initial {
     /// MAC_P of PSK-2 under this AK (RFC 4764 section 5.2).
     pub fn mac_p(&self, ak: &CmacKey, psk2: &Psk2) -> [u8; 16]
         ensures { result ≡ aes_cmac ak.now
@@ -62,7 +62,7 @@ pub struct UserPsk2<'a> {
 /// A login after PSK-2, with its keys, which are derived once. Contracts see what they come from.
 #[derive(Drop)]
 pub struct Login {
-    own: Begun,
+    own: Initial,
     /// ID_P.
     id_p: Identity,
     /// The user's key.
@@ -99,12 +99,12 @@ impl Login {
     ghost use Rattle.psk_ends.specs.ServerStage.{login_with};
 
     /// The login of a server that has accepted PSK-2.
-    pub fn new(own: &Begun, found: UserPsk2) -> Login
+    pub fn new(own: &Initial, found: UserPsk2) -> Login
         ensures { result ≡ login_with own.now found.entry }
     {
         let keys = psk_session(&found.kdk, &found.psk2.rand_p);
         Login {
-            own: Begun {
+            own: Initial {
                 side: own.side.copy(),
                 nonce: own.nonce,
             },

@@ -3,12 +3,12 @@
 ghost use Rattle.std.specs.Prelude.{◌≡◌, ℕ, ◌≤◌, [], length, All, IsTrue, Some};
 ghost use Rattle.octet_lists.specs.Among.{psk_kind};
 ghost use Rattle.octet_lists.specs.Sizes.{max_name};
-ghost use Rattle.login_setup.specs.Setup.{fits_kind};
+ghost use Rattle.login_setup.specs.Setup.{is_valid_for};
 ghost use Rattle.login_setup.specs.Users.{user_of};
 ghost use Rattle.psk_messages.specs.Message.{psk3};
 ghost use Rattle.psk_messages.specs.Reading.{read_of};
 ghost use Rattle.eap_method.specs.declared.turn.ServerAnswer.TheVariants.{Request};
-ghost use Rattle.eap_method.specs.Room.{HasRoom};
+ghost use Rattle.eap_method.specs.Capacity.{HasCapacity};
 ghost use Rattle.eap_method.specs.Turns.{body_of};
 ghost use Rattle.eap_method.specs.PskTags.{psk_request, blank_tag};
 ghost use Rattle.eap_method.specs.PskServer.{checked, rand_s_of, psk3_of, psk3_records, answers, finds, asked_reads};
@@ -17,7 +17,7 @@ ghost use Rattle.psk_ends.specs.ServerStage.{outcome_with, asked_with};
 use crate::channel::seal_in;
 use crate::keys::long_keys;
 use crate::octets::{message_in, rand_of};
-use crate::server::login::{Begun, Login, UserPsk2};
+use crate::server::login::{Initial, Login, UserPsk2};
 use cmac_mac::CmacKey;
 use eap_method::{Records, TagList, Tags};
 use eap_packet::{Cause, Code};
@@ -29,7 +29,7 @@ use psk_messages::{Channel, Psk2, Psk3, PskMessage, write_psk_into};
 /// Writes PSK-3 with this MAC_S, PCHANNEL still blank.
 fn write_psk3(login: &Login, id: u8, mac: &[u8; 16], packet: &mut Packet)
     ensures packet { packet.new ≡ psk_request id (psk3 (rand_s_of login.now) mac.now 0 blank_tag 0) }
-    ensures room { HasRoom packet.new }
+    ensures room { HasCapacity packet.new }
 {
     let message = PskMessage::P3(Psk3 {
         rand_s: login.rand_s(),
@@ -49,7 +49,7 @@ fn psk3<R: Records>(login: &Login, id: u8, packet: &mut Packet, made: &mut TagLi
     requires { made.old ≡ [] }
     ensures packet { packet.new ≡ psk_request id (psk3_of login.now id) }
     ensures made { made.new ≡ psk3_records login.now id }
-    ensures room { HasRoom packet.new }
+    ensures room { HasCapacity packet.new }
 {
     let mac = login.mac_s();
     write_psk3(login, id, &mac, packet);
@@ -67,7 +67,7 @@ pub fn answer<R: Records>(
     tags: &mut Tags<R>,
 )
     ensures turn { outcome_with Request packet.new tags.new (checked login.now) ≡ answers login.now next_id mac.now }
-    ensures room { HasRoom packet.new }
+    ensures room { HasCapacity packet.new }
 {
     tags.clear();
     login.add_mac_p(&mut tags.accepted, mac);
@@ -76,7 +76,7 @@ pub fn answer<R: Records>(
 
 /// A PSK-2 of this user. `BadTag`: MAC_P is wrong.
 #[tactic(auto, unfolding(eap_method::specs::PskServer::mac_p_of, eap_method::specs::PskServer::mac_p_covers, eap_method::specs::PskServer::ak_of))]
-fn check<'a>(own: &Begun, psk2: &Psk2<'a>, user: &'a User) -> Result<Option<UserPsk2<'a>>, Cause>
+fn check<'a>(own: &Initial, psk2: &Psk2<'a>, user: &'a User) -> Result<Option<UserPsk2<'a>>, Cause>
     requires key { length user.now.psk ≡ 16 }
     requires name { length psk2.now.id_p.now ≤ max_name }
     ensures { (next_id : ℕ) → asked_with own.now next_id result
@@ -97,9 +97,9 @@ fn check<'a>(own: &Begun, psk2: &Psk2<'a>, user: &'a User) -> Result<Option<User
 }
 
 /// A PSK-2 with the server's RAND_S; None if there is no user of its name.
-fn find<'a>(own: &Begun, psk2: &Psk2<'a>, users: &'a Users) -> Result<Option<UserPsk2<'a>>, Cause>
+fn find<'a>(own: &Initial, psk2: &Psk2<'a>, users: &'a Users) -> Result<Option<UserPsk2<'a>>, Cause>
     requires name { length psk2.now.id_p.now ≤ max_name }
-    requires keys { All (λ user. IsTrue (fits_kind user.kind user.psk)) users.now }
+    requires keys { All (λ user. IsTrue (is_valid_for user.kind user.psk)) users.now }
     ensures { (next_id : ℕ) → asked_with own.now next_id result
         ≡ finds own.now.side own.now.nonce next_id
         psk2.now.rand_p psk2.now.mac psk2.now.id_p.now (user_of users.now psk2.now.id_p.now psk_kind) }
@@ -113,12 +113,12 @@ fn find<'a>(own: &Begun, psk2: &Psk2<'a>, users: &'a Users) -> Result<Option<Use
 /// A Response at a server that has sent PSK-1: PSK-2 with its MAC_P; None if its user isn't known.
 /// `FieldMismatch`: its RAND_S is not the server's.
 pub fn asked_reads<'a>(
-    own: &Begun,
+    own: &Initial,
     response: &'a [u8],
     users: &'a Users,
 ) -> Result<Option<UserPsk2<'a>>, Cause>
     requires size { 5 ≤ length response.now }
-    requires keys { All (λ user. IsTrue (fits_kind user.kind user.psk)) users.now }
+    requires keys { All (λ user. IsTrue (is_valid_for user.kind user.psk)) users.now }
     ensures { (next_id : ℕ) → asked_with own.now next_id result
         ≡ asked_reads users.now own.now.side own.now.nonce next_id (read_of (body_of response.now)) }
 {

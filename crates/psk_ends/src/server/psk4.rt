@@ -6,7 +6,7 @@ ghost use Rattle.psk_messages.specs.Message.{message_of};
 ghost use Rattle.psk_messages.specs.declared.view.PskMessage.TheVariants.{P4};
 ghost use Rattle.eap_method.specs.Turns.{fault_if};
 ghost use Rattle.eap_method.specs.PskTags.{hidden_octet, is_sealed, result_fault, result_of, tek_record};
-ghost use Rattle.eap_method.specs.PskServer.{keys_of, psk4_fault, both_succeed, checked_hears};
+ghost use Rattle.eap_method.specs.PskServer.{keys_of, psk4_fault, both_succeed, checked_receives};
 ghost use Rattle.psk_ends.specs.Checks.{value_unless};
 ghost use Rattle.psk_ends.specs.ServerStage.{in_known, outcome_with};
 ghost use Rattle.psk_ends.specs.declared.server.stage.KnownPhase.TheVariants.{Checked};
@@ -71,7 +71,7 @@ fn add_psk4<R: Records>(login: &Login, header: &[u8], psk4: &Psk4, accepted: &mu
 
 /// PSK-4, with this header: it ends the login, if it has no fault.
 #[tactic(auto, using(crate::proofs::ServerChecks::is_end))]
-pub fn hears_psk4<R: Records>(
+pub fn handle_psk4<R: Records>(
     login: &Login,
     phase: &mut KnownPhase,
     header: &[u8],
@@ -81,7 +81,7 @@ pub fn hears_psk4<R: Records>(
     requires header { length header.now ≤ 22 }
     requires awaits { phase.old ≡ Checked }
     ensures { (packet : List ℕ) → outcome_with result packet tags.new (in_known phase.new login.now)
-        ≡ checked_hears login.now header.now (message_of (P4 psk4.now)) }
+        ≡ checked_receives login.now header.now (message_of (P4 psk4.now)) }
 {
     match check_psk4(login, header, psk4) {
         Err(cause) => ServerAnswer::Discard(cause),

@@ -1,12 +1,12 @@
 //! The state of a server of EAP-PSK.
 
-use crate::server::login::{Begun, Login};
+use crate::server::login::{Initial, Login};
 
 /// How far a server without a login is.
 #[derive(Drop)]
 pub enum EarlyPhase {
     /// It has made no Request.
-    Begun,
+    Initial,
     /// It has sent PSK-1, and awaits PSK-2.
     Asked,
     /// It doesn't know the user, and accepts nothing more.
@@ -28,7 +28,7 @@ pub enum Stage {
     /// It hasn't begun.
     Unset,
     /// It has begun, and has accepted no PSK-2.
-    Early { own: Begun, phase: EarlyPhase },
+    Early { own: Initial, phase: EarlyPhase },
     /// It has accepted PSK-2.
     Known { login: Login, phase: KnownPhase },
 }

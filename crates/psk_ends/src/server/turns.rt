@@ -1,19 +1,19 @@
 //! A server's first Request, and its turn for each Response (RFC 4764 section 4).
 
 ghost use Rattle.std.specs.Prelude.{◌≡◌, ℕ, ◌≤◌, List, length, true, All, IsTrue};
-ghost use Rattle.login_setup.specs.Setup.{fits_kind};
+ghost use Rattle.login_setup.specs.Setup.{is_valid_for};
 ghost use Rattle.psk_messages.specs.Reading.{read_of};
-ghost use Rattle.eap_method.specs.Room.{HasRoom, requests};
+ghost use Rattle.eap_method.specs.Capacity.{HasCapacity, requests};
 ghost use Rattle.eap_method.specs.Turns.{body_of};
 ghost use Rattle.eap_method.specs.PskTags.{header_of};
-ghost use Rattle.eap_method.specs.PskServer.{first, is_begun, first_step, checked_reads, step};
+ghost use Rattle.eap_method.specs.PskServer.{first, is_initiated, first_step, checked_reads, step};
 ghost use Rattle.psk_ends.specs.ServerStage.{in_known, view_of, outcome_with};
 ghost use Rattle.psk_ends.specs.declared.server.stage.KnownPhase.TheVariants.{Checked};
 
 use crate::octets::{header_of, idle_cause, message_in, rand_of};
-use crate::server::login::{Begun, Login};
+use crate::server::login::{Initial, Login};
 use crate::server::psk3::{answer, asked_reads};
-use crate::server::psk4::hears_psk4;
+use crate::server::psk4::handle_psk4;
 use crate::server::stage::{EarlyPhase, KnownPhase, Stage};
 use eap_method::{Records, ServerAnswer, Tags};
 use eap_packet::{Cause, Code};
@@ -23,9 +23,9 @@ use psk_messages::{Psk1, PskMessage, write_psk_into};
 
 /// Writes PSK-1 (RFC 4764 section 5.1).
 #[tactic(auto, unfolding(eap_method::specs::PskServer::first))]
-fn write_psk1(own: &Begun, id: u8, packet: &mut Packet)
+fn write_psk1(own: &Initial, id: u8, packet: &mut Packet)
     ensures first { packet.new ≡ first own.now.side own.now.nonce id }
-    ensures room { HasRoom packet.new }
+    ensures room { HasCapacity packet.new }
 {
     let message = PskMessage::P1(Psk1 {
         rand_s: rand_of(&own.nonce),
@@ -39,11 +39,11 @@ fn write_psk1(own: &Begun, id: u8, packet: &mut Packet)
 #[tactic(auto, unfolding(eap_method::specs::PskServer::first_step))]
 pub fn ask(stage: &mut Stage, id: u8, packet: &mut Packet)
     ensures first { record { packet = packet.new; after = view_of stage.new } ≡ first_step (view_of stage.old) id }
-    ensures room { is_begun (view_of stage.old) ≡ true → HasRoom packet.new }
+    ensures room { is_initiated (view_of stage.old) ≡ true → HasCapacity packet.new }
 {
     match stage {
         Stage::Early { own, phase } => match phase {
-            EarlyPhase::Begun => {
+            EarlyPhase::Initial => {
                 write_psk1(own, id, packet);
                 *phase = EarlyPhase::Asked;
             }
@@ -67,14 +67,14 @@ fn checked_reads<R: Records>(
 {
     match message_in(response) {
         Err(cause) => ServerAnswer::Discard(cause),
-        Ok(PskMessage::P4(psk4)) => hears_psk4(login, phase, header_of(response), &psk4, tags),
+        Ok(PskMessage::P4(psk4)) => handle_psk4(login, phase, header_of(response), &psk4, tags),
         Ok(_) => ServerAnswer::Discard(Cause::WrongOp),
     }
 }
 
 /// The turn for the octets of a Response of Type 47. After a discard `packet` and `tags` are unspecified.
 #[tactic(auto, unfolding(eap_method::specs::PskServer::step))]
-pub fn hears_response<R: Records>(
+pub fn handle_response<R: Records>(
     stage: &mut Stage,
     response: &[u8],
     next_id: u8,
@@ -83,9 +83,9 @@ pub fn hears_response<R: Records>(
     tags: &mut Tags<R>,
 ) -> ServerAnswer
     requires size { 5 ≤ length response.now }
-    requires keys { All (λ user. IsTrue (fits_kind user.kind user.psk)) users.now }
+    requires keys { All (λ user. IsTrue (is_valid_for user.kind user.psk)) users.now }
     ensures turn { outcome_with result packet.new tags.new (view_of stage.new) ≡ step users.now next_id (view_of stage.old) response.now }
-    ensures room { requests result ≡ true → HasRoom packet.new }
+    ensures room { requests result ≡ true → HasCapacity packet.new }
 {
     match stage {
         Stage::Unset => ServerAnswer::Discard(Cause::WrongOp),
@@ -106,7 +106,7 @@ pub fn hears_response<R: Records>(
                     ServerAnswer::Request
                 }
             },
-            EarlyPhase::Begun => ServerAnswer::Discard(idle_cause(response)),
+            EarlyPhase::Initial => ServerAnswer::Discard(idle_cause(response)),
             EarlyPhase::Refused => ServerAnswer::Discard(idle_cause(response)),
         },
         Stage::Known { login, phase } => match phase {

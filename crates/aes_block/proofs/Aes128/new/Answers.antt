@@ -16,5 +16,5 @@ invariant_of-result c =
     record {
       first_is = round_key_zero c.args.key.now c.loop-round.auto.first.0;
       full_are = λ r h d. c.loop-round.invariant.made r (omega arith) d;
-      last_is = c.kept_last.ensures ∙ c.next_round_key.ensures c.args.key.now (c.loop-round.invariant.current ∙ ap (round_key c.args.key.now) ninth);
+      last_is = c.turned_last.ensures ∙ c.next_round_key.ensures c.args.key.now (c.loop-round.invariant.current ∙ ap (round_key c.args.key.now) ninth);
     }

@@ -1,11 +1,11 @@
 use Rattle.std.proofs.Common.{◌≡◌, ◌≤◌, [], arith, refl, drop, length}
 use Rattle.std.proofs.Math.ListN.{drop_of_length-le}
-use Rattle.answer_text.proofs.Putting.{putting_begins, putting_next, putting_cut, putting_over}
+use Rattle.answer_text.proofs.Putting.{putting_starts, putting_next, putting_cut, putting_over}
 use Rattle.answer_text.proofs.PacketCuts.{numbers_text_drop}
 use Rattle.answer_text.proofs.packet.put_numbers.Goals as goal
 
 pub loop-octet-init : goal.loop-octet-init
-loop-octet-init g c = putting_begins _ _ _ _
+loop-octet-init g c = putting_starts _ _ _ _
 
 pub loop-octet-preserved : goal.loop-octet-preserved
 loop-octet-preserved g c =

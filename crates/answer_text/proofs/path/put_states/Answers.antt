@@ -1,11 +1,11 @@
 use Rattle.std.proofs.Common.{◌≡◌, ◌≤◌, [], arith, refl, drop, length}
 use Rattle.std.proofs.Math.ListN.{drop_of_length-le}
-use Rattle.answer_text.proofs.Putting.{putting_begins, putting_next, putting_cut, putting_ends}
+use Rattle.answer_text.proofs.Putting.{putting_starts, putting_next, putting_cut, putting_ends}
 use Rattle.answer_text.proofs.States.{states_text_drop}
 use Rattle.answer_text.proofs.path.put_states.Goals as goal
 
 pub loop-state-init : goal.loop-state-init
-loop-state-init g c = putting_begins _ _ _ _
+loop-state-init g c = putting_starts _ _ _ _
 
 pub loop-state-preserved : goal.loop-state-preserved
 loop-state-preserved g c =

@@ -1,9 +1,9 @@
 use Rattle.std.proofs.Common.{◌≡◌, length, arith, refl}
-use Rattle.answer_text.proofs.Putting.{putting_begins, putting_next, putting_cut, putting_over, encoded-range, encoded-none}
+use Rattle.answer_text.proofs.Putting.{putting_starts, putting_next, putting_cut, putting_over, encoded-range, encoded-none}
 use Rattle.answer_text.proofs.pieces.put_digits.Goals as goal
 
 pub loop-rest-init : goal.loop-rest-init
-loop-rest-init g c = putting_begins _ _ _ _
+loop-rest-init g c = putting_starts _ _ _ _
 
 pub loop-rest-preserved : goal.loop-rest-preserved
 loop-rest-preserved g c =

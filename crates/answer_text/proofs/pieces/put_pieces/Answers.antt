@@ -1,10 +1,10 @@
 use Rattle.std.proofs.Common.{◌≡◌, ◌≤◌, [], arith, refl, drop, length}
 use Rattle.std.proofs.Math.ListN.{drop_of_length-le}
-use Rattle.answer_text.proofs.Putting.{putting_begins, putting_next, putting_cut, putting_over, joined-drop}
+use Rattle.answer_text.proofs.Putting.{putting_starts, putting_next, putting_cut, putting_over, joined-drop}
 use Rattle.answer_text.proofs.pieces.put_pieces.Goals as goal
 
 pub loop-piece-init : goal.loop-piece-init
-loop-piece-init g c = putting_begins _ _ _ _
+loop-piece-init g c = putting_starts _ _ _ _
 
 pub loop-piece-preserved : goal.loop-piece-preserved
 loop-piece-preserved g c =

@@ -1,8 +1,8 @@
-use Rattle.answer_text.proofs.Fronts.{appending_begins, appending_range, appending_ends, appends_nothing}
+use Rattle.answer_text.proofs.Fronts.{appending_starts, appending_range, appending_ends, appends_nothing}
 use Rattle.answer_text.proofs.pieces.write_whole.Goals as goal
 
 pub loop-rest-init : goal.loop-rest-init
-loop-rest-init g c = appending_begins _ _ _
+loop-rest-init g c = appending_starts _ _ _
 
 pub loop-rest-preserved : goal.loop-rest-preserved
 loop-rest-preserved g c = appending_range _ _ _ _ _ _ _ c.loop-rest.invariant c.in_ok-count.ensures.appended c.in_ok-count.ensures.uncounted

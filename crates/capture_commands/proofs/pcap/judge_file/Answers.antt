@@ -3,7 +3,7 @@ use Rattle.std.proofs.Common.{◌+◌, refl, sym, ap, ◌∙◌, arith}
 use Rattle.answer_text.specs.Writes.{Appends}
 use Rattle.command_driver.proofs.Endings.{ends_same, front_same}
 use Rattle.command_driver.proofs.Responding.{finished, cut, unreadable}
-use Rattle.capture_commands.proofs.PcapDriving.{divides_last, faults_last, begun_last, found_step, underway_begins, underway_goes, underway_cut, underway_rests, underway_ends}
+use Rattle.capture_commands.proofs.PcapDriving.{divides_last, faults_last, started_last, found_step, underway_starts, underway_proceeds, underway_cut, underway_rests, underway_ends}
 use Rattle.capture_commands.proofs.PcapFound.{pcap_answers}
 use Rattle.capture_commands.proofs.pcap.judge_file.Goals as goal
 
@@ -13,7 +13,7 @@ loop-found-init g c = rw (c.new-reader.ensures, c.new-found.ensures) (record {
   bounded = omega arith;
   few_records = omega arith;
   holds = record { packets = omega arith; findings = omega arith };
-  underway = λ octets e. underway_begins _ _ _ _ (rw e refl);
+  underway = λ octets e. underway_starts _ _ _ _ (rw e refl);
   read_faults = refl;
   write_faults = refl;
 })
@@ -30,7 +30,7 @@ loop-found-preserved g c =
       bounded = is.bounded;
       few_records = omega (arith, is.number, is.takes);
       holds = rw after (found_step c.args.users.now c.loop-found.found c.loop-found.reader.number c.next_record.new.self.number _ is.number same.holds);
-      underway = λ octets e. underway_goes c.args.users.now _ _ _ _ _ _ _ _ _ _ _ (same.underway octets e) is.contents is.number text after;
+      underway = λ octets e. underway_proceeds c.args.users.now _ _ _ _ _ _ _ _ _ _ _ (same.underway octets e) is.contents is.number text after;
       read_faults = is.read ∙ same.read_faults;
       write_faults = c.in-Ok.ensures.appends.uncounted ∙ same.write_faults;
     }
@@ -61,5 +61,5 @@ returns-in_default g c =
     finished finishes
     (λ octets e. ends_same _ _ _ _ _ (sym (pcap_answers c.args.users.now octets))
     (underway_ends c.args.users.now _ _ _ _ _ _ _ _ _ _ _ _ (same.underway octets e)
-    (divides_last _ _ _ _ _ c.in_default.not-Record c.in_default.not-Read is.contents) (c.number-in_default.ensures ∙ is.number ∙ ap (λ k. c.loop-found.reader.number + k) (begun_last _ _ _ c.in_default.not-Read)) finishes.ends))
+    (divides_last _ _ _ _ _ c.in_default.not-Record c.in_default.not-Read is.contents) (c.number-in_default.ensures ∙ is.number ∙ ap (λ k. c.loop-found.reader.number + k) (started_last _ _ _ c.in_default.not-Read)) finishes.ends))
     (c.close.ensures.drains _ is.exhausted) (faults_last g.S.Source.shown _ _ _ c.in_default.not-Read is.read ∙ same.read_faults) same.write_faults

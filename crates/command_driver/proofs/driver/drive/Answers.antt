@@ -1,5 +1,5 @@
 use Rattle.std.proofs.Common.{ℕ, arith, sym, ◌∙◌, subst, rules}
-use Rattle.command_driver.proofs.Driving.{underway_goes, underway_stops, underway_cut, underway_lacks, underway_rests, underway_ends, underway_too_long, underway_too_much}
+use Rattle.command_driver.proofs.Driving.{underway_proceeds, underway_stops, underway_cut, underway_lacks, underway_rests, underway_ends, underway_too_long, underway_too_much}
 use Rattle.command_driver.proofs.Responding.{finished, cut, unreadable, lacked}
 use Rattle.command_driver.proofs.driver.drive.Goals as goal
 
@@ -8,10 +8,10 @@ loop-command-preserved g c = record {
   not_over = c.in-Line.ensures.over;
   bounded = c.in-Line.ensures.bounded;
   few_lines = omega (arith, c.in-Line.ensures.number, c.in-Line.ensures.takes);
-  holds = subst (λ (k : ℕ). g.C.Command.holds c.take.new.self k) (sym c.in-Line.ensures.number) (c.in-Ok-Goes.ensures.holds_after c.loop-command.reader.number c.loop-command.invariant.holds);
-  underway = λ octets e. underway_goes _ _ _ _ _ _ _ _ _ _ _ _ _ _ _ _ (c.loop-command.invariant.underway octets e) c.in-Line.ensures.lines c.in-Line.ensures.number c.line.ensures.same (rw c.in-Ok-Goes.field-0-is at c.in-Ok-Goes.ensures.answers.takes);
+  holds = subst (λ (k : ℕ). g.C.Command.holds c.take.new.self k) (sym c.in-Line.ensures.number) (c.in-Ok-Proceed.ensures.holds_after c.loop-command.reader.number c.loop-command.invariant.holds);
+  underway = λ octets e. underway_proceeds _ _ _ _ _ _ _ _ _ _ _ _ _ _ _ _ (c.loop-command.invariant.underway octets e) c.in-Line.ensures.lines c.in-Line.ensures.number c.line.ensures.same (rw c.in-Ok-Proceed.field-0-is at c.in-Ok-Proceed.ensures.answers.takes);
   read_faults = c.in-Line.ensures.read ∙ c.loop-command.invariant.read_faults;
-  write_faults = c.in-Ok-Goes.ensures.answers.uncounted ∙ c.loop-command.invariant.write_faults;
+  write_faults = c.in-Ok-Proceed.ensures.answers.uncounted ∙ c.loop-command.invariant.write_faults;
 }
 
 pub returns-in-Ok-Refuses-clause-responds : goal.returns-in-Ok-Refuses-clause-responds

@@ -1,5 +1,5 @@
 use Rattle.std.proofs.Common.{[]}
-use Rattle.eap_world.proofs.HeardByPlaces.{all_marked, one_more_marked}
+use Rattle.eap_world.proofs.ReceivedByPlaces.{all_marked, one_more_marked}
 use Rattle.eap_world.proofs.nonces_left.first_octets.Goals as goal
 
 pub loop-nonce-preserved : goal.loop-nonce-preserved

@@ -1,5 +1,5 @@
 use Rattle.std.proofs.Common.{take}
-use Rattle.eap_world.specs.Kept.{AreMarked}
+use Rattle.eap_world.specs.TwoRecords.{AreMarked}
 use Rattle.eap_world.proofs.nonces_left.first_octets.Given as goal
 
 abbrev pub invariant-loop-nonce : goal.invariant-loop-nonce

@@ -1,17 +1,17 @@
 -- The answer by the relation, as each octet fits.
 use Rattle.std.proofs.Common.{◌<◌, arith}
 use Rattle.std.proofs.lemmas.List.Elements.{All-from_get_or}
-use Rattle.gpsk_messages.proofs.Grammar.{spelled_if_heard, refused_if_heard}
+use Rattle.gpsk_messages.proofs.Grammar.{encoding_if_received, refused_if_received}
 use Rattle.gpsk_messages.proofs.reading.read_gpsk_message.Goals as goal
 
 pub returns-clause-spelled : goal.returns-clause-spelled
 returns-clause-spelled c =
     let octets = c.args.body.now in
     let small = All-from_get_or (λ b. b < 256) octets 0 (λ i _. omega (arith, c.type_inv.body i)) in
-    spelled_if_heard c.args.ks c.read_shape.result octets small c.read_shape.ensures
+    encoding_if_received c.args.ks c.read_shape.result octets small c.read_shape.ensures
 
 pub returns-clause-refused : goal.returns-clause-refused
 returns-clause-refused c =
     let octets = c.args.body.now in
     let small = All-from_get_or (λ b. b < 256) octets 0 (λ i _. omega (arith, c.type_inv.body i)) in
-    refused_if_heard c.args.ks c.read_shape.result octets small c.read_shape.ensures
+    refused_if_received c.args.ks c.read_shape.result octets small c.read_shape.ensures

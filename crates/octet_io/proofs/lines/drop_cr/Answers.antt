@@ -1,6 +1,6 @@
 use Rattle.std.proofs.Common.{◌≡◌, ◌∷◌, [], ◌-◌, length, drop, eqb, sym}
 use Rattle.std.specs.Cmp.Lexicographic.{pointwise}
-use Rattle.octet_io.proofs.LineLaws.{without_cr_cut, without_cr_kept}
+use Rattle.octet_io.proofs.LineLaws.{without_cr_cut, without_cr_same}
 use Rattle.octet_io.proofs.lines.drop_cr.Goals as goal
 
 pub returns-then-ends_with : goal.returns-then-ends_with
@@ -12,4 +12,4 @@ returns-then-ends_with c =
 pub returns-else-ends_with : goal.returns-else-ends_with
 returns-else-ends_with c =
     let test : c.ends_with.result ≡ pointwise eqb (13 ∷ []) (drop (length c.args.line.now - 1) c.args.line.now) = rw (← c.as_slice.ensures.same) c.ends_with.ensures.value in
-    sym (without_cr_kept c.args.line.now c.ends_with.result test c.if-ends_with.false)
+    sym (without_cr_same c.args.line.now c.ends_with.result test c.if-ends_with.false)

@@ -2,8 +2,8 @@
 use Rattle.std.proofs.Common.{◌<◌, arith}
 use Rattle.std.proofs.lemmas.List.Elements.{All-from_get_or}
 use Rattle.radius_carry.specs.Fault.{value_of, packet_at}
-use Rattle.radius_carry.proofs.Causes.{begins_if_none, head_if_faultless}
-use Rattle.radius_carry.proofs.Fronts.{radius_if_begins}
+use Rattle.radius_carry.proofs.Causes.{starts_if_none, head_if_faultless}
+use Rattle.radius_carry.proofs.Fronts.{radius_if_starts}
 use Rattle.radius_carry.proofs.reading.read_radius.Goals as goal
 
 pub view_of-requires : goal.view_of-requires
@@ -17,4 +17,4 @@ returns-in-None-clause-sound c =
     let octets = c.args.octets.now in
     let small = All-from_get_or (λ b. b < 256) octets 0 (λ i _. omega (arith, c.type_inv.octets i)) in
     rw (c.view_of.ensures.kind, c.view_of.ensures.id, c.view_of.ensures.authenticator, c.view_of.ensures.attributes, c.view_of.ensures.whole)
-    (radius_if_begins octets small (begins_if_none octets cc))
+    (radius_if_starts octets small (starts_if_none octets cc))

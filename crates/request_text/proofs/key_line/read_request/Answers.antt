@@ -3,7 +3,7 @@ use Rattle.std.proofs.Common.{◌≡◌, Some, None, Ok, refl, ap, ◌∙◌, sy
 use Rattle.text_tables.specs.Words.{words}
 use Rattle.text_tables.specs.Rows.{fault_of_words}
 use Rattle.request_text.specs.Keys.{row_of, requests}
-use Rattle.text_tables.proofs.Fitting.{fits}
+use Rattle.text_tables.proofs.Bounded.{fits}
 use Rattle.text_tables.proofs.Judging.{begins}
 use Rattle.request_text.proofs.KeyJudging.{asked_by_known, asked_by_unknown}
 use Rattle.request_text.proofs.key_line.read_request.Goals as goal

@@ -1,5 +1,5 @@
 -- Words without a fault fit their row.
-use Rattle.text_tables.proofs.Fitting.{fits}
+use Rattle.text_tables.proofs.Bounded.{fits}
 use Rattle.text_tables.proofs.text.read_words.Goals as goal
 
 pub entry_of-entry-requires : goal.entry_of-entry-requires

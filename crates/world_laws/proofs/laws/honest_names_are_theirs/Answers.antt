@@ -1,5 +1,5 @@
 use Rattle.world_laws.proofs.laws.honest_names_are_theirs.Goals as goal
-use Rattle.world_laws.proofs.Whose.{honest_names_are_theirs}
+use Rattle.world_laws.proofs.Owner.{honest_names_are_theirs}
 
 pub returns : goal.returns
 returns c = honest_names_are_theirs

@@ -1,8 +1,8 @@
-use Rattle.world_laws.proofs.Passing.{pass_is_alone, pass_is_handed}
+use Rattle.world_laws.proofs.Passing.{pass_is_alone, pass_is_delivered}
 use Rattle.world_laws.proofs.laws.pass_is_alone.Goals as goal
 
 pub returns-clause-alone : goal.returns-clause-alone
 returns-clause-alone c = pass_is_alone
 
 pub returns-clause-handed : goal.returns-clause-handed
-returns-clause-handed c = pass_is_handed
+returns-clause-handed c = pass_is_delivered

@@ -3,7 +3,7 @@ use Rattle.std.specs.List.{concat}
 use Rattle.aes_block.specs.Cipher.{aes128}
 use Rattle.cmac_mac.specs.Cmac.{inner_count}
 use Rattle.cmac_mac.specs.Chained.{IsChained}
-use Rattle.cmac_mac.proofs.Growing.{chained_none, taken_at_once}
+use Rattle.cmac_mac.proofs.Growing.{chained_none, accepted_at_once}
 use Rattle.cmac_mac.proofs.Tag.{tag_of}
 use Rattle.cmac_mac.proofs.key.CmacKey.tag_whole.Goals as goal
 
@@ -22,6 +22,6 @@ returns c =
     let is_end : end ≡ drop (16 * inner_count text) text = c.split_at.ensures.back ∙ ap (λ (k : ℕ). drop (16 * (k / 16)) text) before in
     let size : length front ≡ 16 * inner_count text = c.split_at.ensures.front_len ∙ ap (λ (k : ℕ). 16 * (k / 16)) before in
     let within : length end ≤ 16 = omega (arith, c.split_at.ensures.back_len, before) in
-    let so_far = taken_at_once chain c.filled.result key text front end blocks _ is_front is_end size c.as_chunks.ensures.front chained c.filled.ensures in
+    let so_far = accepted_at_once chain c.filled.result key text front end blocks _ is_front is_end size c.as_chunks.ensures.front chained c.filled.ensures in
     tag_of _ _ c.last_block-last.result c.xor_blocks.result c.encrypt.result key text (length end) so_far within
     c.last_block-last.ensures c.xor_blocks.ensures (c.encrypt.ensures ∙ ap (λ key. aes128 key c.xor_blocks.result) c.self.view_is)

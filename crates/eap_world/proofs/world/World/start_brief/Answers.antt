@@ -1,10 +1,10 @@
 use Rattle.std.proofs.Common.{◌≡◌}
 use Rattle.eap_world.specs.World.{now_of}
-use Rattle.eap_world.proofs.EventByEvent.{run_begins}
+use Rattle.eap_world.proofs.EventByEvent.{run_starts}
 use Rattle.eap_world.proofs.world.World.start_brief.Goals as goal
 
 pub returns-clause-run : goal.returns-clause-run
 returns-clause-run g c =
-    run_begins (now_of g.P.PeerMethod.peer_shown g.S.ServerMethod.server_shown c.args.self.now)
+    run_starts (now_of g.P.PeerMethod.peer_shown g.S.ServerMethod.server_shown c.args.self.now)
     (now_of g.P.PeerMethod.peer_shown g.S.ServerMethod.server_shown c.start_by_table.new.self) (c.start_by_table.new.self ≡ c.args.self.now) c.start_by_table.result
     c.start_by_table.ensures.told

@@ -9,7 +9,7 @@ returns-then-not-branch-clause-contents g c =
     let called = c.in_ok-has_more.ensures in
     let none = ap Ok c.if-not-branch.true in
     records-end c.args.self.now c.has_more.new.self (g.S.Source.shown.octets c.args.source.now) (g.S.Source.shown.octets c.has_more.new.source) c.args.order
-    c.requires.order called.left (called.none_held none) (called.none_left none)
+    c.requires.order called.left (called.none_pending none) (called.none_left none)
 
 pub returns-in_err-size-clause-contents : goal.returns-in_err-size-clause-contents
 returns-in_err-size-clause-contents g c =

@@ -1,6 +1,6 @@
 use Rattle.std.proofs.Common.{◌≡◌, ◌+◌, ◌-◌, arith, length-take}
-use Rattle.eapol_capture.specs.Files.{max_kept}
-use Rattle.eapol_capture.proofs.Handing.{Looks, Takes, in_part, more-part}
+use Rattle.eapol_capture.specs.Files.{max_stored}
+use Rattle.eapol_capture.proofs.PassDelivery.{Looks, ConsumesSome, in_part, more-part}
 use Rattle.eapol_capture.proofs.reader.PcapReader.read_part.Goals as goal
 
 pub loop-missing-init : goal.loop-missing-init
@@ -13,8 +13,8 @@ loop-missing-preserved g c =
     let before = c.args.self.now in
     let now = c.loop-missing.self in
     let mid = c.has_more.new.self in
-    let after = c.take_held-handed.new.self in
-    let n = c.take_held-handed.result in
+    let after = c.consume_pending-handed.new.self in
+    let n = c.consume_pending-handed.result in
     let looks : Looks now mid (g.S.Source.shown.octets c.loop-missing.source) (g.S.Source.shown.octets c.has_more.new.source) =
     record {
       keeps = c.has_more.ensures.keeps;
@@ -23,8 +23,8 @@ loop-missing-preserved g c =
       octets = c.in_ok-has_more.ensures.left;
       held = c.in_ok-has_more.ensures.held;
     } in
-    let t = c.take_held-handed.ensures in
-    let takes : Takes n mid after =
+    let t = c.consume_pending-handed.ensures in
+    let takes : ConsumesSome n mid after =
     record { keeps = t.keeps; there = t.there; taken = t.taken; held = t.held; kept = t.kept; bounded = t.bounded } in
     let fewer : c.loop-missing.missing - n + n ≡ c.loop-missing.missing = omega arith in
     more-part c.args.count c.loop-missing.missing n (c.loop-missing.missing - n) before now mid after
@@ -36,4 +36,4 @@ pub returns-clause-size : goal.returns-clause-size
 returns-clause-size g c =
     let p = c.loop-missing.invariant in
     let none : c.loop-missing.missing ≡ 0 = omega arith in
-    rw p.kept (omega (arith, length-take max_kept p.part, p.all))
+    rw p.kept (omega (arith, length-take max_stored p.part, p.all))

@@ -1,4 +1,4 @@
-use Rattle.eapol_capture.proofs.Handing.{InPart}
+use Rattle.eapol_capture.proofs.PassDelivery.{InPart}
 use Rattle.eapol_capture.proofs.reader.PcapReader.read_part.Given as goal
 
 abbrev pub invariant-loop-missing : goal.invariant-loop-missing

@@ -12,7 +12,7 @@ use Rattle.eap_method.specs.declared.tags.Label.TheVariants.{Sk}
 use Rattle.eap_method.specs.declared.tags.TagRecord.{TagRecord}
 use Rattle.gpsk_ends.specs.Keys.{SuiteKeys}
 use Rattle.gpsk_ends.proofs.MacLaws.{packet_sealed, record_sealed, size_with}
-use Rattle.gpsk_ends.proofs.Rooms.{message_has_room}
+use Rattle.gpsk_ends.proofs.Capacities.{message_has_capacity}
 use Rattle.gpsk_ends.proofs.keys.Keys.seal.Given as over
 use Rattle.gpsk_ends.proofs.keys.Keys.seal.Goals as goal
 
@@ -68,4 +68,4 @@ returns-clause-room g c =
     let whole : length tag ≡ ks_of suite = c.tag_whole-tag.ensures.size suite c.self.inside.keys.sk c.self.invariant in
     let message = message_of c.args.view.now in
     let size : size_of (with_mac message tag) ≡ size_of message = size_with suite message tag (has_mac g c) whole in
-    message_has_room c.args.code c.args.id (with_mac message tag) c.append.new.self c.requires.typed (omega (arith, size, c.requires.fits)) (is_packet g c)
+    message_has_capacity c.args.code c.args.id (with_mac message tag) c.append.new.self c.requires.typed (omega (arith, size, c.requires.fits)) (is_packet g c)

@@ -1,9 +1,9 @@
 use Rattle.std.proofs.Common.{refl, arith}
 use Rattle.eap_packet.specs.declared.packet.Code.TheVariants as code
 use Rattle.gpsk_messages.specs.Message.{fail}
-use Rattle.gpsk_ends.proofs.Rooms.{message_has_room}
+use Rattle.gpsk_ends.proofs.Capacities.{message_has_capacity}
 use Rattle.gpsk_ends.proofs.peer.turns.repeat_fail.Goals as goal
 
 pub returns-clause-room : goal.returns-clause-room
 returns-clause-room g c =
-    message_has_room code.Response c.args.id (fail c.args.code) c.write_gpsk_into.new.packet refl (omega arith) c.write_gpsk_into.ensures
+    message_has_capacity code.Response c.args.id (fail c.args.code) c.write_gpsk_into.new.packet refl (omega arith) c.write_gpsk_into.ensures

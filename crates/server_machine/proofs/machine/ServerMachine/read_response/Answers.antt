@@ -15,7 +15,7 @@ returns-after-has_form-clause-step g c =
     let before : ServerValue _ = record { vars = inside.vars; methods = inside.methods.items } in
     let view = c.args.view.now in
     let delivered = c.deliver_plain-step in
-    let forms = c.write_taken-has_form.ensures c.args.octets.now in
+    let forms = c.write_if_accepted-has_form.ensures c.args.octets.now in
     let is_response = ap (λ (code : Code). is_bad_expanded (value_with code view.id view.kind view.body.now)) c.requires.response in
     rw (← c.self-else-is_bad_expanded.view_is)
     (response_is_read (now_of shown before) c.args.octets.now view.id view.kind view.body.now c.if-has_form.taken.now

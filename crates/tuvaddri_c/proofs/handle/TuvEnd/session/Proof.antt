@@ -28,7 +28,7 @@ use denote.Struct.Owning.{shape, to}
 use denote.Triple.Walked.{Stays, walk_of, says, stay_dropped, ends_at, Goes-spent_ref}
 use Rattle.std.specs.Box.Ownership.{box_owns}
 use Rattle.std.specs.contracts.impls.GlobalAllocator.TheImpl.{ghosts}
-use Rattle.tuvaddri_c.specs.Lending.{with_session as with_value}
+use Rattle.tuvaddri_c.specs.Borrowing.{with_session as with_value}
 use Rattle.tuvaddri_c.specs.contracts.handle.TuvEnd.session as f
 use Rattle.tuvaddri_c.specs.contracts.handle.TuvEnd.{the_row as B, the_type}
 use Rattle.tuvaddri_c.specs.contracts.session.Session.{the_row as R}

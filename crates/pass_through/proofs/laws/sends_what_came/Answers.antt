@@ -1,5 +1,0 @@
-use Rattle.pass_through.proofs.Carrying as carrying
-use Rattle.pass_through.proofs.laws.sends_what_came.Goals as goal
-
-pub returns : goal.returns
-returns c = carrying.sends_what_came

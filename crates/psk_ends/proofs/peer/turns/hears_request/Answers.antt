@@ -1,6 +1,0 @@
-use Rattle.eap_method.specs.PskPeer.{step}
-use Rattle.psk_ends.proofs.peer.turns.hears_request.Goals as goal
-
-pub returns-in-Over-clause-turn : goal.returns-in-Over-clause-turn
-unfolding step
-returns-in-Over-clause-turn g c = rw (c.in-Known.is, c.in-Over.is) (c.idle_cause.ensures.peer c.in-Known.login c.in-Over.good)

@@ -1,0 +1,6 @@
+-- The law is the lemma of that name.
+use Rattle.radius_carry.proofs.Grammar.{reads_the_encoding}
+use Rattle.radius_carry.proofs.laws.reads_the_encoding.Goals as goal
+
+pub returns : goal.returns
+returns c = reads_the_encoding

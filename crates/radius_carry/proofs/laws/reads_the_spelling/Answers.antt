@@ -1,6 +1,0 @@
--- The law is the lemma of that name.
-use Rattle.radius_carry.proofs.Grammar.{reads_the_spelling}
-use Rattle.radius_carry.proofs.laws.reads_the_spelling.Goals as goal
-
-pub returns : goal.returns
-returns c = reads_the_spelling

@@ -1,6 +1,0 @@
--- The lemma is the law.
-use Rattle.smooth_laws.proofs.Restarts as lemmas
-use Rattle.smooth_laws.proofs.restarts_begin_anew.Goals as goal
-
-pub returns : goal.returns
-returns c = lemmas.restarts_begin_anew

@@ -1,0 +1,33 @@
+-- What holds of both ends in every run: their views determine the tags that they have accepted and made in their
+-- present conversations.
+use Rattle.std.specs.Prelude.{List}
+use Rattle.login_setup.specs.declared.event.Event.{Event}
+use Rattle.login_setup.specs.declared.setup.Setup.{Setup}
+use Rattle.eap_method.specs.declared.tags.TagRecord.{TagRecord}
+use Rattle.peer_machine.specs.PeerTable as peers
+use Rattle.server_machine.specs.ServerTable as servers
+use Rattle.eap_world.specs.Run.{run_of}
+use Rattle.eap_world.specs.Conversations.{since_of}
+use Rattle.world_laws.specs.PeerInvariant.{PeerInvariant}
+use Rattle.world_laws.specs.Records.{since, tags_by}
+use Rattle.world_laws.specs.ServerInvariant.{ServerInvariant}
+use Rattle.eap_world.specs.World.{WorldNow}
+use Rattle.tag_book.specs.declared.book.End.{End}
+use Rattle.tag_book.specs.declared.book.End.TheVariants as end
+use Rattle.tag_book.specs.declared.book.Use.{Use}
+use Rattle.tag_book.specs.declared.book.Use.TheVariants.{Accepted, Made}
+
+-- the tags of an end's present conversation: those of the events after the one in which it began
+abbrev pub present_tags : End → Use → WorldNow → List TagRecord
+present_tags end how w = tags_by end how (since (since_of end w.conversations.begun) w.book)
+
+-- this holds of both ends, each with the nonce of its present conversation and with the tags of it
+pub record BothInvariants (setup : Setup) (w : WorldNow) : Type 0 where
+  pub peer_invariant : PeerInvariant (peers.setup_with_nonce setup.peer w.parties.peer.vars.setup.nonce) w.parties.peer
+      (present_tags end.Peer Accepted w) (present_tags end.Peer Made w)
+  pub server_invariant : ServerInvariant (servers.setup_with_nonce setup.server w.parties.server.vars.setup.nonce) w.parties.server
+      (present_tags end.Server Accepted w) (present_tags end.Server Made w)
+
+-- in every run, of any setup, over any events
+abbrev pub EndInvariants : Type 0
+EndInvariants = (setup : Setup) (events : List Event) → BothInvariants setup (run_of setup events)

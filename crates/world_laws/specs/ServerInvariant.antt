@@ -1,0 +1,25 @@
+-- What holds of the server at every moment of a run, with the tags that it has accepted and made: the view
+-- of its current method determines them exactly, also if the login has failed.
+use Rattle.std.specs.Prelude.{◌≡◌, List, true, false, None}
+use Rattle.login_setup.specs.declared.setup.ServerSetup.{ServerSetup}
+use Rattle.eap_method.specs.declared.tags.TagRecord.{TagRecord}
+use Rattle.server_machine.specs.ServerTable.{ServerNow, is_proposed, is_started}
+use Rattle.server_machine.specs.declared.variables.ServerVariables.{ServerVariables}
+use Rattle.eap_world.specs.Judgement.{is_success}
+use Rattle.world_laws.specs.ByMethod.{ServerHasSucceeded, ServerTags}
+use Rattle.world_laws.specs.Records.{AreNone}
+
+-- a server that has not started: neither a method nor an Identifier is current
+pub record IsUntouched (vars : ServerVariables) : Type 0 where
+  pub no_method : vars.current ≡ None
+  pub no_id : vars.current_id ≡ None
+
+-- what holds of a server with the tags that it has accepted and made
+pub record ServerInvariant (setup : ServerSetup) (now : ServerNow) (accepted made : List TagRecord) : Type 0 where
+  pub own : now.vars.setup ≡ setup
+  pub tags : ServerTags setup now.vars.current now.views accepted made
+  pub unstarted : is_started now.vars ≡ false → IsUntouched now.vars
+  -- a method that is only proposed has none
+  pub proposed : is_proposed now.vars.progress ≡ true → AreNone accepted made
+  -- SUCCESS comes from a success
+  pub sure : is_success now.vars.state ≡ true → ServerHasSucceeded now.vars.current now.views
