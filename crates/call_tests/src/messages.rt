@@ -4,7 +4,7 @@ ghost use Rattle.std.specs.Prelude.{◌≤◌, length};
 
 use capture_check::{Checker, Finding};
 use eap_base::{MemSource, Octets, Packet};
-use eap_packet::{Cause, Code, View, decode, encode, encode_end, plain, read_expanded, wrap};
+use eap_packet::{Cause, Code, decode, encode, encode_end, plain, read_expanded, wrap};
 use eapol_capture::{FrameFinding, NextRecord, PcapReader, eap_of_frame};
 use gpsk_messages::{read_gpsk, write_gpsk};
 use psk_messages::{read_psk, write_psk};

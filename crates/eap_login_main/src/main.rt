@@ -8,9 +8,9 @@ use login_run::{methods_of, run};
 use octet_io::{Sink, Source, StdSink, StdSource};
 use psk_ends::{PskPeer, PskServer};
 use std::alloc::{AllocError, Global};
-use std::env::{self, Args};
-use std::io;
+use std::env::Args;
 use std::process::ExitCode;
+use std::{env, io};
 
 /// Answers to its words over standard input and output, neither of which is buffered: the source is read up
 /// to 4,096 octets at a time, and a line is written before the next is read.

@@ -1,5 +1,5 @@
 -- An end's text: what has been read, and what each line adds.
-use Rattle.std.specs.Prelude.{◌≡◌, ◌≤◌, ℕ, List, Bool, true, false, unwrap_or, Ok, if◌then◌else◌, codes, Option, Some, None, Result, IsOk, is_err}
+use Rattle.std.specs.Prelude.{◌≡◌, ◌≤◌, ℕ, List, Bool, false, unwrap_or, Ok, if◌then◌else◌, codes, Option, Some, None, Result, IsOk, is_err}
 use Rattle.std.specs.Str.{bytes_eq}
 use Rattle.text_tables.specs.Phases as phases
 use Rattle.text_tables.specs.Texts as texts

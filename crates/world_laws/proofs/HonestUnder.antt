@@ -15,9 +15,6 @@ use Rattle.world_laws.proofs.HonestOfEither.{none_if_honest}
 use Rattle.world_laws.proofs.TagsOfEnds.{unbroken}
 
 module _ (key : List ℕ) where
-  in_key : Entry → Bool
-  in_key e = bytes_eq e.tag.psk key
-
   -- a tag that vouches is under the same key
   same_key : (makers : MadeBy) (e x : Entry) → vouches makers e x ≡ true → x.tag.psk ≡ e.tag.psk
   same_key makers e x v =

@@ -43,7 +43,7 @@ use Rattle.world_laws.proofs.GpskAgrees as gpsk_agrees
 use Rattle.world_laws.proofs.HonestOfEither.{honest_of_either, none_if_honest}
 use Rattle.world_laws.proofs.HonestOther.{honest_other}
 use Rattle.world_laws.proofs.Results.{own_key}
-use Rattle.world_laws.proofs.Matching.{AllKnown, PeerKnown, ServerKnown}
+use Rattle.world_laws.proofs.Matching.{AllKnown}
 use Rattle.world_laws.proofs.Matching as matching
 use Rattle.world_laws.proofs.OneLogin.{first_is_in, one_stored}
 use Rattle.world_laws.proofs.OneMethod.{some_same}
