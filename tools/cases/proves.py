@@ -89,5 +89,5 @@ def case_here(run: Run) -> Iterator[Optional[str]]:
     """What the program's crate changes is itself, and all crates have the whole sum."""
     yield holds("    tools/proves CRATE ..\n" in run(["proves", "--help"])[1], "proves --help has another form")
     count = sum(line[:1].islower() for line in Path("crates.txt").read_text().splitlines())
-    out = run(["proves", "eap_login"])[1]
-    yield holds(out.splitlines()[-1].startswith(f"1 of {count} crates, "), f"proves eap_login says {out.splitlines()[-1]}")
+    out = run(["proves", "eap_login_main"])[1]
+    yield holds(out.splitlines()[-1].startswith(f"1 of {count} crates, "), f"proves eap_login_main says {out.splitlines()[-1]}")

@@ -9,7 +9,7 @@ import subprocess
 import sys
 import threading
 import time
-from typing import IO, Iterator, Optional, Sequence
+from typing import BinaryIO, Iterator, Optional, Sequence, cast
 
 from lib import captures, frames
 from lib.captures import Capture
@@ -61,7 +61,7 @@ def read(begun: subprocess.Popen[bytes], found: queue.Queue[Optional[frames.Reco
     """Reads what tcpdump writes."""
     try:
         if begun.stdout:
-            for record in frames.of_file(begun.stdout)[1]:
+            for record in frames.of_file(cast(BinaryIO, begun.stdout))[1]:
                 found.put(record)
     except Refused as fault:
         said.append(str(fault))
