@@ -7,7 +7,7 @@ use Rattle.octet_lists.specs.Among.{psk_kind, gpsk_kind, is_kind, is_among, are_
 use Rattle.login_setup.specs.Setup.{are_kinds}
 use Rattle.eap_method.specs.Peer.{have_each}
 
-both : List ℕ
+abbrev both : List ℕ
 both = gpsk_kind ∷ psk_kind ∷ []
 
 is_listed : (kind : ℕ) → is_kind kind ≡ true → is_among both kind ≡ true
