@@ -423,7 +423,7 @@ def of_no_end(login: Login) -> Iterator[Reason]:
         wrong = any(it.carrier.endswith("tag-bad") for it in login.rows)
         yield Reason(last, f"no answer of the RADIUS server to it is here, sent {again} time{'s' * (again > 1)}" + ("" if wrong else
                            ": it is down or can't be reached, doesn't know this client's address, has another secret (`--secret TEXT` "
-                           f"judges that)" + (ended if again == 1 else "")))
+                           "judges that)" + (ended if again == 1 else "")))
     elif login.next is not None:
         yield Reason(last, f"no answer to it is here, and with packet {login.next} another login begins: an end was restarted or "
                            "gave up, or packets aren't in the capture")
