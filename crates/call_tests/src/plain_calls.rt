@@ -10,7 +10,7 @@ use crate::messages::is_written_again;
 use eap_base::{Event, Mode, Octets, Packet, Party, PeerSetup, ServerSetup, Setup};
 use eap_method::{Methods, PeerMethod, Report, ServerMethod};
 use eap_packet::State;
-use eap_world::{TagsVerdict, Verdict, World};
+use eap_world::{Named, TagsVerdict, Verdict, World};
 use end_pipe::{EndInput, EndItem, EndReader, PeerPipe, ServerPipe};
 use gpsk_ends::{GpskPeer, GpskServer};
 use login_run::methods_of;
@@ -183,6 +183,14 @@ enum Way {
     Pipes,
 }
 
+/// Takes up the report that an end first has.
+fn note_report(peer: &mut Option<Report>, server: &mut Option<Report>, named: Named) {
+    match named.party {
+        Party::Peer => *peer = Some(named.report),
+        _ => *server = Some(named.report),
+    }
+}
+
 /// In one world, in which the packets are delivered by their numbers.
 fn in_world<P: PeerMethod, S: ServerMethod>(
     alloc: Global,
@@ -211,14 +219,17 @@ fn in_world<P: PeerMethod, S: ServerMethod>(
         let Ok(told) = world.step(&Event::Deliver { number }) else {
             return false;
         };
-        if let Some(packet) = told.sent {
-            sent.note(Some(packet.packet));
-        }
-        if let Some(named) = told.named {
-            match named.party {
-                Party::Peer => peer = Some(named.report),
-                _ => server = Some(named.report),
+        let packet = told.sent;
+        let named = told.named;
+        match packet {
+            None => {}
+            Some(packet) => {
+                sent.note(Some(packet.packet));
             }
+        }
+        match named {
+            None => {}
+            Some(named) => note_report(&mut peer, &mut server, named),
         }
     }
     let is_over = world.state(Party::Peer) == Some(State::Success)
