@@ -4,9 +4,9 @@ ghost use Rattle.std.specs.Prelude.{◌≤◌, length};
 
 use capture_check::{Checker, Finding};
 use eap_base::{MemSource, Octets, Packet};
-use eap_packet::{Cause, Code, decode, encode, encode_end, plain, read_expanded, wrap};
+use eap_packet::{Cause, Code, decode, encode, encode_end, plain, read_expanded};
 use eapol_capture::{FrameFinding, NextRecord, PcapReader, eap_of_frame};
-use gpsk_messages::{read_gpsk, write_gpsk};
+use gpsk_messages::{GpskView, read_gpsk, write_gpsk};
 use psk_messages::{read_psk, write_psk};
 use radius_carry::{
     RadiusKind, eap_of, read_radius, reply_good, request_good, write_reply, write_request,
@@ -15,51 +15,54 @@ use scenario_text::{CaptureItem, CaptureReader, read_key_line, read_packet_line}
 use std::alloc::{AllocError, Global};
 use std::test::Fail;
 
-/// True if the octets are a packet that has these octets again once it was read, its message too if it has one, and
-/// written.
+/// True if the octets are a packet that has these octets again once it was read, its message too if it is one of
+/// EAP-PSK's, and written; a message of EAP-GPSK is read alone.
 pub(crate) fn is_written_again(octets: &[u8]) -> bool {
     let Ok(view) = decode(octets) else {
         return false;
     };
-    if view.code == Code::Success || view.code == Code::Failure {
-        return encode_end(view.code, view.id).as_slice() == octets;
-    }
-    let written = match view.kind {
-        51 => gpsk_again(view.code, view.id, view.body),
-        47 => psk_again(view.code, view.id, view.body),
-        _ => other_again(view.code, view.id, view.kind, view.body),
+    let written = match view.code {
+        Code::Success => Some(encode_end(Code::Success, view.id)),
+        Code::Failure => Some(encode_end(Code::Failure, view.id)),
+        Code::Request => request_again(view.id, view.kind, view.body),
+        Code::Response => response_again(view.id, view.kind, view.body),
     };
     match written {
-        None => false,
-        Some(packet) => packet.as_slice() == octets && is_wrapped_and_plain(&packet),
+        None => view.kind == 51 && read_gpsk(view.body, None).is_ok(),
+        Some(packet) => packet.as_slice() == octets,
     }
 }
 
-fn gpsk_again(code: Code, id: u8, body: &[u8]) -> Option<Packet> {
-    match read_gpsk(body, None) {
-        Err(_) => None,
-        Ok(view) => Some(write_gpsk(&view, code, id)),
-    }
-}
-
-fn psk_again(code: Code, id: u8, body: &[u8]) -> Option<Packet> {
-    match read_psk(body) {
-        Err(_) => None,
-        Ok(view) => Some(write_psk(&view, code, id)),
-    }
-}
-
-fn other_again(code: Code, id: u8, kind: u8, body: &[u8]) -> Option<Packet> {
-    if kind == 3 {
+fn request_again(id: u8, kind: u8, body: &[u8]) -> Option<Packet> {
+    if kind == 3 || kind == 51 || body.len() > 1495 {
         return None;
     }
-    Some(encode(code, id, kind, body))
+    if kind != 47 {
+        return Some(encode(Code::Request, id, kind, body));
+    }
+    match read_psk(body) {
+        Err(_) => None,
+        Ok(view) => Some(write_psk(&view, Code::Request, id)),
+    }
 }
 
-/// True if the packet, wrapped in an Expanded Type, says its Type there, and has itself for its plain form.
-fn is_wrapped_and_plain(packet: &Packet) -> bool {
-    let wrapped = wrap(packet);
-    let Ok(view) = decode(wrapped.as_slice()) else {
+fn response_again(id: u8, kind: u8, body: &[u8]) -> Option<Packet> {
+    if kind == 3 || kind == 51 || body.len() > 1495 {
+        return None;
+    }
+    if kind != 47 {
+        return Some(encode(Code::Response, id, kind, body));
+    }
+    match read_psk(body) {
+        Err(_) => None,
+        Ok(view) => Some(write_psk(&view, Code::Response, id)),
+    }
+}
+
+/// True if a Failure of EAP-GPSK is written by the layout of RFC 5433 section 9.3, and its Expanded Type holds it.
+fn is_wrapped_and_plain() -> bool {
+    let packet = write_gpsk(&GpskView::Fail { code: 1 }, Code::Response, 3);
+    let Ok(view) = decode(b"\x02\x03\0\x11\xfe\0\0\0\0\0\0\x33\x05\0\0\0\x01") else {
         return false;
     };
     if view.kind != 254 {
@@ -68,10 +71,18 @@ fn is_wrapped_and_plain(packet: &Packet) -> bool {
     let Some(expanded) = read_expanded(&view) else {
         return false;
     };
-    match plain(&view) {
+    let is_held = match plain(&view) {
         None => false,
-        Some(inner) => expanded.vendor == 0 && inner.as_slice() == packet.as_slice(),
-    }
+        Some(inner) => inner.as_slice() == packet.as_slice(),
+    };
+    expanded.vendor == 0
+        && is_held
+        && packet.as_slice() == b"\x02\x03\0\x0a\x33\x05\0\0\0\x01".as_slice()
+}
+
+#[test]
+fn an_expanded_type_holds_its_packet(rt: HostRuntime) {
+    assert!(rt; is_wrapped_and_plain());
 }
 
 /// A capture whose findings are one of each kind but a tag's.
