@@ -1,6 +1,6 @@
 //! A login by the plain calls of every layer, each of which answers whole values, over boxed methods: in one world, between
 //! the two machines, through the pass-through, and between two ends read from text. What each row sends is that of a whole
-//! login computed outside (`cases/logins.cases`); each packet of a method is read and written again on its way.
+//! login computed outside (`cases/logins.cases`); each packet is read on its way, and written again if it is not of EAP-GPSK.
 
 ghost use Rattle.std.specs.Prelude.{◌≤◌, IfSome};
 ghost use Rattle.scenario_text.specs.Valid.{IsValidPeer, IsValidServer, IsValidSetup};
