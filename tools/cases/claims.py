@@ -10,7 +10,7 @@ from typing import Iterator, Optional
 from cases.lib.small import Run, Small, holds
 
 CODE, EVEN, REST = "crates/small/src/lib.rt", "crates/small/specs/Even.antt", "crates/small/specs/Rest.antt"
-AGREEMENT, LIMITS, TESTED = "docs/AGREEMENT.md", "docs/LIMITS.md", "docs/TESTED.md"
+AGREEMENT, LIMITS, ASSURANCE = "docs/AGREEMENT.md", "docs/LIMITS.md", "docs/ASSURANCE.md"
 TEXTS = {
     "crates.txt": "# The crates.\nsmall:\n",
     CODE: """\
@@ -85,7 +85,7 @@ sudo reboot
     "bench/README.md": "A call takes 1234.\n",
     "cases/run": Path("cases/run").read_text(),
     "cases/small.cases": "from the rules\n$ decode\n= 0\nempty\ncase one\ncase two\n",
-    TESTED: """\
+    ASSURANCE: """\
 | What | How many |
 |---|---|
 | crates proved | 1 |
@@ -112,9 +112,9 @@ TURNS = {
     "a command": (LIMITS, "status 1", "status 0", f"{LIMITS}:5: `grep -c None docs/AGREEMENT.md` ends with 1: "),
     "an output": (LIMITS, "^two", "three", f"{LIMITS}:10: the commands before don't write: three"),
     "a command that isn't run": ("README.md", "sudo reboot", "true", "claims.commands: no page has the command sudo reboot"),
-    "a count": (TESTED, r"texts \| 2", "texts | 3", f"{TESTED}:7: cases of texts: 2 are counted"),
+    "a count": (ASSURANCE, r"texts \| 2", "texts | 3", f"{ASSURANCE}:7: cases of texts: 2 are counted"),
     "a count of lines": ("README.md", r", 0, 0 \|", ", 1, 0 |", f"README.md:7: {LINES}: 15, 17, 0, 0 are counted"),
-    "a count that went": (TESTED, r"^.*tests in code.*\n", "", "tests in code: no page says how many there are"),
+    "a count that went": (ASSURANCE, r"^.*tests in code.*\n", "", "tests in code: no page says how many there are"),
     "a cost": ("README.md", "1,234", "1,235", "README.md: bench/README.md doesn't have 1,235"),
     "edits that were refused": ("wrong/refused.txt", "1 1", "9 9",
                                 "wrong/refused.txt: small: 9 of 9 edits refused, and 1 stand in wrong/small"),

@@ -13,7 +13,7 @@ from typing import Dict, Iterator, List, Optional, Set, Tuple
 from lib.common import ROOT, this_python
 
 COMMANDS = ROOT / "docs/claims.commands"
-TESTED = ROOT / "docs/TESTED.md"
+ASSURANCE = ROOT / "docs/ASSURANCE.md"
 SECONDS = 300
 
 ENDS = ("rt", "antt", "md", "py", "sh", "c", "h", "awk", "edit", "txt", "svg", "hex", "cases", "commands",
@@ -40,7 +40,7 @@ class Tally:
 
 
 def page_files() -> List[Path]:
-    return sorted(file for it in ("README.md", "docs/*.md", "*/README.md", "*/*/README.md") for file in ROOT.glob(it))
+    return sorted(file for it in ("*.md", "docs/*.md", "*/README.md", "*/*/README.md") for file in ROOT.glob(it))
 
 
 def parts_of(page: Path) -> Tuple[Lines, List[Block]]:
@@ -160,7 +160,7 @@ def refused() -> List[Tuple[str, str, int, int]]:
 
 
 def counted(crates: List[str]) -> Dict[str, List[int]]:
-    """What docs/TESTED.md and README.md count, by the first cell of the row."""
+    """What docs/ASSURANCE.md and README.md count, by the first cell of the row."""
     tests = [it for it in crates if it.endswith("_tests")]
     others = [it for it in crates if it not in tests]
     has_test = lambda it: len(re.findall(r"^#\[test\]", it.read_text(), re.M))
@@ -189,7 +189,7 @@ def is_count(label: str, said: str, counts: List[int]) -> bool:
 def check_counts(check: Tally, crates: List[str]) -> None:
     counts = counted(crates)
     told = set()
-    for page in (ROOT / "README.md", TESTED):
+    for page in (ROOT / "README.md", ASSURANCE):
         for number, line in parts_of(page)[0]:
             label, *cells = cells_of(line)
             if line.startswith("|") and label in counts:

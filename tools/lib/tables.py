@@ -1,4 +1,4 @@
-"""The tables of what is to be read: by file, by section of the standards, and that of docs/READING.md."""
+"""The tables of what is to be read: by file, by section of the standards, and that of docs/ASSURANCE.md."""
 
 import re
 from typing import Dict, Iterable, Iterator, List, Set, Tuple
@@ -9,7 +9,7 @@ from lib.sources import Item, Repository, Source
 # The standards of the table by sections, in its order.
 STANDARDS = ("RFC 3748", "RFC 4137", "RFC 4764", "RFC 5433")
 
-# docs/READING.md: which promise takes how much reading.
+# docs/ASSURANCE.md: which promise takes how much reading.
 PROMISES = ("world_laws::honest_ends_agree", "world_laws::one_end_implies", "smooth_laws::smooth_logins_succeed",
             "eap_login::eap_login", "login_keys::gpsk_keys", "eax_mode::eax_seal", "aes_block::Aes128::encrypt")
 
@@ -94,7 +94,7 @@ def of_sections(repository: Repository, order: List[Item]) -> Iterator[str]:
 
 
 def of_promises(repository: Repository) -> Iterator[str]:
-    """The lines of the table of docs/READING.md."""
+    """The lines of the table of docs/ASSURANCE.md."""
     orders = [sources.closure(repository, repository.root(it))[0] for it in PROMISES]
     yield from ("| Promise | Files | Definitions | Lines |", "|---|---|---|---|")
     for promise, order in zip(PROMISES, orders):
