@@ -1,4 +1,4 @@
-"""tools/claims over a repository of one crate, whose pages are whole at first."""
+"""dev/claims over a repository of one crate, whose pages are whole at first."""
 
 from __future__ import annotations
 
@@ -142,7 +142,7 @@ def case_turned(run: Run) -> Iterator[Optional[str]]:
             small.again()
             small.turn(file, old, new)
             said = small.run("claims")
-            yield holds(said.status == 1 and f"tools/claims: {line}" in said.lines, f"claims passes over {what}: {said.lines}")
+            yield holds(said.status == 1 and f"dev/claims: {line}" in said.lines, f"claims passes over {what}: {said.lines}")
 
 
 def case_since(run: Run) -> Iterator[Optional[str]]:

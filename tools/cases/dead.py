@@ -1,4 +1,4 @@
-"""tools/dead: all of the repository serves; and over a small one each kind of what doesn't."""
+"""dev/dead: all of the repository serves; and over a small one each kind of what doesn't."""
 
 from __future__ import annotations
 
@@ -135,7 +135,7 @@ MORE: list[tuple[str, str, list[str]]] = [
 
 
 def told(small: Small, lines: list[str], what: str) -> Iterator[Optional[str]]:
-    """tools/dead writes these lines, and no more than the count behind them."""
+    """dev/dead writes these lines, and no more than the count behind them."""
     said = small.run("dead")
     for line in lines:
         yield holds(line in said.out, f"dead doesn't write the line: {line}")

@@ -11,7 +11,7 @@ from typing import Any, Iterator, Optional
 
 from lib.common import ROOT
 
-FOLDERS = ("", ".ci", "bench", "c", "c/freeradius", "c/hostapd", "cases", "examples", "live", "tools")
+FOLDERS = ("", ".ci", "bench", "c", "c/freeradius", "c/hostapd", "cases", "dev", "examples", "live", "tools")
 # Its words are the program's.
 PROGRAM = ROOT / "eap_login"
 # What must not be begun: a script that does its work for --help fails at these.
@@ -39,7 +39,7 @@ def case_help(run: Any) -> Iterator[Optional[str]]:
             stub.chmod(0o755)
         for path, text in scripts():
             name, head = str(path.relative_to(ROOT)), head_of(text)
-            if name.startswith("tools/") and "python3" in text[:40]:
+            if name.startswith(("dev/", "tools/")) and "python3" in text[:40]:
                 status, out, errors = run([path.name, "--help"])
             else:
                 done = subprocess.run([path, "--help"], cwd=folder, stdin=subprocess.DEVNULL, capture_output=True, text=True, timeout=60,

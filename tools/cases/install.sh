@@ -30,7 +30,7 @@ is_file "$work/wanted" "the man page's examples"
 # Its forms, statuses and faults are made of the words that the program is held to, as is all that is made; and nothing in
 # it is wrong for groff.
 count=$((count + 1))
-tools/make-docs --check 2>"$work/said" || fail "a page isn't as tools/make-docs makes it: $(head -n 1 "$work/said")"
+dev/make-docs --check 2>"$work/said" || fail "a page isn't as dev/make-docs makes it: $(head -n 1 "$work/said")"
 if command -v groff >/dev/null; then
     groff -man -ww -Tutf8 "$page" >"$work/rendered" 2>"$work/said" || true
     is_file /dev/null "groff -ww of the man page"

@@ -1,4 +1,4 @@
-"""tools/proves, over crates and a table of their own, and over those of this repository."""
+"""dev/proves, over crates and a table of their own, and over those of this repository."""
 
 from __future__ import annotations
 
@@ -87,7 +87,7 @@ def case_small(run: Run) -> Iterator[Optional[str]]:
 
 def case_here(run: Run) -> Iterator[Optional[str]]:
     """What the program's crate changes is itself, and all crates have the whole sum."""
-    yield holds("    tools/proves CRATE ..\n" in run(["proves", "--help"])[1], "proves --help has another form")
+    yield holds("    dev/proves CRATE ..\n" in run(["proves", "--help"])[1], "proves --help has another form")
     count = sum(line[:1].islower() for line in Path("crates.txt").read_text().splitlines())
     out = run(["proves", "eap_login_main"])[1]
     yield holds(out.splitlines()[-1].startswith(f"1 of {count} crates, "), f"proves eap_login_main says {out.splitlines()[-1]}")

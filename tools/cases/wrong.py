@@ -1,4 +1,4 @@
-"""tools/wrong over a repository of two crates, and a stand-in for rt that says of each edit what the edit's name asks for, in
+"""dev/wrong over a repository of two crates, and a stand-in for rt that says of each edit what the edit's name asks for, in
 rt's own words."""
 
 from __future__ import annotations
@@ -102,7 +102,7 @@ def case_status(run: Run) -> Iterator[Optional[str]]:
         small.changed.add(TABLE)
         yield from tells(small, 0, "--texts", "edits: 2 passed, 0 failed")
         yield from tells(small, 0, "status", "high: 1 edits were never tried")
-        yield from tells(small, 0, "", "tools/wrong: high: 1 of 1 refused; crate 1 of 1, 0 min", "wrong: 1 passed, 0 failed")
+        yield from tells(small, 0, "", "dev/wrong: high: 1 of 1 refused; crate 1 of 1, 0 min", "wrong: 1 passed, 0 failed")
         today = time.strftime("%Y-%m-%d")
         yield from tells(small, 0, "status", f"high: 1 of 1 edits refused on {today} by rattle-kit-0 logic 0, of today's sources")
         yield from tells(small, 0, "--stale", "wrong: 0 passed, 0 failed")
@@ -126,8 +126,8 @@ def other_rows(small: Small, table: str) -> Iterator[Optional[str]]:
                      "high: 1 of 1 edits refused on 2001-02-03 by rattle-kit-0 logic 0, of other sources; 1 more were never tried",
                      "edits: 0 tried on today's sources; 1 on other sources alone, of 1 crates; 1 never, 0 crates have no row; besides 1 of the gate")
     small.write("wrong/low/sum__again.edit", TEXTS[EDIT])
-    yield from tells(small, 0, "--stale low", "tools/wrong: low: 1 of 1 refused; crate 1 of 1, 0 min")
-    yield from tells(small, 0, "--stale", "tools/wrong: high: 2 of 2 refused; crate 1 of 1, 0 min")
+    yield from tells(small, 0, "--stale low", "dev/wrong: low: 1 of 1 refused; crate 1 of 1, 0 min")
+    yield from tells(small, 0, "--stale", "dev/wrong: high: 2 of 2 refused; crate 1 of 1, 0 min")
     for it in ("low", "high"):
         (small.root / f"wrong/{it}/sum__again.edit").unlink()
     small.write(TABLE, table.replace(" wrong 1 1 ", " wrong 1 0 "))
@@ -140,14 +140,14 @@ def case_tries(run: Run) -> Iterator[Optional[str]]:
         yield from tells(small, 0, "--all -j 2 high", "wrong: 2 passed, 0 failed")
         yield from tells(small, 2, "none", "wrong: none is no crate")
         with environment(STOPS="high"):
-            yield from tells(small, 1, "high", "tools/wrong: high/sum__by_clause.edit: it was not tried")
+            yield from tells(small, 1, "high", "dev/wrong: high/sum__by_clause.edit: it was not tried")
         with environment(CHANGES=str(small.root / "crates/low/src/lib.rt")):
-            yield from tells(small, 1, "high", "tools/wrong: high: a source changed meanwhile")
+            yield from tells(small, 1, "high", "dev/wrong: high: a source changed meanwhile")
         for kind, said in KINDS.items():
             name = f"sum__{kind}.edit"
             small.write(f"wrong/high/{name}", TEXTS[EDIT])
             found: Said = small.run("wrong", "high")
-            begins = [it.startswith(f"tools/wrong: high/{name}: {said}") for it in found.errors]
+            begins = [it.startswith(f"dev/wrong: high/{name}: {said}") for it in found.errors]
             is_told = found.status == 1 and any(begins) and "wrong: 1 passed, 1 failed" in found.out
             yield holds(is_told, f"wrong passes over an edit that {kind}: {found}")
             (small.root / f"wrong/high/{name}").unlink()
@@ -156,10 +156,10 @@ def case_tries(run: Run) -> Iterator[Optional[str]]:
 def case_stopped(run: Run) -> Iterator[Optional[str]]:
     """One that is stopped leaves nothing."""
     with with_rt(run) as small, tempfile.TemporaryDirectory() as rooms:
-        for it in ("tools/wrong", "tools/lib/common.py", "tools/lib/crates.py"):
+        for it in ("dev/wrong", "dev/lib/common.py", "dev/lib/crates.py"):
             small.write(it, Path(it).read_text())
         with environment(TMPDIR=rooms, SLEEPS="yes"):
-            words = [sys.executable, "-B", str(small.root / "tools/wrong"), "high"]
+            words = [sys.executable, "-B", str(small.root / "dev/wrong"), "high"]
             working = subprocess.Popen(words, stdin=subprocess.DEVNULL, stdout=subprocess.DEVNULL, stderr=subprocess.DEVNULL)
         for _ in range(100):
             if os.listdir(rooms):
@@ -177,10 +177,10 @@ def case_texts(run: Run) -> Iterator[Optional[str]]:
         for name, text, line in MORE:
             small.again()
             small.write(name, text)
-            yield from tells(small, 1, "--texts", f"tools/wrong: {line}", "edits: 2 passed, 1 failed")
+            yield from tells(small, 1, "--texts", f"dev/wrong: {line}", "edits: 2 passed, 1 failed")
         small.again()
         small.write("crates/high/must-fail/sum__too.edit", TEXTS[EDIT])
-        yield from tells(small, 1, "--texts", "tools/wrong: crates/high/must-fail has 2 edits, and the gate tries at most one of a crate: "
+        yield from tells(small, 1, "--texts", "dev/wrong: crates/high/must-fail has 2 edits, and the gate tries at most one of a crate: "
                          "move the others to wrong/high")
         small.again()
         # (eleven more crates with an edit each are as many as may be, and with a twelfth they are too many)
@@ -190,5 +190,5 @@ def case_texts(run: Run) -> Iterator[Optional[str]]:
             small.write(f"crates/more{number}/must-fail/sum__by_gate.edit", TEXTS[GATE_EDIT])
             if number == 11:
                 yield from tells(small, 0, "--texts", "edits: 13 passed, 0 failed")
-        yield from tells(small, 1, "--texts", "tools/wrong: crates/*/must-fail have 13 edits, and the gate tries at most 12: "
+        yield from tells(small, 1, "--texts", "dev/wrong: crates/*/must-fail have 13 edits, and the gate tries at most 12: "
                          "move the others to wrong/")

@@ -17,6 +17,11 @@ codes: dict[str, CodeType] = {}
 loaded: dict[Path, dict[str, ModuleType]] = {}
 
 
+def place_of(name: str) -> str:
+    """Where a tool stands: with those for developers, or for users."""
+    return next(it for it in (f"dev/{name}", f"tools/{name}") if (ROOT / it).is_file())
+
+
 class Elsewhere(MetaPathFinder, Loader):
     """Loads the modules of tools/lib, and a tool, as if they stood in another repository."""
 
@@ -51,7 +56,7 @@ class Elsewhere(MetaPathFinder, Loader):
         try:
             if name not in own:
                 own[name] = sys.modules[name] = ModuleType(name)
-                self.run(own[name], f"tools/{name}")
+                self.run(own[name], place_of(name))
             yield own[name]
         finally:
             sys.meta_path.remove(self)

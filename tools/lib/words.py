@@ -1,6 +1,6 @@
 """What the texts of the program consist of, and what its answers mean: the one place that knows it.
 
-tools/why says it, tools/make-docs makes the tables of docs/TEXTS.md, the man page and the completions from it, and
+tools/why says it, dev/make-docs makes the tables of docs/TEXTS.md, the man page and the completions from it, and
 tools/check holds each row against the program by running it. In a sentence, `{N}` is the range of the field N."""
 
 from __future__ import annotations
