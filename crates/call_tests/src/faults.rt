@@ -232,29 +232,80 @@ fn first_lines(text: &[u8], count: u32) -> &[u8] {
 
 /// True if a run whose sink takes 2,000 octets a write, and fails at the write of this number, wrote exactly
 /// the lines before it.
-fn holds_the_lines_before(alloc: Global, call: u32, text: &[u8]) -> Result<bool, AllocError> {
-    let given = Given {
+fn holds_the_lines_before(
+    alloc: Global,
+    given: &Given<'_>,
+    call: u32,
+    text: &[u8],
+) -> Result<bool, AllocError> {
+    let cut = Given {
         write: 2000,
         failing_write: call,
-        ..Given::whole("replay", LOGIN.as_bytes())
+        ..*given
     };
     let lines = first_lines(text, call.saturating_sub(1));
-    given.writes(alloc, Status::WriteFault, lines)
+    Ok(lines.len() == text.len() || cut.writes(alloc, Status::WriteFault, lines)?)
 }
 
-/// True if each line of a login's trace, which has 25 lines, is one write, and nothing is buffered past it.
-fn lines_are_writes(alloc: Global) -> Result<bool, AllocError> {
-    let (_, whole) = Given::whole("replay", LOGIN.as_bytes()).answered(alloc)?;
-    let mut are_writes = whole.written().ends_with(b"result agree\nend\n");
-    for call in 1..26 {
-        are_writes &= holds_the_lines_before(alloc, call, whole.written())?;
+/// True if each line of what a run writes, which has at most 40, is one write, and nothing is buffered past it.
+fn lines_are_writes(alloc: Global, command: &str, input: &[u8]) -> Result<bool, AllocError> {
+    let given = Given::whole(command, input);
+    let (_, whole) = given.answered(alloc)?;
+    let text = whole.written();
+    let mut are_writes = text.ends_with(b"\n") && first_lines(text, 40).len() == text.len();
+    for call in 1..41 {
+        are_writes &= holds_the_lines_before(alloc, &given, call, text)?;
     }
     Ok(are_writes)
 }
 
+/// True if each line of the run of a block of words and input is one write.
+fn block_writes_lines(alloc: Global, block: &str) -> Result<bool, AllocError> {
+    let (command, input) = block.split_once("\n").unwrap_or((block, ""));
+    lines_are_writes(alloc, command, input.as_bytes())
+}
+
 #[test]
 fn each_line_is_one_write(rt: HostRuntime) -> Result<(), Fail> {
-    assert!(rt; lines_are_writes(rt.alloc())?);
+    assert!(rt; lines_are_writes(rt.alloc(), "replay", LOGIN.as_bytes())?);
+    assert!(rt; lines_are_writes(rt.alloc(), "pcap", FRAMES)?);
+    for block in INPUTS.split("\n\n") {
+        assert!(rt; block_writes_lines(rt.alloc(), block)?, "{block}");
+    }
+    Ok(())
+}
+
+/// True if a packet's line, which has 2,048 octets of hex and more, is written by 1,024 octets at once, and the next
+/// line by itself: what is written before the write of each number that fails.
+fn long_line_is_cut(alloc: Global) -> Result<bool, AllocError> {
+    let mut packet = String::from_str(alloc, "0201040501")?;
+    for _ in 0..1024 {
+        packet.push_str("61")?;
+    }
+    let given = Given::whole("decode", packet.as_bytes());
+    let (_, whole) = given.answered(alloc)?;
+    let text = whole.written();
+    let mut is_cut = text.ends_with(b"\npackets 1 malformed 0\n") && text.len() > 2070;
+    for (call, wrote) in [(1, 0), (2, 1024), (3, 2048)] {
+        let failing = Given {
+            write: 2000,
+            failing_write: call,
+            ..given
+        };
+        is_cut &= failing.writes(alloc, Status::WriteFault, &text[..wrote])?;
+    }
+    let failing = Given {
+        write: 2000,
+        failing_write: 4,
+        ..given
+    };
+    let first = first_lines(text, 1);
+    Ok(is_cut && failing.writes(alloc, Status::WriteFault, first)?)
+}
+
+#[test]
+fn a_long_line_is_written_by_1024_octets(rt: HostRuntime) -> Result<(), Fail> {
+    assert!(rt; long_line_is_cut(rt.alloc())?);
     Ok(())
 }
 

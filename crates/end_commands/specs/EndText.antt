@@ -52,4 +52,4 @@ tolds_text taken (told ∷ rest) = told_text (taken + 1) told ++ tolds_text (tak
 
 -- the last lines
 unfoldable pub last_text : State → List ℕ
-last_text state = concat (codes "state " ∷ state_word state ∷ codes "\nend\n" ∷ [])
+last_text state = concat (codes "state " ∷ state_word state ∷ codes "\n" ∷ codes "end\n" ∷ [])

@@ -44,7 +44,8 @@ pub fn write_last<W: Sink>(sink: &mut W, state: State) -> Result<(), Failed>
         &[
             Text(b"state "),
             Text(state.word().as_bytes()),
-            Text(b"\nend\n"),
+            Text(b"\n"),
+            Text(b"end\n"),
         ],
     )
 }
