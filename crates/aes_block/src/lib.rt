@@ -49,6 +49,7 @@ impl Model for Aes128 {
 
 impl Aes128 {
     /// Expands a key.
+    #[inline(never)]
     pub fn new(key: &[u8; 16]) -> Aes128
         ensures { result ≡ key.now }
     {
@@ -83,11 +84,19 @@ impl Aes128 {
     pub fn encrypt(&self, block: &[u8; 16]) -> [u8; 16]
         ensures { result ≡ aes128 self.now block.now }
     {
-        let mut state = begin(u8x16::from_array(*block), self.key);
+        self.encrypt_lanes(u8x16::from_array(*block)).to_array()
+    }
+
+    // The same in a register. (The ten rounds are two kilobytes of code, so they stand once.)
+    #[inline(never)]
+    fn encrypt_lanes(&self, block: u8x16) -> u8x16
+        ensures { result ≡ aes128 self.now block }
+    {
+        let mut state = begin(block, self.key);
         for round in 0..9 {
             let next = full_round(state, self.full_keys[round].lanes);
             state = next;
         }
-        last_round(state, self.last_key).to_array()
+        last_round(state, self.last_key)
     }
 }
