@@ -34,6 +34,10 @@ def crates_of(text: str) -> Crates:
     return {name: [it for it in below if it in named] for name, below in named.items()}
 
 
+def with_those_below(crate: str, depends: Crates) -> set[str]:
+    return {crate}.union(*(with_those_below(it, depends) for it in depends[crate]))
+
+
 def layers_of(text: str) -> dict[str, Crates]:
     """The crates under the heads of their layers, which are comments each behind an empty line."""
     layers: dict[str, Crates] = {}
