@@ -3,6 +3,7 @@ made octet by octet, with MACs by Python's HMAC; what is to be said follows from
 
 from __future__ import annotations
 
+import ast
 import os
 import re
 import struct
@@ -13,36 +14,38 @@ from typing import Iterator, Optional
 from cases.lib import wire
 from cases.lib.small import Run, holds
 from cases.lib.wire import GROUP, KEY, OTHER_KEY, START, SWITCH, Item, Login, altered, eap
-from lib import listening
+from lib import listening, reasons
 
 # By its name, what a sentence is known by.
 SENTENCES = {
     "cut": "octets: so what failed can't be said", "cut good": "octets: so no MAC that rests on it is judged",
     "fragment": "isn't whole, being a fragment", "unsure": "of several stations are left out", "long": "packets more, which are left out",
-    "echo": "who gets it refuses it, whatever its MAC", "repeats": "the peer takes it for a repetition of packet",
+    "echo": "compares them refuses it, whatever its MAC", "repeats": "the peer takes it for a repetition of packet",
     "altered": "it was altered on its way, for it came again with a right one", "first right": "though this login's first MAC is right",
     "unsure MAC": "which isn't sure to be that of its own login", "other right": "of this login has a right one under the key given",
     "took": "both ends have another key than that", "wrong key": "the peer has another key, or an octet was changed",
     "refused": "the server ended the login with packet", "received": "received [0-9a-f]{64}, computed ([0-9a-f]{64}) by the key named",
     "no key": "its MAC isn't judged: no key is given", "other method": "its MAC isn't judged: the key given for alice is one of",
     "malformed": "it is malformed", "no context": "isn't judged, since the message that it rests on isn't in the capture",
-    "again": "again after .* s: no answer had come", "again answered": "hadn't come to it, or it discarded it",
+    "again": "again after .* s: no answer is here", "again answered": "hadn't come to it, or it discarded it",
     "ignored": "by Error-Cause 202", "twice": "ms later: captured twice", "no user": "Fail, PSK Not Found: the server has no key",
     "barred": "Authorization Failure: the server knows alice, and bars it", "says barred": "it says that the server knows alice",
     "forged end": "the server didn't send it\\. Nothing", "maybe forged": "or what came between isn't in the capture",
     "peer on": "the peer went on with", "nothing before": "what came before it isn't in the capture",
-    "gap": "packets between both aren't in the capture", "at once": "at once: it has no such user, or no method",
+    "gap": "packets between both aren't in the capture", "at once": "at once: it has no such user, no method for it, or bars",
     "given": "the users given are", "no method": "no method in common", "outer": "whose name isn't the Identity's",
-    "server's key": "the server itself has another key", "some key": "another key, or no such user there",
-    "policy": "last message: it bars this user", "policy or MAC": "last message: it found its MAC wrong",
-    "unanswered": "the server ended the login without an answer", "began again": "the station began again by EAPOL-Start",
+    "server's key": "the server itself has another key", "some key": "it has another key, or no such user, or bars it, or",
+    "policy": "or its policy refuses, or it got another", "policy or MAC": "or its policy refuses, or it found its MAC wrong",
+    "unanswered": "to which no answer is here: none came", "began again": "the station began again by EAPOL-Start",
     "radius silent": "no answer of the RADIUS server", "next": "another login begins: an end was restarted",
-    "no gpsk2": "the peer doesn't answer it: it allows no", "server silent": "didn't answer, the answer was lost",
-    "no supplicant": "no supplicant runs at the station", "peer silent": "the peer discarded it, or is gone",
-    "ended": "or the capture ended before", "method": "alone are judged", "expanded": "\\(Expanded Types\\), whose MACs",
+    "no gpsk2": "the peer allows no ciphersuite of the list", "server silent": "behind the access point, didn't answer",
+    "no supplicant": "no supplicant runs at the station", "peer silent": "the peer discarded it, is gone",
+    "ended": "or the capture ended before", "no suites": "the peer accepts another", "no last": "no PSK-4|no GPSK-4 is before it", "method": "alone are judged", "expanded": "\\(Expanded Types\\), whose MACs",
     "nonce": "in another login: a nonce has to be fresh", "starts": "sent EAPOL-Start, \\d+ times, and no Request",
     "interfaces": "at several interfaces, each taken once", "end of file": "it ends within record", "secret": "is wrong under the secret given",
-    "good": "ended with Success, and each MAC that was judged is right",
+    "good": "ended with Success, and each MAC that was judged is right", "proxy": "that a proxy passed on",
+    "says wrong": "the server found the MAC wrong", "says code": "the server ends the method by the code 9", "near": "with its case, its",
+    "no name": "a user without a name", "many": "2 more packets are cut so", "odd radius": "around it isn't well-formed \\(",
 }
 GOOD, BAD, BOB = Login(), Login(psk=OTHER_KEY), Login(user=b"bob", rand_p=b"\x33" * 32, rand_s=b"\x44" * 32, at=40)
 LATER = Login(rand_p=b"\x55" * 32, rand_s=b"\x66" * 32, at=90)
@@ -80,6 +83,8 @@ LOGINS: list[tuple[str, list[Item], str, str]] = [
     ("another user is given", [*WRONG], "no key, given, some key", "alicia 51 " + KEY.hex()),
     ("both ends have another key", [*BAD.whole], "took, received", ""),
     ("a wrong name", [Login(b"alicia").asked, Login(b"alicia").named, eap(4, 1)], "at once, given", ""),
+    ("a name of another case", [Login(b"Alice").asked, Login(b"Alice").named, eap(4, 1)], "at once, given, near", ""),
+    ("no name, without a key", [GOOD.asked, eap(2, 1, b"\1"), GOOD.gpsk1, Login(b"").gpsk2, FAILURE], "no key, no name, some key", ""),
     ("a name that is given", [GOOD.asked, GOOD.named, eap(4, 1)], "at once", ""),
     ("another name outside", [GOOD.asked, eap(2, 1, b"\1anonymous"), GOOD.gpsk1, GOOD.gpsk2, FAILURE], "outer", ""),
     ("no method in common", [*GOOD.front, NAK, FAILURE], "no method", ""),
@@ -100,6 +105,8 @@ LOGINS: list[tuple[str, list[Item], str, str]] = [
     ("the same without a key", [*GOOD.whole[:6], eap(4, 3)], "no key, policy or MAC", ""),
     ("a barred user", [*GOOD.whole[:4], GOOD.fail(3, GOOD.sk), eap(2, 3, GOOD.fail(3, GOOD.sk)[4:]), eap(4, 3)], "barred", ""),
     ("the same without a key", [*GOOD.whole[:4], GOOD.fail(3, GOOD.sk), eap(4, 3)], "no key, says barred", ""),
+    ("a MAC that the server finds wrong", [*GOOD.whole[:4], GOOD.fail(2), eap(4, 3)], "says wrong", ""),
+    ("a code that no standard has", [*GOOD.whole[:4], GOOD.fail(9), eap(4, 3)], "says code", ""),
     ("an unknown user", [*GOOD.whole[:4], GOOD.fail(1), eap(2, 3, GOOD.fail(1)[4:]), eap(4, 3)], "no user", ""),
     ("a lost answer", [*GOOD.whole[:3], 3.0, *GOOD.whole[2:]], "good, again", ""),
     ("a doubled Request", [*GOOD.whole[:3], -0.009, *GOOD.whole[2:]], "good, twice", ""),
@@ -113,6 +120,9 @@ LOGINS: list[tuple[str, list[Item], str, str]] = [
     ("the end isn't there", [*GOOD.whole[:4]], "server silent, ended", ""),
     ("the peer is silent", [*GOOD.whole[:5]], "peer silent, ended", ""),
     ("the peer takes no offer", [*GOOD.front], "no gpsk2, ended", ""),
+    ("the same by EAP-PSK", [*GOOD.front[:2], eap(1, 2, b"\x2f\0" + bytes(16) + b"srv")], "no suites, ended", ""),
+    ("a Success before the last message", [*GOOD.whole[:4], eap(3, 2)], "good, no last", ""),
+    ("a malformed GPSK-2", [*GOOD.front, GOOD.gpsk2[:2] + b"\3\0" + GOOD.gpsk2[4:], FAILURE], "malformed", ""),
     ("nobody answers", [GOOD.asked, 3.0, GOOD.asked], "no supplicant, ended, again", ""),
     ("a station that begins again", [*GOOD.whole[:4], 2.4, START, *LATER.whole], "began again, good", ""),
     ("the same without EAPOL-Start", [*GOOD.whole[:4], *LATER.whole], "next, good", ""),
@@ -139,10 +149,12 @@ def files() -> Iterator[tuple[str, bytes, str, str]]:
         yield name, wire.pcap(framed(*items)), wanted, "" if "without a key" in name else users or key
     wrong = framed(*WRONG)
     broken = (STATION_FRAME, b"\1\0\0\x99" + BAD.gpsk2)
+    yield "a Failure in the middle of what is cut", wire.pcap(framed(*BAD.front, FAILURE, broken, BAD.gpsk3)), "fragment", key
     yield "a frame that is shorter than it says", wire.pcap(framed(*BAD.front, broken, FAILURE)), "fragment", key
     for snap in (32, 64, 96, 128):
         yield f"-s {snap}", wire.pcap(wrong, snap), "cut", key
     yield "-s 96 of a good login", wire.pcap(framed(*GOOD.whole), 96), "cut good", key
+    yield "-s 30 of a login with repetitions", wire.pcap(framed(*GOOD.front, *GOOD.whole[2:6], *GOOD.whole[5:]), 30), "cut good, many", key
     yield "times in nanoseconds", wire.pcap(wrong, magic=0xA1B23C4D), REFUSED, key
     yield "cooked", wire.pcap([(at, wire.cooked(it)) for at, it in wrong], link=113), REFUSED, key
     yield "cooked, in and out", wire.pcap([(at, wire.cooked(it, way)) for at, it in wrong for way in (0, 4)], link=113), (
@@ -164,6 +176,12 @@ def files() -> Iterator[tuple[str, bytes, str, str]]:
     yield "RADIUS with -s 128", wire.pcap(framed(*wire.by_radius(WRONG[1:])), 128), "cut", key
     yield "RADIUS, another secret", wire.pcap(framed(*wire.by_radius(GOOD.whole[1:]))), "secret, good", key + " --secret x"
     asked = wire.radius(1, 0, GOOD.named)
+    yield "RADIUS, refused by another Identifier", wire.pcap(framed(asked, wire.radius(3, 0, eap(4, 9)))), "at once", key
+    hops = [(head, ip[:12] + ends + ip[20:]) for it in wire.by_radius(WRONG[1:]) for head, ip in [it] for ends in passed(ip[15])]
+    yield "RADIUS through a proxy", wire.pcap(framed(*hops)), REFUSED + ", proxy", key
+    yield "RADIUS at another server", wire.pcap(framed(asked, 3.0, (asked[0], asked[1][:19] + b"\3" + asked[1][20:]))), "radius silent", key
+    odd = (asked[0], asked[1][:-17] + b"\x20" + asked[1][-16:])
+    yield "RADIUS, an attribute that is too long", wire.pcap(framed(odd)), "odd radius, radius silent, ended", key + " --secret x"
     yield "RADIUS is down", wire.pcap(framed(asked, 3.0, asked)), "radius silent", key
     yield "RADIUS, one request", wire.pcap(framed(asked)), "radius silent, ended", key
     first, answer, *_ = wire.by_radius([GOOD.named, GOOD.gpsk1])
@@ -181,6 +199,12 @@ def stations(is_silent: bool = False) -> list[tuple[float, bytes]]:
     return to_group([(end, it[at]) for at in range(7) for end, it in zip(ends, logins) if at < len(it)])
 
 
+def passed(sender: int) -> list[bytes]:
+    """The addresses between the client, a proxy and the server, hop by hop."""
+    client, proxy, server = (b"\x0a\0\0" + bytes([it]) for it in (1, 2, 3))
+    return [client + proxy, proxy + server] if sender == 1 else [server + proxy, proxy + client]
+
+
 def found_in(out: str) -> set[str]:
     return {name for name, text in SENTENCES.items() if re.search(text, out)}
 
@@ -194,6 +218,37 @@ def case_reasons(run: Run) -> Iterator[Optional[str]]:
         came |= found
         yield holds(found == set(wanted.split(", ")), f"{name}: wanted {wanted}, found {sorted(found)}: {out}{errors}")
     yield holds(came == set(SENTENCES), f"no capture has {sorted(set(SENTENCES) - came)}")
+
+
+# What can't come: that both ends succeed and don't agree is proved never to be.
+NEVER = ("both ends succeeded, and don't agree",)
+
+
+def scenarios() -> Iterator[str]:
+    """The texts of the examples, and what none of them has."""
+    for path in sorted(Path("examples").glob("*.scenario")):
+        yield path.read_text()
+    smooth, nonces = (Path(f"examples/{it}.scenario").read_text() for it in ("gpsk-login", "fresh-no"))
+    packet = re.findall(r"octets (\w+)", Path("examples/gpsk-login.names").read_text())[3]
+    yield smooth.replace("deliver 4", f"inject server {altered(bytes.fromhex(packet), -1).hex()}")
+    yield re.sub("(server-nonce 2+\n)server-nonce 2+(?s:(.*))(restart)", rf"\1server-nonce {'77' * 32}\2inject peer {eap(1, 99, b'w' * 17).hex()}\n\3", nonces)
+
+
+def sentences() -> Iterator[str]:
+    """The pieces of text in the functions that give reasons, but for what they say of themselves."""
+    tree = ast.parse(Path(reasons.__file__).read_text())
+    heads = {it.body[0].value for it in ast.walk(tree) if isinstance(it, (ast.Module, ast.ClassDef, ast.FunctionDef)) and isinstance(it.body[0], ast.Expr)}
+    for it in ast.walk(tree):
+        if isinstance(it, ast.Constant) and isinstance(it.value, str) and it.value.count(" ") > 1 and it not in heads and "\\" not in it.value:
+            yield from (piece.strip() for piece in it.value.split("{user}") if piece.count(" ") > 1)
+
+
+def case_sentences(run: Run) -> Iterator[Optional[str]]:
+    """Each sentence that the reasons have comes of some capture or scenario."""
+    said = "".join("".join(run(["why", "-", *words.split()], octets)[1:]) for _, octets, _, words in files())
+    said += "".join(run(["why", "-"], it.encode())[1] for it in scenarios())
+    for it in sentences():
+        yield holds(it in said or it in NEVER, f"no case has the sentence `{it}`")
 
 
 def case_macs(run: Run) -> Iterator[Optional[str]]:

@@ -17,7 +17,7 @@ from lib.words import MOST_OCTETS
 User = tuple[str, str, str]
 EAPOL = frames.EAPOL.to_bytes(2, "big")
 NONE = float("nan")
-MOST_SHARED, MOST_WAITING = 65536, 16
+MOST_KNOWN, MOST_WAITING = 65536, 16
 
 
 class Packet(NamedTuple):
@@ -158,10 +158,14 @@ class Reading:
     cut: dict[int, tuple[int, int]] = field(default_factory=dict)
     left: Counter[str] = field(default_factory=Counter)
     twice: frames.Twice = field(default_factory=frames.Twice)
-    shared: dict[bytes, bytes] = field(default_factory=dict)
+    # (of frames with a whole packet, as they come again and again: the flow and the packet)
+    known: dict[bytes, tuple[int, bytes]] = field(default_factory=dict)
 
     def take(self, record: frames.Record, ports: Sequence[int]) -> None:
         octets, interface = record.frame, record.interface
+        if interface < 0 and (known := self.known.get(octets)):
+            self.put(record, *known)
+            return
         if octets[12:14] == EAPOL and record.link == frames.ETHERNET and interface < 0:
             self.take_eapol(record, octets[:12], octets[14:])
             return
@@ -192,13 +196,19 @@ class Reading:
         elif len(eap) < size or len(payload) < 4 or size > MOST_OCTETS:
             self.cut[record.number] = len(record.frame), record.wire
             eap = eap[:1]
+        elif eap and len(self.known) < MOST_KNOWN and len(record.frame) <= 64:
+            self.known[record.frame] = flow, eap
+        self.put(record, flow, eap)
+
+    def put(self, record: frames.Record, flow: int, eap: bytes) -> None:
+        packets, is_to_peer = self.packets, eap[:1] != b"\2"
         if eap:
-            self.votes[flow] += 1 if eap[0] == 2 else -1
-            if len(self.shared) > MOST_SHARED:
-                self.shared.clear()
-            eap = self.shared.setdefault(eap, eap)
+            self.votes[flow] += -1 if is_to_peer else 1
         self.of_flow.append(flow)
-        self.packets.append(record.number, eap[:1] != b"\2", eap, record.seconds + record.part / record.parts)
+        packets.numbers.append(record.number)
+        packets.times.append(record.seconds + record.part / record.parts)
+        packets.ways.append(is_to_peer)
+        packets.octets.append(eap)
 
     def by_eapol(self) -> list[Capture]:
         """The captures of EAPOL frames, one for each pair of a station and what it talks to."""
@@ -280,6 +290,7 @@ class Reading:
         """The captures of RADIUS packets that carry EAP, one for each station; a reply belongs to its request."""
         stations: dict[str, Capture] = {}
         requests: dict[object, frames.Radius] = {}
+        last: dict[tuple[str, int, bytes], bytes] = {}
         for packet in self.radius:
             it = packet.radius
             if it is None:
@@ -291,6 +302,10 @@ class Reading:
             name = (first.get(frames.CALLING_STATION) or first.get(frames.USER_NAME)).decode("latin-1")
             if not packet.octets and it.octets[0] != 3 and not it.is_cut:
                 self.left["of RADIUS without EAP"] += 1
+                continue
+            to, last[name, it.octets[0], packet.octets] = last.get((name, it.octets[0], packet.octets)), it.to[0]
+            if to == it.source[0] != it.to[0]:
+                self.left["of RADIUS that a proxy passed on, as those before them"] += 1
                 continue
             station = stations.setdefault(name, Capture(Packets(), station=name, name="radius_" + re.sub("[^A-Za-z0-9.-]", "_", name)))
             station.numbers.append(packet.number)

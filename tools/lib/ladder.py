@@ -28,7 +28,8 @@ MARKS = {
 class Row:
     """A row: `kind` is arrow, injected, lost, mark or skip; `number` is the packet's, `event` that of the event, where
     there is one. What happened on the way is in `changes`, and `was` has the octets as they were sent, where these are
-    others. `finding` is the program's line of it, without the number; `at` the time in a file."""
+    others. `finding` is the program's line of it, without the number; `at` the time in a file; a RADIUS
+    packet and its answer have the same `exchange`."""
 
     kind: str
     number: str = ""
@@ -45,6 +46,7 @@ class Row:
     finding: str = ""
     at: Optional[float] = None
     carrier: str = ""
+    exchange: int = 0
     is_ignored: bool = False
     is_other: bool = False
 
@@ -245,6 +247,7 @@ def rows_of(part: Packets, findings: Sequence[str]) -> list[Row]:
         row.finding, row.at = finding, it.at
         if it.radius:
             row.carrier = f"{it.radius.name}, {it.radius.verdict}" if it.radius.verdict else it.radius.name
+            row.exchange = id(it.radius.request or it.radius)
             row.is_ignored = it.radius.get(frames.ERROR_CAUSE) == frames.IGNORED
         rows.append(row)
     find_altered(rows)

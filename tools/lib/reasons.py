@@ -182,8 +182,8 @@ def of_echoes(login: Login) -> Iterator[Reason]:
         wrong = [name for name, its, other in pairs if its != other]
         are = "are not those" if len(wrong) > 1 else "is not that"
         yield Reason(row, f"its {' and '.join(wrong)} {are} of packet {login.rows[before].number}, {earlier}: one of both was "
-                     f"altered between the ends, or {message} is of another {earlier} than is here; who gets it refuses it, "
-                     "whatever its MAC")
+                     f"altered between the ends, or {message} is of another {earlier} than is here; an end that compares them "
+                     "refuses it, whatever its MAC")
 
 
 def of_repeats(login: Login) -> Iterator[Reason]:
@@ -307,7 +307,7 @@ def of_lost(login: Login) -> Iterator[Reason]:
             continue
         said = f"the server sent packet {first.number} again" + (f" after {after:.1f} s" if after is not None else "")
         if answer < before:
-            said += ": no answer had come; a packet was lost, or the peer discarded it"
+            said += ": no answer is here; a packet was lost or not captured, or the peer discarded it"
         elif row.is_ignored:
             said += f": it says by Error-Cause 202 that it ignored the answer, packet {login.rows[answer].number}"
         else:
@@ -325,7 +325,8 @@ def of_failure(login: Login) -> Iterator[Reason]:
                 yield Reason(row, code_said(login, at, code))
             told.add(row.octets)
         elif reading.message in ("Failure", "Success"):
-            if why := early_end(login, at) or (failure(login, at) if reading.message == "Failure" and at == login.end else ""):
+            ended = {"Failure": failure, "Success": success}[reading.message]
+            if why := early_end(login, at) or (ended(login, at) if at == login.end else ""):
                 yield Reason(row, why)
 
 
@@ -356,8 +357,10 @@ def early_end(login: Login, at: int) -> str:
     said += ("the server didn't send it" if follows or login.messages[goes_on] == "Success" else
              "the server didn't send it, or what came between isn't in the capture")
     said += f". Nothing authenticates a {message}, so anybody can send one"
+    if not login.is_whole:
+        return ""
     is_silent = login.messages[goes_on] != "Success" and login.first(*OF_PEER, after=goes_on) is None
-    return said + ("; the peer believed it, and answered no more" if is_silent else "")
+    return said + ("; the peer may have believed it, for no more answer of it is here" if is_silent else "")
 
 
 def failure(login: Login, at: int) -> str:
@@ -369,32 +372,43 @@ def failure(login: Login, at: int) -> str:
     if last is None:
         return "what came before it isn't in the capture, so what failed can't be said"
     here, ended = login.read[last], f"the server ended the login after {login.called(last)}"
-    if here.number.get("Identifier") != login.read[at].number.get("Identifier"):
+    is_next = login.rows[at].exchange and login.rows[at].exchange == login.rows[last].exchange
+    if here.number.get("Identifier") != login.read[at].number.get("Identifier") and not is_next:
         return (f"its Identifier is {login.read[at].number.get('Identifier')}, and that of packet {login.rows[last].number}, the last "
-                f"before it, {here.number.get('Identifier')}: packets between both aren't in the capture, so what failed can't be said")
+                f"before it, {here.number.get('Identifier')}: packets between both aren't in the capture, or the server sets it otherwise, so what failed can't be said")
+    if login.rows[last].word == "malformed":
+        return ended
     if here.message == "Identity" and login.rows[last].sender == "peer":
         is_given = any(user == here.identity for user, _, _ in login.users)
         rule = f"; {users_given(login, here.identity)}" if login.users and not is_given else ""
-        return f"the server refused {named(here.identity)} at once: it has no such user, or no method for it{rule}"
+        return f"the server refused {named(here.identity)} at once: it has no such user, no method for it, or bars it{rule}"
     if here.message == "Nak":
         return no_method(login, last)
     outer = login.outer(at)
     if here.message in SECOND and outer and outer != here.identity:
         login.tries.append("let the station give one name, or the server take the name inside (FreeRADIUS: `inner_identity = yes`)")
-        return f"{ended}, whose name isn't the Identity's, `{outer}`: it may refuse that, or have another key, or no such user"
+        return f"{ended}, whose name isn't the Identity's, `{outer}`: it may refuse that, have another key or no such user, or bar it, or the name was altered"
     if here.message in SECOND and login.rows[last].word == "tag-good":
         login.tries.append("give the key that the server has: a wrong MAC under it says that the peer's is another")
         return (f"{ended}, whose MAC is right under the key given: the server itself has another key for this user, or no such "
                 "user, or bars it, or got another packet than this one")
     if here.message in SECOND:
-        return f"{ended}: another key, or no such user there"
+        return f"{ended}: it has another key, or no such user, or bars it, or got another packet than the peer sent"
     if here.message in LAST:
         login.tries.append("look whether the server bars this user: EAP-PSK says so under encryption alone")
-        found = "" if login.rows[last].word == "tag-good" else "it found its MAC wrong, "
-        return f"the server ended the login after the method's last message: {found}it bars this user, or its policy refuses"
-    if here.message in FIRST or login.rows[last].sender == "server":
-        return f"the server ended the login without an answer to {login.called(last)}"
+        found = ", or it got another packet than this one" if login.rows[last].word == "tag-good" else ", or it found its MAC wrong"
+        return f"the server ended the login after the method's last message: it bars this user, or its policy refuses{found}"
+    if login.rows[last].sender == "server":
+        return f"{ended}, to which no answer is here: none came, or it isn't captured"
     return ended
+
+
+def success(login: Login, at: int) -> str:
+    """What a Success can mean that has no last message of the method before it."""
+    if not login.kind or not login.is_whole or login.first(*LAST) is not None:
+        return ""
+    return (f"no {LAST[login.kind == '47']} is before it: packets aren't in the capture, or the server didn't send it, for nothing "
+            "authenticates a Success")
 
 
 def no_method(login: Login, nak: int) -> str:
@@ -403,7 +417,7 @@ def no_method(login: Login, nak: int) -> str:
     login.tries.append("let the server propose a method that the peer allows, or the peer allow the server's")
     kind = "EAP-GPSK" if asked.startswith("GPSK") else "EAP-PSK" if asked.startswith("PSK") else asked
     return (f"no method in common: the server proposed {kind}, the peer desired {desired} instead (packet "
-            f"{login.rows[nak].number}), and the server has nothing of that to propose")
+            f"{login.rows[nak].number}), and the server has nothing of that for this user")
 
 
 def of_no_end(login: Login) -> Iterator[Reason]:
@@ -413,7 +427,8 @@ def of_no_end(login: Login) -> Iterator[Reason]:
     last, by_peer = login.rows[-1], [it for it in login.rows if it.sender == "peer"]
     starts = [it for it in login.starts if it[0] > int(last.number)]
     is_over = last.at is not None and login.until is not None and login.until - last.at > LONG_SECONDS
-    ended = "" if is_over else ", or the capture ended before"
+    lost = "it or its answer was lost or isn't captured"
+    lost = f"or {lost}" if is_over else f"{lost}, or the capture ended before"
     if starts and by_peer:
         after = f", {starts[0][1] - last.at:.1f} s later" if last.at is not None else ""
         yield Reason(last, f"the station began again by EAPOL-Start (packet {starts[0][0]}{after}) in the middle of the login: it "
@@ -423,20 +438,21 @@ def of_no_end(login: Login) -> Iterator[Reason]:
         wrong = any(it.carrier.endswith("tag-bad") for it in login.rows)
         yield Reason(last, f"no answer of the RADIUS server to it is here, sent {again} time{'s' * (again > 1)}" + ("" if wrong else
                            ": it is down or can't be reached, doesn't know this client's address, has another secret (`--secret TEXT` "
-                           "judges that)" + (ended if again == 1 else "")))
+                           "judges that), or its answer isn't captured" + (", or the capture ended before" if again == 1 and not is_over else "")))
     elif login.next is not None:
         yield Reason(last, f"no answer to it is here, and with packet {login.next} another login begins: an end was restarted or "
                            "gave up, or packets aren't in the capture")
     elif login.messages[-1] in FIRST:
-        yield Reason(last, "the peer doesn't answer it: it allows no ciphersuite of the list, accepts another server "
-                           f"name than `{login.read[-1].identity}`, its answer was lost{ended}")
+        suites = "allows no ciphersuite of the list, " * (login.messages[-1] == "GPSK-1")
+        yield Reason(last, f"no answer to it is in the capture: the peer {suites}accepts another server name than "
+                           f"`{login.read[-1].identity}`, {lost}")
     elif last.sender == "peer":
         yield Reason(last, "no answer to it is in the capture: the server, or the login server behind the access point, didn't "
-                           f"answer, the answer was lost{ended}")
+                           f"answer, {lost}")
     elif not by_peer:
-        yield Reason(last, f"no answer to it is in the capture: no supplicant runs at the station, its answer was lost{ended}")
+        yield Reason(last, f"no answer to it is in the capture: no supplicant runs at the station, {lost}")
     else:
-        yield Reason(last, f"no answer to it is in the capture: the peer discarded it, or is gone, the answer was lost{ended}")
+        yield Reason(last, f"no answer to it is in the capture: the peer discarded it, is gone, {lost}")
 
 
 def of_others(login: Login) -> Iterator[Reason]:
@@ -459,8 +475,8 @@ def of_others(login: Login) -> Iterator[Reason]:
 RULES: tuple[Callable[[Login], Iterator[Reason]], ...] = (
     of_missing, of_echoes, of_repeats, of_tags, of_lost, of_failure, of_no_end, of_others)
 NONCES = {"GPSK-1": "RAND_Server", "PSK-1": "RAND_S", "GPSK-2": "RAND_Peer", "PSK-2": "RAND_P"}
-# The packets that are told of a login, its cut packets, and how many are judged at once; seconds.
-MOST_ROWS, MOST_CUT, MOST_AT_ONCE = 4096, 4, 20000
+# The packets that are told of a login, its cut packets, those of one reason, and how many are judged at once; seconds.
+MOST_ROWS, MOST_CUT, MOST_LISTED, MOST_AT_ONCE = 4096, 4, 12, 20000
 TWICE_SECONDS, AT_ONCE_SECONDS, LONG_SECONDS = 0.005, 0.05, 5
 
 
@@ -482,9 +498,7 @@ class Nonces:
                                   "or an old login can be played again")
             elif name:
                 own.setdefault(nonce, row.number)
-        self.seen = {**own, **self.seen} if not self.seen else self.seen
-        for nonce, number in own.items():
-            self.seen.setdefault(nonce, number)
+        self.seen = {**own, **self.seen}
         self.open = set() if login.end is not None else {it.octets for it in login.rows}
 
 
@@ -496,7 +510,8 @@ def folded(reasons: list[Reason]) -> list[Reason]:
         groups.setdefault((it.row.reading.called if it.row else it.text, text), []).append(it)
     found = []
     for first, *others in groups.values():
-        numbers = ", ".join(it.row.number for it in others if it.row)
+        numbers = ", ".join(it.row.number for it in others[:MOST_LISTED] if it.row) + f" and {len(others) - MOST_LISTED} more" * (
+            len(others) > MOST_LISTED)
         more = f"; the same of packet{'s' * (len(others) > 1)} {numbers}" if others else ""
         found.append(Reason(first.row, first.text + more))
     return found
@@ -520,7 +535,7 @@ def story_of_login(login: Login, nonces: Nonces) -> Story:
             said = "a MAC is wrong, or a packet malformed"
         elif any(it.word == "tag-bad" for it in login.rows):
             said = "what was altered came again with a right MAC"
-        story = Story("open" if is_bad or not judged else "good", f"{front}: it ended with Success, and {said}")
+        story = Story("open" if is_bad or not judged or success(login, 0) else "good", f"{front}: it ended with Success, and {said}")
     elif "Failure" in login.messages or login.has_code:
         story = Story("bad", f"{front}: it failed")
     else:
@@ -610,7 +625,7 @@ def discard(ladder: Ladder, row: Row) -> str:
         at = row.altered[0] if row.altered else 0
         said = f"octet {at} was altered on its way ({row.octets[at]:02x}, sent as {row.was[at]:02x})"
     elif row.cause == "BadTag":
-        said = "its MAC is wrong under the key that the {party} has".format(party=party) + (
+        said = f"its MAC is wrong under the key that the {party} has" + (
             keys_differ(replay, row.reading) or ": the other end has another key, or an octet was changed on its way")
     return f"the {party} discards it ({row.cause}): {said}"
 

@@ -313,8 +313,7 @@ CAUSES = (
     Cause("Short", "fewer than 4 octets came"),
     Cause("BadCode", "Code isn't 1 to 4"),
     Cause("BadLength", "Length is under 4, or under 5 for a Request or a Response, or isn't 4 for a Success or a Failure"),
-    Cause("Truncated", "Length is over the octets that came", "its Length is over the octets that came: it was cut on its "
-          "way"),
+    Cause("Truncated", "Length is over the octets that came"),
     Cause("TooLong", "Length is over 1,500"),
     Cause("NakRequest", "a Request of Type 3 (Nak)"),
     Cause("BadNak", "a Response of Type 3 (Nak) with no Type-Data"),
