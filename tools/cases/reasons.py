@@ -209,17 +209,6 @@ def found_in(out: str) -> set[str]:
     return {name for name, text in SENTENCES.items() if re.search(text, out)}
 
 
-def case_reasons(run: Run) -> Iterator[Optional[str]]:
-    """Of each kind the sentences that are to come, and no other one; each comes of some, and so doesn't of others."""
-    came: set[str] = set()
-    for name, octets, wanted, words in files():
-        _, out, errors = run(["why", "-", *words.split()], octets)
-        found = found_in(out + errors)
-        came |= found
-        yield holds(found == set(wanted.split(", ")), f"{name}: wanted {wanted}, found {sorted(found)}: {out}{errors}")
-    yield holds(came == set(SENTENCES), f"no capture has {sorted(set(SENTENCES) - came)}")
-
-
 # What can't come: that both ends succeed and don't agree is proved never to be.
 NEVER = ("both ends succeeded, and don't agree",)
 
@@ -243,9 +232,16 @@ def sentences() -> Iterator[str]:
             yield from (piece.strip() for piece in it.value.split("{user}") if piece.count(" ") > 1)
 
 
-def case_sentences(run: Run) -> Iterator[Optional[str]]:
-    """Each sentence that the reasons have comes of some capture or scenario."""
-    said = "".join("".join(run(["why", "-", *words.split()], octets)[1:]) for _, octets, _, words in files())
+def case_reasons(run: Run) -> Iterator[Optional[str]]:
+    """Of each kind the sentences that are to come, and no other one; each comes of some, and so doesn't of others. There is
+    no sentence that comes of none."""
+    said = ""
+    for name, octets, wanted, words in files():
+        _, out, errors = run(["why", "-", *words.split()], octets)
+        said += out + errors
+        found = found_in(out + errors)
+        yield holds(found == set(wanted.split(", ")), f"{name}: wanted {wanted}, found {sorted(found)}: {out}{errors}")
+    yield holds(found_in(said) == set(SENTENCES), f"no capture has {sorted(set(SENTENCES) - found_in(said))}")
     said += "".join(run(["why", "-"], it.encode())[1] for it in scenarios())
     for it in sentences():
         yield holds(it in said or it in NEVER, f"no case has the sentence `{it}`")
