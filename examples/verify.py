@@ -199,6 +199,8 @@ class End:
         code, number = given[0], given[1]
         if given[4] == 1:
             return packet(code, number, b"\x01" + (scenario.id_p if code == 2 else b""))
+        if given[4] == 2 and code == 2:  # RFC 3748 section 5.2: no Type-Data
+            return packet(code, number, b"\x02")
         if given[4] == 3:
             return packet(code, number, b"\x03" + bytes(int(it) for it in scenario.said["peer-methods"]))
         if given[4] == 51:

@@ -678,7 +678,7 @@ def of_ends(ladder: Ladder) -> Iterator[Reason]:
             since = next((at for at, it in enumerate(ladder.rows) if it.octets == asked), 0)
             taken = "was taken" if any(it.cause and it.receiver == party for it in ladder.rows[since:]) else "came"
             yield Reason(row, f"the {party_name(party)} gives up: " + ("no answer of the server came any more" if is_lost else
-                              f"its Request was sent {retries(replay)} times again, and no answer {taken}"))
+                              f"its Request was sent {retries(replay)} more time{'s' * (retries(replay) != '1')}, and no answer {taken}"))
     lost = [it for it in ladder.rows if it.kind == "lost"]
     waits = [party for party, state in replay.states().items() if state.startswith("IDLE") or state == "AAA_IDLE"]
     if lost and waits and replay.has_losses:
