@@ -41,7 +41,7 @@ SENTENCES = {
     "no gpsk2": "the peer allows no ciphersuite of the list", "server silent": "behind the access point, didn't answer",
     "no supplicant": "no supplicant runs at the station", "peer silent": "the peer discarded it, is gone",
     "ended": "or the capture ended before", "no suites": "the peer accepts another", "no last": "no PSK-4|no GPSK-4 is before it", "method": "alone are judged", "expanded": "\\(Expanded Types\\), whose MACs",
-    "nonce": "in another login: a nonce has to be fresh", "starts": "sent EAPOL-Start, \\d+ times, and no Request",
+    "nonce": "in another login: a nonce has to be fresh", "starts": "sent EAPOL-Start, \\d+ times, and no Request is here",
     "interfaces": "at several interfaces, each taken once", "end of file": "it ends within record", "secret": "is wrong under the secret given",
     "good": "ended with Success, and each MAC that was judged is right", "proxy": "that a proxy passed on",
     "says wrong": "the server found the MAC wrong", "says code": "the server ends the method by the code 9", "near": "with its case, its",
@@ -269,6 +269,7 @@ def case_macs(run: Run) -> Iterator[Optional[str]]:
 TCPDUMP = """#!/bin/sh
 case " $* " in *" nowhere "*) echo "tcpdump: nowhere: No such device exists" >&2; exit 1 ;; esac
 cat "${0%/*}/file"
+case " $* " in *" any "*) exec sleep 1 ;; esac
 """
 
 
@@ -284,6 +285,9 @@ def case_interface(run: Run) -> Iterator[Optional[str]]:
             status, out, errors = run(["why", "-i", "eth0", "alice", "51", KEY.hex()])
             yield holds(status == 0 and found_in(out) == set(REFUSED.split(", ")), f"it says {out}{errors}")
             yield holds("capturing at eth0 by tcpdump, and waiting for a login" in errors, f"it waits for {errors}")
+            Path(f"{folder}/file").write_bytes(wire.pcapng(at_two([*WRONG])))
+            status, out, errors = run(["why", "-i", "any", "alice", "51", KEY.hex()])
+            yield holds(status == 0 and found_in(out) == {*REFUSED.split(", "), "interfaces"} and out.count("it failed") == 1, f"of any: {out}{errors}")
             status, out, errors = run(["why", "-i", "nowhere", "alice", "51", KEY.hex()])
             yield holds(status == 2 and not out and "tcpdump can't capture at nowhere: nowhere: No such" in errors, f"it says {errors}")
             listening.PATH = "/nowhere"

@@ -77,7 +77,8 @@ class Capture:
     """Packets in their order; the users, as the words NAME, KIND and KEY; what the text says of itself; the station, and
     what was left out of a file. Of frames without a whole EAP packet: those that are cut, by number, octets kept and octets
     on the wire, the EAPOL-Starts, by number and time, and how many other ones of several stations can be of this one;
-    the numbers of all frames, and the time of the file's last."""
+    the numbers of all frames, with the file's first capture those that came at another interface again, and the time of its
+    last."""
 
     packets: Packets
     users: list[User] = field(default_factory=list)
@@ -89,6 +90,7 @@ class Capture:
     unsure: int = 0
     name: str = ""
     numbers: array[int] = field(default_factory=lambda: array("I"))
+    again: set[int] = field(default_factory=set)
     until: Optional[float] = None
 
     def text(self) -> str:
@@ -172,13 +174,13 @@ class Reading:
         frame = frames.of_record(record)
         interface = frame.interface
         if frame.kind == frames.EAPOL:
-            if interface < 0 or not self.twice.is_again((frame.source, frame.payload), record.at, interface):
+            if interface < 0 or not self.twice.is_again((frame.source, frame.payload), record, interface):
                 self.take_eapol(record, frame.to + frame.source, frame.payload)
             return
         found = frames.radius_of(frame, ports)
         if found is None:
             self.left["without EAP"] += 1
-        elif interface < 0 or not self.twice.is_again((found.source[0], found.octets), record.at, interface):
+        elif interface < 0 or not self.twice.is_again((found.source[0], found.octets), record, interface):
             if found.is_cut:
                 self.cut[record.number] = len(octets), record.wire
             self.radius.append(record.number, not found.is_request, found.eap, record.at, found)
@@ -318,7 +320,8 @@ class Reading:
     def notes(self) -> list[str]:
         """What is left out."""
         self.left["that are cut: `tcpdump -s 0` keeps them whole"] = len(self.cut)
-        found = [f"frames that came at several interfaces, each taken once: {self.twice.count} left out"] * bool(self.twice.count)
+        again = len(self.twice.numbers)
+        found = [f"frames that came at several interfaces, each taken once: {again} left out"] * bool(again)
         return found + [f"left out: frames {what}: {count}" for what, count in sorted(self.left.items()) if count]
 
 
@@ -337,6 +340,7 @@ def of_records(records: Iterable[frames.Record], ports: Sequence[int] = ()) -> t
         it.until = until.at if until else None
     if found:
         found[0].notes = [reason] * bool(reason) + reading.notes()
+        found[0].again = reading.twice.numbers
     elif reason:
         raise Refused(reason)
     return found, reason
@@ -349,7 +353,8 @@ def of_file(file: BinaryIO, ports: Sequence[int] = ()) -> tuple[list[Capture], s
 
 def starts_said(it: Capture) -> str:
     return (f"{f'station {it.station}' if it.station else 'a station'} sent EAPOL-Start, {len(it.starts)} times, and no Request "
-            "came: the other end does no IEEE 802.1X, its port isn't set up for it, or its frames were lost")
+            "is here: the other end does no IEEE 802.1X, its port isn't set up for it, it waits after a failed login, or its frames "
+            "were lost or aren't captured")
 
 
 def of_pcap(octets: bytes, ports: Sequence[int] = ()) -> list[Capture]:

@@ -236,12 +236,12 @@ class Twice:
 
     def __init__(self) -> None:
         self.last: dict[tuple[bytes, bytes], tuple[float, int]] = {}
-        self.count = 0
+        self.numbers: set[int] = set()
 
-    def is_again(self, key: tuple[bytes, bytes], at: float, interface: int) -> bool:
-        before = self.last.get(key)
+    def is_again(self, key: tuple[bytes, bytes], record: Record, interface: int) -> bool:
+        before, at = self.last.get(key), record.at
         if before is not None and abs(at - before[0]) < TWICE_SECONDS and before[1] != interface:
-            self.count += 1
+            self.numbers.add(record.number)
             return True
         if len(self.last) >= MOST_KEPT:
             self.last = {it: seen for it, seen in self.last.items() if at - seen[0] < TWICE_SECONDS}

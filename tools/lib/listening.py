@@ -85,9 +85,11 @@ def logins(interface: str, ports: Sequence[int]) -> Iterator[Capture]:
                 continue
             kept = [it for it in kept if kept[-1].at - it.at < MOST_SECONDS]
             times = {it.number: it.at for it in kept}
-            for it in captures.of_records(kept, ports)[0] if kept else []:
+            found = captures.of_records(kept, ports)[0] if kept else []
+            for it in found:
                 if is_over(it, times[it.numbers[-1]], time.time()):
-                    kept = [its for its in kept if its.number not in it.numbers]
+                    gone = {*it.numbers, *found[0].again}
+                    kept = [its for its in kept if its.number not in gone]
                     it.until = time.time()
                     yield it
     except KeyboardInterrupt:
