@@ -31,7 +31,7 @@ struct settings {
 	char const	*key_attribute;
 	char const	*virtual_server;
 	char const	*session_id;
-	uint32_t	max_discards;
+	uint32_t	max_discards, timer_expire;
 	bool		inner_identity;
 	bool		one_per_station;
 	/* What these come to: the suites in the library's numbers, the attribute,
@@ -48,6 +48,7 @@ static CONF_PARSER const words[] = {
 	{ "virtual_server", FR_CONF_OFFSET(PW_TYPE_STRING, struct settings, virtual_server), NULL },
 	{ "session_id", FR_CONF_OFFSET(PW_TYPE_STRING, struct settings, session_id), "rfc" },
 	{ "max_discards", FR_CONF_OFFSET(PW_TYPE_INTEGER, struct settings, max_discards), "4" },
+	{ "timer_expire", FR_CONF_OFFSET(PW_TYPE_INTEGER, struct settings, timer_expire), "10" },
 	{ "inner_identity", FR_CONF_OFFSET(PW_TYPE_BOOLEAN, struct settings, inner_identity), "no" },
 	{ "one_per_station", FR_CONF_OFFSET(PW_TYPE_BOOLEAN, struct settings, one_per_station), "yes" },
 	CONF_PARSER_TERMINATOR
@@ -88,7 +89,7 @@ struct session {
 	eap_handler_t	*handler;
 	char		*user, *place;	/* as in the log: children of the handler */
 	char const	*text;		/* of the last BAD_PACKET */
-	uint32_t	discards;
+	uint32_t	discards, timer_expire;
 	int		trips;		/* the handler's, when the module was asked last */
 	int		key, keys;	/* the key that serves, of how many */
 	bool		goes_on;	/* its first Response has been taken */
@@ -159,6 +160,7 @@ static int instantiate(CONF_SECTION *cs, void **instance)
 	if (!stations) stations = rbtree_create(NULL, compare_places, NULL, 0);
 	if (!stations || xlat_register(MODULE_NAME, count_of, NULL, it) < 0) return -1;
 	instances++;
+	INFO("%s by %s", NAME, tuv_ident);
 	return 0;
 }
 
@@ -281,22 +283,30 @@ static eap_handler_t *oldest(rlm_eap_t *eap)
 	return NULL;
 }
 
+/* The login that waits longest is taken out where it has waited for too long, or
+ * where only a sixteenth of max_sessions is left. */
+static eap_handler_t *take_oldest(struct settings const *it, rlm_eap_t *eap)
+{
+	eap_handler_t *first = oldest(eap);
+	bool is_full = rbtree_num_elements(eap->session_tree) >= eap->max_sessions - eap->max_sessions / 16;
+
+	if (!first || (!is_full && time(NULL) - first->timestamp <= (time_t) it->timer_expire)) return NULL;
+	return take_out(eap, first) ? first : NULL;
+}
+
 /* Whoever can send identities can leave logins open. So a station's new login ends
- * the one that it has open; and where only a sixteenth of max_sessions is left, the
- * login that waits longest ends. */
+ * the one that it has open, and two of those that wait longest end by it. */
 static void make_room(struct settings const *it, struct session *s, rlm_eap_t *eap)
 {
-	eap_handler_t *first = NULL, *second = NULL;
+	eap_handler_t *taken[3] = { NULL };
 
 	/* (another rlm_eap than the one of the headers would have its methods elsewhere) */
 	if (!eap->methods[KIND] || eap->methods[KIND]->type != &MODULE) return;
 	pthread_mutex_lock(&eap->session_mutex);
-	if (it->one_per_station && s->has_station) first = replace(eap, s);
-	if (rbtree_num_elements(eap->session_tree) >= eap->max_sessions - eap->max_sessions / 16) second = oldest(eap);
-	if (second && !take_out(eap, second)) second = NULL;
+	if (it->one_per_station && s->has_station) taken[0] = replace(eap, s);
+	for (int i = 1; i < 3; i++) taken[i] = take_oldest(it, eap);
 	pthread_mutex_unlock(&eap->session_mutex);
-	talloc_free(first);
-	talloc_free(second);
+	for (int i = 0; i < 3; i++) talloc_free(taken[i]);
 }
 
 /* Whether rlm_eap will begin another method by the Nak that has come. */
@@ -322,13 +332,14 @@ static void tell_end(struct session *s)
 {
 	eap_handler_t *handler = s->handler;
 	rlm_eap_t *eap = handler->inst_holder;
+	time_t waited = time(NULL) - handler->timestamp;
 	enum reason reason;
 
 	if (handler->eap_ds && goes_on_by_nak(handler)) return;
 	if (handler->eap_ds) reason = NO_METHOD;
 	else if (!eap->session_tree) reason = STOPPED;
 	else if (handler->request) reason = handler->trips == s->trips ? TOO_MANY : BARRED;
-	else reason = time(NULL) - handler->timestamp > (time_t) eap->timer_limit ? TIMEOUT : GAVE_WAY;
+	else reason = waited > eap->timer_limit || waited > s->timer_expire ? TIMEOUT : GAVE_WAY;
 	tell(s, reason, reasons[reason].text);
 }
 
@@ -400,6 +411,7 @@ static int session_init(void *instance, eap_handler_t *handler)
 	handler->opaque = s;
 	handler->free_opaque = give_back;
 	s->trips = handler->trips;
+	s->timer_expire = it->timer_expire;
 	/* (each realm may have a name of its own) */
 	s->is_told = radius_axlat(&server, request, it->server_id, NULL, NULL) < 0;
 	if (s->is_told) return 0;
