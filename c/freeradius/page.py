@@ -1,16 +1,14 @@
-"""Follows docs/SERVERS.md from its first command to its last, for c/freeradius/check: over FreeRADIUS's stock configuration,
-in a mount namespace in which its folders are copies, so that nothing of this machine changes.
+"""Follows docs/SERVERS.md from its first command to its last, for c/freeradius/check, over a copy of this machine's files
+(apart): from one without FreeRADIUS on, which is installed, and whose source is fetched. Where the source is given, there is
+no network, and the copy has FreeRADIUS with its stock configuration.
 
-What stands for the machine's own: `sudo` and `systemctl`, c/freeradius/install (all is there), and in c/freeradius/build
-the unpacked source in place of `fetch`, since there is no network.
+What stands for the machine's own: sudo; systemctl; and apt-get, which alone is in the machine's network.
 """
 
 from __future__ import annotations
 
-import os
 import pathlib
 import re
-import shutil
 import subprocess
 from typing import List
 
@@ -18,11 +16,17 @@ import servers
 
 HERE = pathlib.Path(__file__).resolve().parent
 PAGE = servers.ROOT / "docs/SERVERS.md"
-
-SUDO = """#!/bin/sh
-exec "$@"
-"""
-SYSTEMCTL = """#!/bin/sh
+# What goes before the commands.
+BEFORE = r"""set -eu
+mkdir -p /page/bin
+cd /page
+ln -s {root}/c .
+PATH=/page/bin:/usr/sbin:/usr/bin:/sbin:/bin
+printf '#!/bin/sh\nexit 101\n' >/usr/sbin/policy-rc.d
+printf '#!/bin/sh\nexec "$@"\n' >bin/sudo
+printf '#!/bin/sh\nexec nsenter --net=/proc/self/fd/9 /usr/bin/apt-get "$@"\n' >bin/apt-get
+cat >bin/systemctl <<'TEXT'
+#!/bin/sh
 # systemctl restart freeradius
 set -eu
 pid=$(cat /run/freeradius/freeradius.pid 2>/dev/null || true)
@@ -32,34 +36,21 @@ if [ -n "$pid" ]; then
 fi
 install -d -o freerad -g freerad /run/freeradius
 exec freeradius
+TEXT
+chmod 755 bin/* /usr/sbin/policy-rc.d
 """
-INSTALL = """#!/bin/sh
-# (all is there)
-"""
-BUILD = """#!/bin/sh
-[ "$2" = fetch ] || exit 2
-exec {here}/build "$1" {source}
-"""
-# What goes before the commands, and behind them: each folder of FreeRADIUS is a copy, and a private /run.
-BEFORE = """set -eu
-mount --make-rprivate /
-for it in /etc/freeradius /usr/lib/freeradius /var/log/freeradius; do
-    mkdir -p {folder}/copies$it
-    cp -a $it/. {folder}/copies$it
-    chown --reference=$it {folder}/copies$it
-    mount --bind {folder}/copies$it $it
-done
-mount -t tmpfs tmpfs /run
-: >/var/log/freeradius/radius.log
-chown freerad:freerad /var/log/freeradius/radius.log
-PATH={folder}/bin:$PATH
-cd {folder}
+FRESH = """apt-get -qq -y purge 'freeradius*' 'libfreeradius*' eapoltest libtalloc-dev sqlite3 >purged 2>&1 || cat purged
+rm -rf /etc/freeradius /var/log/freeradius
+! command -v freeradius || exit 3
 """
 # (dave's login is refused, which is what the page promises)
 BEHIND = """
 eapol_test -c more/dave.conf -a 127.0.0.1 -s testing123 && exit 1
 kill "$(cat /run/freeradius/freeradius.pid)"
-cp /var/log/freeradius/radius.log {folder}/radius.log
+echo "---- log"
+cat /var/log/freeradius/radius.log
+echo "---- keys"
+cat */radcheck.sql
 """
 
 
@@ -67,36 +58,24 @@ def blocks(language: str) -> List[str]:
     return re.findall(rf"^```{language}\n(.*?)^```$", PAGE.read_text(), re.M | re.S)
 
 
-def write(path: pathlib.Path, text: str) -> None:
-    path.parent.mkdir(parents=True, exist_ok=True)
-    path.write_text(text)
-    path.chmod(0o755)
-
-
 class Followed:
-    """What came of it: the status, all that the commands wrote, and the lines that the modules logged."""
+    """What came of it: the status, all that the commands wrote, and what the server logged."""
 
     def __init__(self, work: str, source: str) -> None:
-        folder = pathlib.Path(work, "page")
-        shutil.rmtree(folder, ignore_errors=True)
-        for name, text in (("bin/sudo", SUDO), ("bin/systemctl", SYSTEMCTL), ("c/freeradius/install", INSTALL)):
-            write(folder / name, text)
-        write(folder / "c/freeradius/build", BUILD.format(here=HERE, source=source))
-        for name in ("tuvaddri", "eap", "dictionary", "status", "make-keys"):
-            (folder / "c/freeradius" / name).symlink_to(HERE / name)
-        script = BEFORE.format(folder=folder) + "".join(blocks("sh")) + BEHIND.format(folder=folder)
-        words = ["unshare", "-m", "sh", "-c", script]
-        done = subprocess.run(words, stdout=subprocess.PIPE, stderr=subprocess.STDOUT, text=True)
-        self.status, self.said = done.returncode, done.stdout
-        log = folder / "radius.log"
-        self.log = log.read_text(encoding="latin-1") if log.exists() else ""
-        for it in folder.glob("*/radcheck.sql"):
-            servers.know(it.read_text())
+        commands = "".join(blocks("sh"))
+        if source:
+            commands = commands.replace("modules fetch", f"modules {source}")
+        script = BEFORE.format(root=servers.ROOT) + ("" if source else FRESH) + commands + BEHIND
+        words = [f"{HERE}/apart", work, "sh", "-c", script]
+        # (descriptor 9 is the machine's network)
+        done = subprocess.run(words, stdout=subprocess.PIPE, stderr=subprocess.STDOUT, close_fds=False)
+        said, _, rest = done.stdout.decode("latin-1").partition("---- log\n")
+        self.status, self.said = done.returncode, said
+        self.log, _, keys = rest.partition("---- keys\n")
+        servers.know(keys)
 
 
-def reason_against() -> str:
+def reason_against(work: str) -> str:
     """Why the page can't be followed here; nothing if it can."""
-    if os.geteuid() or not os.access("/etc/freeradius/3.0/radiusd.conf", os.R_OK):
-        return "its folders are root's"
-    tried = subprocess.run(["unshare", "-m", "mount", "--make-rprivate", "/"], stdout=subprocess.PIPE, stderr=subprocess.STDOUT)
-    return tried.stdout.decode(errors="replace").strip() if tried.returncode else ""
+    tried = subprocess.run([f"{HERE}/apart", work, "true"], stdout=subprocess.PIPE, stderr=subprocess.STDOUT)
+    return tried.stdout.decode(errors="replace").strip() or f"status {tried.returncode}" if tried.returncode else ""

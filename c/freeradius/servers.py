@@ -120,14 +120,16 @@ class Server:
 
 
 class Searched(Server):
-    """A server in whose log keys are looked for at its end."""
+    """A server in whose log keys and reasons are looked for at its end."""
 
     logs = 0
     leaks: List[str] = []
+    reasons: Set[str] = set()
 
     def __exit__(self, *_: object) -> None:
         super().__exit__()
         Searched.logs += 1
+        Searched.reasons.update(re.findall(r" reason=([a-z-]+): ", "\n".join(self.lines())))
         Searched.leaks += [f"{self.log}: {it}" for it in keys_in(self.said())]
 
 
