@@ -44,7 +44,6 @@ MODULES = {
     # Keys in FreeRADIUS's own attribute; a name for each realm; wpa_supplicant's Session-Id; the first fault ends a login.
     "text": 'gpsk {\n\tserver_id = "srv-%{%{Realm}:-here}"\n\tsuites = 2\n\tsession_id = wpa\n\tmax_discards = 0\n}\n'
     'psk {\n\tserver_id = "srv-%{%{Realm}:-here}"\n}\n',
-    "pwd": 'pwd {\n\tgroup = 19\n\tserver_id = "srv"\n\tfragment_size = 1020\n\tvirtual_server = "inner"\n}\n',
 }
 
 RADIUSD = """

@@ -179,7 +179,6 @@ class Station:
     is_good: bool
     requests: int
     said: str
-    is_same_front: bool = False  # by eapol_test's own comparison, which is about MS-MPPE-Recv-Key
 
     def is_refused(self, requests: int) -> bool:
         return not self.is_good and "(Access-Reject)" in self.said and self.requests == requests
@@ -210,7 +209,7 @@ def log_in(conf: str, words: Sequence[str] = ()) -> Station:
     is_same = ran.returncode == 0 and ways.EQUAL_LINK_KEYS in ran.stdout
     requests = ran.stdout.count("Sending RADIUS message")
     know("\n".join(octets.replace(" ", "") for _, octets in ways.THEIR_KEY.findall(ran.stdout)))
-    return Station(is_same and has_same_keys(ran.stdout), requests, ran.stdout, is_same)
+    return Station(is_same and has_same_keys(ran.stdout), requests, ran.stdout)
 
 
 def has_same_keys(said: str) -> bool:
