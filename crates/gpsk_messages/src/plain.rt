@@ -144,10 +144,7 @@ pub fn read_gpsk<'a>(body: &'a [u8], ks: Option<u8>) -> Result<GpskView<'a>, Cau
     ensures spelled { IfOk result (λ view. IsGpsk ks (fields_of view) body.now) }
     ensures refused { IfErr result (Refuses ks body.now) }
 {
-    match read_gpsk_message(body, ks) {
-        Ok(message) => Ok(view_of(&message)),
-        Err(cause) => Err(cause),
-    }
+    Ok(view_of(&read_gpsk_message(body, ks)?))
 }
 
 /// The Request or the Response of Type 51 with this Identifier whose Type-Data encodes the message.

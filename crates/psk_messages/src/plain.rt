@@ -120,10 +120,7 @@ pub fn read_psk<'a>(body: &'a [u8]) -> Result<PskView<'a>, Cause>
     ensures cause { IfErr result (λ cause. cause ≡ PskShape) }
     ensures refused { IfErr result (λ cause. EncodesNone body.now) }
 {
-    match read_psk_message(body) {
-        Ok(message) => Ok(view_of(&message)),
-        Err(cause) => Err(cause),
-    }
+    Ok(view_of(&read_psk_message(body)?))
 }
 
 /// The Request or the Response of Type 47 with this Identifier whose Type-Data encodes the message.
