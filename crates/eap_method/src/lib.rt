@@ -19,7 +19,7 @@ pub use peer_objects::{call_peer_method, peer_report, start_peers};
 pub use psk_macs::{mac_p, mac_s};
 pub use records::{NoRecords, Records, TwoRecords};
 pub use server::ServerMethod;
-pub use server_objects::{call_server_method, offer_method, server_report, start_servers};
+pub use server_objects::{call_server_method, offer_method, server_report, side_of, start_servers};
 pub use step::{Step, WholeStep, has_ended};
 pub use tags::{Covering, Label, TagList, TagRecord, Tags};
 pub use turn::{PeerAnswer, PeerTurn, ServerAnswer, ServerTurn};

@@ -145,9 +145,11 @@ fn proposes(setup: &ServerSetup, kind: u8) -> bool
     is_among(setup.methods.as_slice(), kind)
 }
 
+/// What the server brings into a method.
 #[tactic(auto, unfolding(crate::specs::Server::side_of))]
-fn side_of(setup: &ServerSetup) -> ServerSide
-    ensures { result ≡ side_of setup.now }
+pub fn side_of(setup: &ServerSetup) -> ServerSide
+    ensures same { result ≡ side_of setup.now }
+    ensures suites { result.suites ≡ setup.now.suites }
 {
     ServerSide {
         id_s: setup.name.copy(),

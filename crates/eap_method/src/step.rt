@@ -1,7 +1,7 @@
 //! What one call of a machine of RFC 4137 does. The packet that it sends and the records of its tags
 //! are in the buffers passed to the call.
 
-ghost use Rattle.std.specs.Prelude.{◌≡◌, ◌≤◌, length, None, Some, true, false};
+ghost use Rattle.std.specs.Prelude.{◌≡◌, ◌≤◌, ◌+◌, ◌++◌, length, None, Some, true, false};
 ghost use Rattle.eap_method.specs.Steps.{is_end};
 
 use crate::records::TwoRecords;
@@ -71,11 +71,7 @@ impl Step {
         requires { length states.now ≤ 8 }
         ensures { result ≡ record { path = states.now; cause = None; sends = true } }
     {
-        Step {
-            path: path_of(states),
-            cause: None,
-            sends: true,
-        }
+        Step::of(states, None, true)
     }
 
     /// These states are entered, at most 8, and nothing is sent.
@@ -83,11 +79,7 @@ impl Step {
         requires { length states.now ≤ 8 }
         ensures { result ≡ record { path = states.now; cause = None; sends = false } }
     {
-        Step {
-            path: path_of(states),
-            cause: None,
-            sends: false,
-        }
+        Step::of(states, None, false)
     }
 
     /// These states are entered, at most 8, and what came is discarded for this cause.
@@ -95,24 +87,38 @@ impl Step {
         requires { length states.now ≤ 8 }
         ensures { result ≡ record { path = states.now; cause = Some cause; sends = false } }
     {
-        Step {
-            path: path_of(states),
-            cause: Some(cause),
-            sends: false,
-        }
+        Step::of(states, Some(cause), false)
+    }
+
+    /// These states are entered, at most 8.
+    fn of(states: &[State], cause: Option<Cause>, sends: bool) -> Step
+        requires { length states.now ≤ 8 }
+        ensures { result ≡ record { path = states.now; cause = cause; sends = sends } }
+    {
+        let mut path = Path::new();
+        append_each(&mut path, states);
+        Step { path, cause, sends }
+    }
+
+    /// The same after these states; together at most 8 are entered.
+    pub fn after(self, states: &[State]) -> Step
+        requires { length states.now + length self.path ≤ 8 }
+        ensures { result ≡ record self { path = states.now ++ self.path } }
+    {
+        let mut step = Step::of(states, self.cause, self.sends);
+        append_each(&mut step.path, self.path.as_slice());
+        step
     }
 }
 
-/// The path of these states, at most 8.
-fn path_of(states: &[State]) -> Path
-    requires { length states.now ≤ 8 }
-    ensures { result ≡ states.now }
+/// Appends the states, which fit.
+fn append_each(path: &mut Path, states: &[State])
+    requires { length path.old + length states.now ≤ 8 }
+    ensures { path.new ≡ path.old ++ states.now }
 {
-    let mut path = Path::new();
     for state in states {
         path.push(*state);
     }
-    path
 }
 
 /// True in the states after which a party does nothing more: SUCCESS, FAILURE, TIMEOUT_FAILURE.

@@ -192,15 +192,18 @@ impl<R: Records> TagList<R> {
                 self.add_record(first);
                 self.add_record(second);
             }
-            [first] => self.add_record(first),
+            [first] => {
+                self.add_record(first);
+            }
             _ => {}
         }
     }
 
-    /// Appends a record, for which there is room.
-    fn add_record(&mut self, tag: &TagRecord)
-        requires { length self.old < 2 }
-        ensures { self.new ≡ self.old ++ tag.now ∷ [] }
+    /// Appends a record and answers true. If 2 records are there it answers false and changes nothing.
+    fn add_record(&mut self, tag: &TagRecord) -> bool
+        ensures room { IsTrue result ↔ (length self.old < 2) }
+        ensures added { length self.old < 2 → self.new ≡ self.old ++ tag.now ∷ [] }
+        ensures unchanged { 2 ≤ length self.old → self.new ≡ self.old }
     {
         self.add(
             tag.method,
@@ -208,7 +211,7 @@ impl<R: Records> TagList<R> {
             &tag.psk,
             &[tag.octets.as_slice()],
             tag.tag.as_slice(),
-        );
+        )
     }
 }
 
@@ -219,13 +222,7 @@ impl TagList<TwoRecords> {
         ensures added { length self.old < 2 → self.new ≡ self.old ++ tag ∷ [] }
         ensures unchanged { 2 ≤ length self.old → self.new ≡ self.old }
     {
-        self.add(
-            tag.method,
-            tag.label,
-            &tag.psk,
-            &[tag.octets.as_slice()],
-            tag.tag.as_slice(),
-        )
+        self.add_record(&tag)
     }
 
     /// The records in order.

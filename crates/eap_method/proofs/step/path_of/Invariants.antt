@@ -1,5 +1,0 @@
-use Rattle.std.proofs.Common.{◌≡◌, take}
-use Rattle.eap_method.proofs.step.path_of.Given as goal
-
-abbrev pub invariant-loop-state : goal.invariant-loop-state
-invariant-loop-state l = l.path ≡ take l.state-index l.states
