@@ -41,8 +41,8 @@ use crate::expanded::{awaits_first, wrap_sent, write_if_accepted};
 use crate::outcome::{end_badly, next_id, settle, settle_offer};
 use crate::variables::{Progress, ProposalPath, Role, ServerVariables};
 use eap_method::{
-    Records, Report, ServerAnswer, ServerMethod, ServerSide, Step, Tags, call_server_method,
-    has_ended, offer_method, server_report, start_servers,
+    Records, Report, ServerAnswer, ServerMethod, Step, Tags, call_server_method, has_ended,
+    offer_method, server_report, side_of, start_servers,
 };
 use eap_packet::{Cause, Code, PacketView, State, decode, encode_into, is_bad_expanded};
 use login_policy::next_method;
@@ -373,8 +373,7 @@ impl<M: ServerMethod> ServerMachine<M> {
         ensures setup { self.new.vars.setup ≡ self.old.vars.setup }
     {
         let mut packet = Packet::new();
-        let step = self.start_step(&mut packet);
-        step.with(packet, Tags::new())
+        self.start_step(&mut packet).with(packet, Tags::new())
     }
 
     /// [`restart_step`](ServerMachine::restart_step), with the packet in its answer.
@@ -410,8 +409,7 @@ impl<M: ServerMethod> ServerMachine<M> {
         ensures setup { self.new.vars.setup ≡ self.old.vars.setup }
     {
         let mut packet = Packet::new();
-        let step = self.timeout_step(&mut packet);
-        step.with(packet, Tags::new())
+        self.timeout_step(&mut packet).with(packet, Tags::new())
     }
 
     /// The server's settings.
@@ -688,18 +686,6 @@ fn write_identity(packet: &mut Packet, id: u8)
     ensures { packet.new ≡ identity_request id }
 {
     encode_into(packet, Code::Request, id, IDENTITY, &[]);
-}
-
-/// What the server brings into a method.
-#[tactic(auto, unfolding(eap_method::specs::Server::side_of))]
-fn side_of(setup: &ServerSetup) -> ServerSide
-    ensures same { result ≡ side_of setup.now }
-    ensures suites { result.suites ≡ setup.now.suites }
-{
-    ServerSide {
-        id_s: setup.name.copy(),
-        suites: setup.suites.copy(),
-    }
 }
 
 /// The method of this Type begins and writes its first Request, with the next Identifier, into `packet`;

@@ -1,10 +1,10 @@
 //! What follows a proposal, and a method's turn (RFC 4137 section 5.4): the variables, the packet and the step.
 
-ghost use Rattle.std.specs.Prelude.{◌≡◌, ◌≢◌, [], ◌∷◌, ◌++◌, false, true, not, Some, None, IsTrue, if◌then◌else◌};
+ghost use Rattle.std.specs.Prelude.{◌≡◌, ◌≢◌, ◌≤◌, [], ◌∷◌, ◌++◌, length, false, true, not, Some, None, IsTrue, if◌then◌else◌};
 ghost use Rattle.octet_lists.specs.Among.{is_among};
 ghost use Rattle.eap_packet.specs.Fault.{code_of};
 ghost use Rattle.eap_packet.specs.Packet.{spelled, value_with, has_type};
-ghost use Rattle.eap_packet.specs.declared.state.State.TheVariants.{ProposeMethod, MethodRequest, SendRequest, Idle, Failure};
+ghost use Rattle.eap_packet.specs.declared.state.State.TheVariants.{ProposeMethod, MethodRequest, SendRequest, Idle};
 ghost use Rattle.eap_method.specs.Capacity.{HasCapacity, requests};
 ghost use Rattle.eap_method.specs.Server.{ServerViews};
 ghost use Rattle.eap_method.specs.ServerTurn.{server_turn_with, server_tags};
@@ -20,23 +20,35 @@ use eap_method::{ServerAnswer, Step};
 use eap_packet::{Code, State, encode_end_into};
 use octet_lists::Packet;
 
-/// The states of a method, or the Identity round, after which nothing follows but FAILURE.
-const FAILING: [State; 5] = [
-    State::Received,
-    State::IntegrityCheck,
-    State::MethodResponse,
-    State::SelectAction,
-    State::Failure,
-];
+/// The states before a proposal, or before the end in its place.
+fn states_before(way: ProposalPath) -> &'static [State]
+    ensures states { result.now ≡ before_proposal way }
+    ensures few { length result.now ≤ 4 }
+{
+    match way {
+        ProposalPath::AfterResponse => &[
+            State::Received,
+            State::IntegrityCheck,
+            State::MethodResponse,
+            State::SelectAction,
+        ],
+        ProposalPath::AfterNak => &[State::Received, State::Nak, State::SelectAction],
+        ProposalPath::FirstIdentity => &[
+            State::PickUpMethod,
+            State::MethodResponse,
+            State::SelectAction,
+        ],
+        ProposalPath::FirstNak => &[State::Nak, State::SelectAction],
+        ProposalPath::FirstOther => &[State::PickUpMethod, State::SelectAction],
+    }
+}
 
-/// The states of a method's last Response, after which SUCCESS follows.
-const SUCCEEDING: [State; 5] = [
-    State::Received,
-    State::IntegrityCheck,
-    State::MethodResponse,
-    State::SelectAction,
-    State::Success,
-];
+/// The step of SUCCESS or of FAILURE in place of a proposal.
+fn ending(way: ProposalPath, state: State) -> Step
+    ensures { result ≡ record { path = before_proposal way ++ state ∷ []; cause = None; sends = true } }
+{
+    Step::sending(&[state]).after(states_before(way))
+}
 
 /// Writes a Success or a Failure in place of what was there.
 #[tactic(auto, using(crate::proofs::Wrapping::ends_request_nothing))]
@@ -68,32 +80,7 @@ pub fn end_badly(vars: &mut ServerVariables, way: ProposalPath, id: u8, packet: 
 {
     vars.state = State::Failure;
     write_end(packet, Code::Failure, id);
-    failing(way)
-}
-
-/// The step of FAILURE, if no method is left to propose.
-fn failing(way: ProposalPath) -> Step
-    ensures { result ≡ record { path = before_proposal way ++ Failure ∷ []; cause = None; sends = true } }
-{
-    match way {
-        ProposalPath::AfterResponse => Step::sending(&FAILING),
-        ProposalPath::AfterNak => Step::sending(&[
-            State::Received,
-            State::Nak,
-            State::SelectAction,
-            State::Failure,
-        ]),
-        ProposalPath::FirstIdentity => Step::sending(&[
-            State::PickUpMethod,
-            State::MethodResponse,
-            State::SelectAction,
-            State::Failure,
-        ]),
-        ProposalPath::FirstNak => Step::sending(&[State::Nak, State::SelectAction, State::Failure]),
-        ProposalPath::FirstOther => {
-            Step::sending(&[State::PickUpMethod, State::SelectAction, State::Failure])
-        }
-    }
+    ending(way, State::Failure)
 }
 
 /// PROPOSE_METHOD, METHOD_REQUEST and SEND_REQUEST of a method that isn't yet proposed, whose first
@@ -132,52 +119,13 @@ pub fn settle_offer(
 fn proposing(way: ProposalPath) -> Step
     ensures { result ≡ record { path = before_proposal way ++ ProposeMethod ∷ MethodRequest ∷ SendRequest ∷ Idle ∷ []; cause = None; sends = true } }
 {
-    match way {
-        ProposalPath::AfterResponse => Step::sending(&[
-            State::Received,
-            State::IntegrityCheck,
-            State::MethodResponse,
-            State::SelectAction,
-            State::ProposeMethod,
-            State::MethodRequest,
-            State::SendRequest,
-            State::Idle,
-        ]),
-        ProposalPath::AfterNak => Step::sending(&[
-            State::Received,
-            State::Nak,
-            State::SelectAction,
-            State::ProposeMethod,
-            State::MethodRequest,
-            State::SendRequest,
-            State::Idle,
-        ]),
-        ProposalPath::FirstIdentity => Step::sending(&[
-            State::PickUpMethod,
-            State::MethodResponse,
-            State::SelectAction,
-            State::ProposeMethod,
-            State::MethodRequest,
-            State::SendRequest,
-            State::Idle,
-        ]),
-        ProposalPath::FirstNak => Step::sending(&[
-            State::Nak,
-            State::SelectAction,
-            State::ProposeMethod,
-            State::MethodRequest,
-            State::SendRequest,
-            State::Idle,
-        ]),
-        ProposalPath::FirstOther => Step::sending(&[
-            State::PickUpMethod,
-            State::SelectAction,
-            State::ProposeMethod,
-            State::MethodRequest,
-            State::SendRequest,
-            State::Idle,
-        ]),
-    }
+    let states = [
+        State::ProposeMethod,
+        State::MethodRequest,
+        State::SendRequest,
+        State::Idle,
+    ];
+    Step::sending(&states).after(states_before(way))
 }
 
 /// SEND_REQUEST: a Request with the next Identifier, which is sent again from now on.
@@ -243,10 +191,10 @@ fn end_method(vars: &mut ServerVariables, id: u8, success: bool, packet: &mut Pa
     if success {
         vars.state = State::Success;
         write_end(packet, Code::Success, id);
-        Step::sending(&SUCCEEDING)
+        ending(ProposalPath::AfterResponse, State::Success)
     } else {
         vars.state = State::Failure;
         write_end(packet, Code::Failure, id);
-        Step::sending(&FAILING)
+        ending(ProposalPath::AfterResponse, State::Failure)
     }
 }
