@@ -755,65 +755,39 @@ fn settle(
     }
 }
 
+/// The states before METHOD: GET_METHOD among them if it has just selected the method.
+fn states_before(selects: bool) -> &'static [State]
+    ensures states { result.now ≡ before_method selects }
+    ensures few { length result.now ≤ 2 }
+{
+    if selects {
+        &[State::Received, State::GetMethod]
+    } else {
+        &[State::Received]
+    }
+}
+
 /// METHOD and DISCARD, after GET_METHOD if it has just selected the method.
 fn method_discards(selects: bool, cause: Cause) -> Step
     ensures { result ≡ record { path = before_method selects ++ Method ∷ Discard ∷ Idle ∷ []; cause = Some cause; sends = false } }
 {
-    if selects {
-        let states = [
-            State::Received,
-            State::GetMethod,
-            State::Method,
-            State::Discard,
-            State::Idle,
-        ];
-        Step::discarding(&states, cause)
-    } else {
-        let states = [State::Received, State::Method, State::Discard, State::Idle];
-        Step::discarding(&states, cause)
-    }
+    let step = Step::discarding(&[State::Method, State::Discard, State::Idle], cause);
+    step.after(states_before(selects))
 }
 
 /// METHOD and FAILURE, after GET_METHOD if it has just selected the method.
 fn method_fails(selects: bool) -> Step
     ensures { result ≡ record { path = before_method selects ++ Method ∷ Failure ∷ []; cause = None; sends = false } }
 {
-    if selects {
-        let states = [
-            State::Received,
-            State::GetMethod,
-            State::Method,
-            State::Failure,
-        ];
-        Step::entering(&states)
-    } else {
-        let states = [State::Received, State::Method, State::Failure];
-        Step::entering(&states)
-    }
+    Step::entering(&[State::Method, State::Failure]).after(states_before(selects))
 }
 
 /// METHOD and SEND_RESPONSE, after GET_METHOD if it has just selected the method.
 fn method_replies(selects: bool) -> Step
     ensures { result ≡ record { path = before_method selects ++ Method ∷ SendResponse ∷ Idle ∷ []; cause = None; sends = true } }
 {
-    if selects {
-        let states = [
-            State::Received,
-            State::GetMethod,
-            State::Method,
-            State::SendResponse,
-            State::Idle,
-        ];
-        Step::sending(&states)
-    } else {
-        let states = [
-            State::Received,
-            State::Method,
-            State::SendResponse,
-            State::Idle,
-        ];
-        Step::sending(&states)
-    }
+    let step = Step::sending(&[State::Method, State::SendResponse, State::Idle]);
+    step.after(states_before(selects))
 }
 
 /// Whether there is an object of each of these Types.
