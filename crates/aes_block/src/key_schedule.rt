@@ -101,7 +101,7 @@ pub(crate) struct TurnedKey {
 
 // A round key, to be kept for a full round.
 #[inline(always)]
-pub(crate) fn kept(key: u8x16) -> TurnedKey
+pub(crate) fn turned_full(key: u8x16) -> TurnedKey
     ensures { all of_turned result.lanes ≡ key }
 {
     TurnedKey {

@@ -6,8 +6,8 @@
 ghost use Rattle.std.specs.Prelude.{◌≡◌};
 ghost use Rattle.aes_block.specs.Cipher.{aes128};
 
-use crate::key_schedule::{TurnedKey, kept, next_round_key, turned_last};
-use crate::rounds::{begin, full_round, last_round};
+use crate::key_schedule::{TurnedKey, next_round_key, turned_full, turned_last};
+use crate::rounds::{full_round, initial_round, last_round};
 use std::marker::Model;
 use std::simd::prelude::*;
 
@@ -58,7 +58,7 @@ impl Aes128 {
         let mut round_key = first;
         for round in 0..9 {
             let next = next_round_key(round, round_key);
-            full_keys[round] = kept(next);
+            full_keys[round] = turned_full(next);
             round_key = next;
         }
         Aes128 {
@@ -92,7 +92,7 @@ impl Aes128 {
     fn encrypt_lanes(&self, block: u8x16) -> u8x16
         ensures { result ≡ aes128 self.now block }
     {
-        let mut state = begin(block, self.key);
+        let mut state = initial_round(block, self.key);
         for round in 0..9 {
             let next = full_round(state, self.full_keys[round].lanes);
             state = next;

@@ -45,7 +45,7 @@ fn mix_columns(once: u8x16, twice: u8x16) -> u8x16
 
 // The block with the key of round 0, in the turned basis.
 #[inline(always)]
-pub(crate) fn begin(block: u8x16, key: u8x16) -> u8x16
+pub(crate) fn initial_round(block: u8x16, key: u8x16) -> u8x16
     ensures { all plain result ≡ add_round_key block key }
 {
     turn(block ^ key)

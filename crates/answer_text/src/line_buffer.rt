@@ -43,7 +43,7 @@ impl LineBuffer {
     }
 
     /// For how many more octets there is room.
-    pub fn room(&self) -> usize
+    pub fn remaining(&self) -> usize
         ensures { result + length self.now ≡ 1024 }
     {
         SIZE - self.len

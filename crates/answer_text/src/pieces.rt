@@ -67,8 +67,8 @@ fn put_octets<W: Sink>(sink: &mut W, line: &mut LineBuffer, octets: &[u8]) -> Re
     ensures { Puts W.shown result sink.old sink.new line.old line.new octets.now }
 {
     let mut rest = octets;
-    while rest.len() > line.room() {
-        let count = line.room();
+    while rest.len() > line.remaining() {
+        let count = line.remaining();
         send_with(sink, line, &rest[..count])?;
         rest = &rest[count..];
     }
@@ -81,7 +81,7 @@ fn put_octets<W: Sink>(sink: &mut W, line: &mut LineBuffer, octets: &[u8]) -> Re
 fn put_short<W: Sink>(sink: &mut W, line: &mut LineBuffer, octets: &[u8]) -> Result<(), Failed>
     ensures { Puts W.shown result sink.old sink.new line.old line.new octets.now }
 {
-    if octets.len() <= line.room() {
+    if octets.len() <= line.remaining() {
         line.append(octets);
         Ok(())
     } else {

@@ -14,7 +14,7 @@ ghost use Rattle.bulk_run.specs.Summing.{counts_of, drawn_each, drawn_for_events
 
 use crate::draws::Draws;
 use crate::summary::Summary;
-use crate::turn::{begin, step_chosen, take};
+use crate::turn::{start_run, step_chosen, step_event};
 use eap_method::{PeerMethod, ServerMethod};
 use eap_world::{Memory, Methods, World};
 use login_setup::{Accepts, Event, Later, Mode, PeerSetup, ServerSetup, Setup, User, Users};
@@ -41,7 +41,7 @@ pub fn converse<P: PeerMethod, S: ServerMethod>(
     requires server_objects { have_each (server_kinds (map S.server_shown methods.server.items)) login_methods ≡ true }
     ensures counts { IfOk result (λ after. (place : ℕ) → draws.old.state ≡ state_at number place → counts.new ≡ counts_of (ended_at number place)) }
     ensures small { IfOk result (λ after. IsAtMost counts.new 40) }
-    ensures stands { IfOk result (λ after. (place : ℕ) → draws.old.state ≡ state_at number place
+    ensures state { IfOk result (λ after. (place : ℕ) → draws.old.state ≡ state_at number place
         → draws.new.state ≡ state_at number (place + drawn_each number)) }
     ensures kinds { IfOk result (λ after. HaveSameKinds P.peer_shown S.server_shown
         methods.peer.items methods.server.items after.peer.items after.server.items) }
@@ -113,12 +113,12 @@ fn talk<P: PeerMethod, S: ServerMethod>(
     ensures run { IfOk result (λ done. (setup : Setup) (place : ℕ)
         → now_of P.peer_shown S.server_shown world.old ≡ initial_world setup → draws.old.state ≡ state_at number place
         → now_of P.peer_shown S.server_shown world.new ≡ run_of setup (events_of setup number place)) }
-    ensures stands { IfOk result (λ done. (place : ℕ) → draws.old.state ≡ state_at number place
+    ensures state { IfOk result (λ done. (place : ℕ) → draws.old.state ≡ state_at number place
         → draws.new.state ≡ state_at number (place + drawn_for_events number)) }
     ensures few { IfOk result (λ done. AreFew world.new.counts 40) }
     ensures kinds { IfOk result (λ done. PreservesKinds P.peer_shown S.server_shown world.old world.new) }
 {
-    let mut packets = begin(world)?;
+    let mut packets = start_run(world)?;
     if number % 2 == 0 {
         step_by_chance(world, &mut packets, draws)
     } else {
@@ -141,7 +141,7 @@ fn deliver_all<P: PeerMethod, S: ServerMethod>(
     ensures kinds { IfOk result (λ done. PreservesKinds P.peer_shown S.server_shown world.old world.new) }
 {
     for passed in 0..7_u32 {
-        take(world, packets, &Event::Deliver { number: passed + 1 })?;
+        step_event(world, packets, &Event::Deliver { number: passed + 1 })?;
     }
     Ok(())
 }
@@ -159,7 +159,7 @@ fn step_by_chance<P: PeerMethod, S: ServerMethod>(
     ensures run { IfOk result (λ done. (setup : Setup) (number place : ℕ)
         → now_of P.peer_shown S.server_shown world.old ≡ run_of setup [] → draws.old.state ≡ state_at number place
         → now_of P.peer_shown S.server_shown world.new ≡ run_of setup (chances setup number place 40)) }
-    ensures stands { IfOk result (λ done. (number place : ℕ) → draws.old.state ≡ state_at number place
+    ensures state { IfOk result (λ done. (number place : ℕ) → draws.old.state ≡ state_at number place
         → draws.new.state ≡ state_at number (place + 80)) }
     ensures few { IfOk result (λ done. AreFew world.new.counts 40) }
     ensures kinds { IfOk result (λ done. PreservesKinds P.peer_shown S.server_shown world.old world.new) }

@@ -65,7 +65,7 @@ impl Summary {
 
     /// Both added up.
     pub fn plus(self, other: Summary) -> Summary
-        requires room { IsAtMost self 100000 }
+        requires capacity { IsAtMost self 100000 }
         requires other { IsAtMost other 40 }
         ensures value { result ≡ plus self other }
         ensures small { (most : ℕ) → IsAtMost self most → IsAtMost result (most + 40) }

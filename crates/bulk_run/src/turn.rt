@@ -16,7 +16,7 @@ use login_setup::{Event, Party};
 
 /// Starts a world in which nothing was sent, and answers how many packets were sent then. Each method of an end has an object.
 #[tactic(auto, using(crate::proofs::TwoRecords::same_kinds))]
-pub fn begin<P: PeerMethod, S: ServerMethod>(world: &mut World<P, S>) -> Result<u32, Memory>
+pub fn start_run<P: PeerMethod, S: ServerMethod>(world: &mut World<P, S>) -> Result<u32, Memory>
     requires unstarted { world.old.started ≡ false }
     requires unsent { world.old.sent ≡ [] }
     requires objects { HasObjects P.peer_shown S.server_shown world.old }
@@ -33,13 +33,13 @@ pub fn begin<P: PeerMethod, S: ServerMethod>(world: &mut World<P, S>) -> Result<
 
 /// Takes an event. `packets` counts the packets that were sent. Each method of an end has an object.
 #[tactic(auto, using(crate::proofs::TwoRecords::same_kinds))]
-pub fn take<P: PeerMethod, S: ServerMethod>(
+pub fn step_event<P: PeerMethod, S: ServerMethod>(
     world: &mut World<P, S>,
     packets: &mut u32,
     event: &Event,
 ) -> Result<(), Memory>
     requires started { world.old.started ≡ true }
-    requires room { world.old.counts.events < MAX_EVENTS }
+    requires capacity { world.old.counts.events < MAX_EVENTS }
     requires packets { packets.old ≡ length world.old.sent }
     requires objects { HasObjects P.peer_shown S.server_shown world.old }
     ensures run { IfOk result (λ done. HasContinued P.peer_shown S.server_shown event.now world.old world.new) }
@@ -72,7 +72,7 @@ pub fn step_chosen<P: PeerMethod, S: ServerMethod>(
     u: u8,
 ) -> Result<(), Memory>
     requires started { world.old.started ≡ true }
-    requires room { world.old.counts.events < MAX_EVENTS }
+    requires capacity { world.old.counts.events < MAX_EVENTS }
     requires packets { packets.old ≡ length world.old.sent }
     requires objects { HasObjects P.peer_shown S.server_shown world.old }
     ensures run { IfOk result (λ done. (setup : Setup) (events : List Event) → now_of P.peer_shown S.server_shown world.old ≡ run_of setup events
@@ -85,7 +85,7 @@ pub fn step_chosen<P: PeerMethod, S: ServerMethod>(
 {
     match choose(world, *packets, v, u) {
         None => Ok(()),
-        Some(event) => take(world, packets, &event),
+        Some(event) => step_event(world, packets, &event),
     }
 }
 

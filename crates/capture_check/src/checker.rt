@@ -50,8 +50,8 @@ impl Judge {
     /// A checker that has seen no packet.
     #[tactic(auto, unfolding(crate::specs::Finding::IsStateAfter), using(crate::proofs::Preserving::preserved_of_none))]
     pub fn new() -> Judge
-        ensures stands { (users : List User) → IsStateAfter result users [] }
-        ensures kept { result ≡ no_context_yet }
+        ensures state { (users : List User) → IsStateAfter result users [] }
+        ensures stored { result ≡ no_context_yet }
     {
         Judge {
             kept: CaptureContext {
@@ -74,12 +74,12 @@ impl Judge {
         // it has seen the list with the packet.
         ensures finding { (packets : List Captured) → IsStateAfter self.old users.now packets
             → result ≡ finding_of users.now packets to_peer octets.now }
-        ensures stands { (packets : List Captured) → IsStateAfter self.old users.now packets
+        ensures state { (packets : List Captured) → IsStateAfter self.old users.now packets
             → IsStateAfter self.new users.now (packets ++ (record { to_peer = to_peer; octets = octets.now }) ∷ []) }
 
         // The same by what it keeps.
         ensures judged { result ≡ finding_in users.now self.old to_peer octets.now }
-        ensures kept { self.new ≡ kept_next users.now self.old to_peer octets.now }
+        ensures stored { self.new ≡ kept_next users.now self.old to_peer octets.now }
     {
         judge_octets(&mut self.kept, users, to_peer, octets)
     }
@@ -109,7 +109,7 @@ impl Checker {
     pub fn new(users: Users) -> Checker
         requires { All (λ user. IsTrue (is_valid_for user.kind user.psk)) users }
         ensures users { result.users ≡ users }
-        ensures stands { IsStateAfter result.kept users [] }
+        ensures state { IsStateAfter result.kept users [] }
     {
         Checker {
             users,
@@ -123,7 +123,7 @@ impl Checker {
         // it has seen the list with the packet.
         ensures finding { (packets : List Captured) → IsStateAfter self.old.kept self.old.users packets
             → result ≡ finding_of self.old.users packets to_peer octets.now }
-        ensures stands { (packets : List Captured) → IsStateAfter self.old.kept self.old.users packets
+        ensures state { (packets : List Captured) → IsStateAfter self.old.kept self.old.users packets
             → IsStateAfter self.new.kept self.old.users (packets ++ (record { to_peer = to_peer; octets = octets.now }) ∷ []) }
         ensures users { self.new.users ≡ self.old.users }
     {
@@ -137,7 +137,7 @@ fn judge_octets(kept: &mut CaptureContext, users: &Users, to_peer: bool, octets:
     requires keys { All (λ user. IsTrue (is_valid_for user.kind user.psk)) users.now }
     requires key { HasKey kept.old.gpsk }
     ensures finding { result ≡ classified_finding users.now kept.old octets.now (classified_of to_peer octets.now) }
-    ensures kept { kept.new ≡ context_after users.now kept.old (classified_of to_peer octets.now) }
+    ensures stored { kept.new ≡ context_after users.now kept.old (classified_of to_peer octets.now) }
     ensures key_after { HasKey kept.new.gpsk }
 {
     match decode(octets) {
@@ -159,7 +159,7 @@ fn judge_packet(
     requires plain { IsPlain packet.now.code packet.now.kind packet.now.body.now }
     requires size { length packet.now.body.now ≤ max_type_data }
     ensures finding { result ≡ classified_finding users.now kept.old octets.now (packet_class to_peer (value_of packet.now)) }
-    ensures kept { kept.new ≡ context_after users.now kept.old (packet_class to_peer (value_of packet.now)) }
+    ensures stored { kept.new ≡ context_after users.now kept.old (packet_class to_peer (value_of packet.now)) }
     ensures key_after { HasKey kept.new.gpsk }
 {
     // Only Responses come from a peer, and none goes to it (RFC 3748 section 4).

@@ -91,7 +91,7 @@ fn begin(kept: &mut Option<GpskLogin>, login: GpskLogin, view: &GpskMessage, bod
     requires key_before { HasKey kept.old }
     requires spelled { body.now ≡ spelled (message_of view.now) }
     ensures finding { result ≡ gpsk_verdict (login_starts (Some login) (message_of view.now)) }
-    ensures kept { kept.new ≡ option_or (result_ok (login_starts (Some login) (message_of view.now))) kept.old }
+    ensures stored { kept.new ≡ option_or (result_ok (login_starts (Some login) (message_of view.now))) kept.old }
     ensures key_after { HasKey kept.new }
 {
     if !is_tagged(&login, view, body) {
@@ -128,7 +128,7 @@ fn judge(login: &mut Option<GpskLogin>, users: &Users, view: &GpskMessage, body:
     requires key { HasKey login.old }
     requires read { IsGpsk None (message_of view.now) body.now }
     ensures finding { result ≡ gpsk_tag_finding users.now login.old (message_of view.now) }
-    ensures kept { login.new ≡ option_or (gpsk2_of users.now (Ok (message_of view.now))) login.old }
+    ensures stored { login.new ≡ option_or (gpsk2_of users.now (Ok (message_of view.now))) login.old }
     ensures key_after { HasKey login.new }
 {
     match view {
@@ -154,7 +154,7 @@ pub fn judge_body(
     requires keys { All (λ user. IsTrue (is_valid_for user.kind user.psk)) users.now }
     requires key { HasKey login.old }
     ensures finding { result ≡ gpsk_finding users.now login.old (gpsk_read to_peer body.now) }
-    ensures kept { login.new ≡ option_or (gpsk2_of users.now (gpsk_read to_peer body.now)) login.old }
+    ensures stored { login.new ≡ option_or (gpsk2_of users.now (gpsk_read to_peer body.now)) login.old }
     ensures key_after { HasKey login.new }
 {
     match read_gpsk_message(body, None) {

@@ -98,16 +98,16 @@ impl Command for Check {
 
     ghost seen = { λ c. c };
 
-    ghost took = { check_step };
+    ghost line_result = { check_step };
 
     ghost closing = { step_closing };
 
     ghost lacks = { step_lacks };
 
-    ghost holds = { HasJudged };
+    ghost is_valid_after = { HasJudged };
 
     #[tactic(auto, unfolding(crate::specs::CheckSteps::check_step))]
-    fn take<W: Sink>(&mut self, sink: &mut W, line: &[u8]) -> Result<Next, Trouble> {
+    fn handle_line<W: Sink>(&mut self, sink: &mut W, line: &[u8]) -> Result<Next, Trouble> {
         match self.reader.line_into(line) {
             Ok(CaptureItemKind::Packet { to_peer, octets }) => self.packet(
                 sink,

@@ -77,7 +77,7 @@ impl PcapTotals {
 
     /// Judges the record with this number.
     #[tactic(auto, unfolding(crate::specs::PcapSteps::record_step, answer_text::specs::Writes::Appends))]
-    fn take<W: Sink>(
+    fn count_frame<W: Sink>(
         &mut self,
         users: &Users,
         sink: &mut W,
@@ -233,7 +233,7 @@ pub fn judge_file<S: Source, W: Sink>(users: &Users, source: &mut S, sink: &mut 
     loop {
         match reader.next_record(source) {
             NextRecord::Record => {
-                match found.take(users, sink, reader.number(), reader.frame()) {
+                match found.count_frame(users, sink, reader.number(), reader.frame()) {
                     Ok(()) => {}
                     Err(_) => return Status::WriteFault,
                 }

@@ -192,7 +192,7 @@ impl Radius {
     fn judge(&mut self, view: &RadiusView) -> Judgement
         requires { IsRadius (value_of view.now) view.now.whole.now }
         ensures judged { result ≡ judgement_of self.old.secret self.old.asked (value_of view.now) }
-        ensures kept { self.new ≡ record self.old { asked = context_after self.old.secret self.old.asked (value_of view.now) } }
+        ensures stored { self.new ≡ record self.old { asked = context_after self.old.secret self.old.asked (value_of view.now) } }
     {
         match view.kind {
             RadiusKind::Request => {
@@ -297,16 +297,16 @@ impl Command for Radius {
 
     ghost seen = { λ c. c };
 
-    ghost took = { radius_step };
+    ghost line_result = { radius_step };
 
     ghost closing = { radius_closing };
 
     ghost lacks = { radius_lacks };
 
-    ghost holds = { λ _ _. Unit {0} };
+    ghost is_valid_after = { λ _ _. Unit {0} };
 
     #[tactic(auto, unfolding(crate::specs::Radius::radius_step))]
-    fn take<W: Sink>(&mut self, sink: &mut W, line: &[u8]) -> Result<Next, Trouble> {
+    fn handle_line<W: Sink>(&mut self, sink: &mut W, line: &[u8]) -> Result<Next, Trouble> {
         match self.reader.line(line) {
             Ok(
                 RadiusItem::Request {

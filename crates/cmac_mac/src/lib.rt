@@ -11,7 +11,7 @@ mod blocks;
 mod key;
 mod taken;
 
-/// The CMAC of a text that comes in pieces: [`Cmac::new`] or [`CmacKey::begin`], an
+/// The CMAC of a text that comes in pieces: [`Cmac::new`] or [`CmacKey::start`], an
 /// [`update`](Cmac::update) for each piece, and [`finish`](Cmac::finish). It stores no text, only the
 /// chain and the last octets.
 ///
@@ -58,7 +58,7 @@ impl CmacKey {
 
     /// Begins with the empty text.
     #[tactic(auto, unfolding(crate::specs::Represents::Represents))]
-    pub fn begin(&self) -> Cmac
+    pub fn start(&self) -> Cmac
         ensures { Represents result self.now [] }
     {
         Cmac {

@@ -41,18 +41,18 @@ impl ChainState {
     {
         let room = BLOCK_LEN - self.count;
         if piece.len() <= room {
-            self.hold(piece);
+            self.append(piece);
         } else {
             let (front, rest) = piece.split_at(room);
-            self.hold(front);
+            self.append(front);
             self.chain_in(key.cipher(), rest);
         }
     }
 
     // Appends octets for which the block has room.
-    fn hold(&mut self, octets: &[u8])
+    fn append(&mut self, octets: &[u8])
         requires { self.old.count + length octets.now ≤ 16 }
-        ensures taken { (key text : List ℕ) (n : ℕ) → IsInChain self.old.chain self.old.held self.old.count key text n
+        ensures chained { (key text : List ℕ) (n : ℕ) → IsInChain self.old.chain self.old.held self.old.count key text n
             → IsInChain self.new.chain self.new.held self.new.count key (text ++ octets.now) n }
         ensures count { self.new.count ≡ self.old.count + length octets.now }
     {
@@ -75,7 +75,7 @@ impl ChainState {
         self.chain = chain_blocks(cipher, chain, blocks);
         self.held = [0; 16];
         self.count = 0;
-        self.hold(end);
+        self.append(end);
     }
 }
 

@@ -45,7 +45,7 @@ pub trait Command {
     ghost seen: { Self → Seen };
 
     /// The result of a line.
-    ghost took: { Seen → List ℕ → LineResult Seen };
+    ghost line_result: { Seen → List ℕ → LineResult Seen };
 
     /// The result of the end of the input.
     ghost closing: { Seen → Closing };
@@ -54,14 +54,14 @@ pub trait Command {
     ghost lacks: { Seen → List ℕ → Bool };
 
     /// What holds of the command after so many lines.
-    ghost holds: { Self → ℕ → Type 0 };
+    ghost is_valid_after: { Self → ℕ → Type 0 };
 
     /// Takes a line and writes its answer.
-    fn take<W: Sink>(&mut self, sink: &mut W, line: &[u8]) -> Result<Next, Trouble>
-        requires { AfterLines holds self.old }
-        ensures holds_after { IfOk result (λ next. (lines : ℕ) → holds self.old lines → holds self.new (lines + 1)) }
+    fn handle_line<W: Sink>(&mut self, sink: &mut W, line: &[u8]) -> Result<Next, Trouble>
+        requires { AfterLines is_valid_after self.old }
+        ensures valid_after { IfOk result (λ next. (lines : ℕ) → is_valid_after self.old lines → is_valid_after self.new (lines + 1)) }
         ensures answers { AnswersLine W.shown result sink.old sink.new
-            (took (seen self.old) line.now) (lacks (seen self.old) line.now) (seen self.new) };
+            (line_result (seen self.old) line.now) (lacks (seen self.old) line.now) (seen self.new) };
 
     /// Handles the end of the input and writes its answer.
     fn close<W: Sink>(&self, sink: &mut W) -> Result<Close, Failed>

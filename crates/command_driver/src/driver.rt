@@ -42,9 +42,9 @@ pub fn drive<C: Command, S: Source, W: Sink>(
     source: &mut S,
     sink: &mut W,
 ) -> Status
-    requires { C.holds command.old 0 }
+    requires { C.is_valid_after command.old 0 }
     ensures responds { Responds S.shown W.shown
-        (driven C.took C.closing C.lacks (C.seen command.old)) result source.old source.new sink.old sink.new }
+        (driven C.line_result C.closing C.lacks (C.seen command.old)) result source.old source.new sink.old sink.new }
     ensures wanting { result ≡ Status.Memory → SomeLacks C.lacks }
     ensures read_never_falls { S.shown.faults source.old ≤ S.shown.faults source.new }
     ensures write_never_falls { W.shown.faults sink.old ≤ W.shown.faults sink.new }
@@ -52,7 +52,7 @@ pub fn drive<C: Command, S: Source, W: Sink>(
     let mut reader = LineReader::new();
     loop {
         match reader.next_line(source) {
-            NextLine::Line => match command.take(sink, reader.line()) {
+            NextLine::Line => match command.handle_line(sink, reader.line()) {
                 Ok(Next::Proceed) => {}
                 Ok(Next::Refuses(word, status)) => return refuse(
                     sink,

@@ -34,7 +34,7 @@ pub trait PeerMethod: Drop {
     fn handle(&mut self, request: &[u8]) -> PeerTurn
         requires { IsRequest (peer_kind (peer_shown self.old)) request.now }
         ensures turn { peer_step (peer_shown self.old) request.now ≡ record { turn = peer_turn_of result; after = peer_shown self.new } }
-        ensures room { PeerTurnHasCapacity result }
+        ensures capacity { PeerTurnHasCapacity result }
     {
         let mut packet = Packet::new();
         let mut tags = Tags::new();
@@ -49,7 +49,7 @@ pub trait PeerMethod: Drop {
         ensures turn { peer_step (peer_shown self.old) request.now
             ≡ record { turn = peer_turn_with result packet.new tags.new; after = peer_shown self.new } }
         ensures tags { tags.new ≡ peer_tags (peer_turn_with result packet.new tags.new) }
-        ensures room { replies result ≡ true → HasCapacity packet.new };
+        ensures capacity { replies result ≡ true → HasCapacity packet.new };
 
     /// The same, with room for the records or none.
     fn handle_step<R: Records>(
@@ -64,7 +64,7 @@ pub trait PeerMethod: Drop {
         ensures turn { peer_step (peer_shown self.old) request.now
             ≡ record { turn = peer_turn_with result packet.new tags.new; after = peer_shown self.new } }
         ensures tags { tags.new ≡ peer_tags (peer_turn_with result packet.new tags.new) }
-        ensures room { replies result ≡ true → HasCapacity packet.new };
+        ensures capacity { replies result ≡ true → HasCapacity packet.new };
 
     /// What the peer has after a login that succeeded; None before and after any other.
     fn report(&self) -> Option<Report>

@@ -46,7 +46,7 @@ pub fn call_peer_method<M: PeerMethod, R: Records>(
     ensures turn { (allowed : List ℕ) → is_among allowed kind ≡ true → peer_turn kind (peer_views allowed (map M.peer_shown methods.old)) request.now
         ≡ record { turn = peer_turn_with result packet.new tags.new; after = peer_views allowed (map M.peer_shown methods.new) } }
     ensures tags { tags.new ≡ peer_tags (peer_turn_with result packet.new tags.new) }
-    ensures room { replies result ≡ true → HasCapacity packet.new }
+    ensures capacity { replies result ≡ true → HasCapacity packet.new }
     ensures kinds { peer_kinds (map M.peer_shown methods.new) ≡ peer_kinds (map M.peer_shown methods.old) }
     ensures unnamed { (allowed : List ℕ) → is_among allowed kind ≡ true
         → peers_unnamed allowed (map M.peer_shown methods.new) ≡ peers_unnamed allowed (map M.peer_shown methods.old) }

@@ -11,19 +11,19 @@ pub trait Records: Drop {
     ghost use Rattle.eap_method.specs.declared.tags.TagRecord.{TagRecord};
 
     /// What is kept of these records.
-    ghost keeps: { Self → List TagRecord → Type 0 };
+    ghost stores: { Self → List TagRecord → Type 0 };
 
     /// No record.
     fn new() -> Self
-        ensures { keeps result [] };
+        ensures { stores result [] };
 
     /// Leaves no record.
     fn clear(&mut self)
-        ensures { keeps self.new [] };
+        ensures { stores self.new [] };
 
     /// Keeps what there is room for of one more record.
     fn put(&mut self, tag: &Covering)
-        ensures { (records : List TagRecord) → length records < 2 → keeps self.old records → keeps self.new (records ++ tag.now ∷ []) };
+        ensures { (records : List TagRecord) → length records < 2 → stores self.old records → stores self.new (records ++ tag.now ∷ []) };
 }
 
 /// No room: the records are made for nobody.
@@ -31,7 +31,7 @@ pub trait Records: Drop {
 pub struct NoRecords {}
 
 impl Records for NoRecords {
-    ghost keeps = { λ _ _. ⊤ };
+    ghost stores = { λ _ _. ⊤ };
 
     fn new() -> NoRecords {
         NoRecords {}
@@ -70,7 +70,7 @@ impl TwoRecords {
 }
 
 impl Records for TwoRecords {
-    ghost keeps = { λ kept records. kept ≡ records };
+    ghost stores = { λ kept records. kept ≡ records };
 
     fn new() -> TwoRecords {
         TwoRecords {

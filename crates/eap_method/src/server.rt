@@ -34,7 +34,7 @@ pub trait ServerMethod: Drop {
     fn first(&mut self, id: u8) -> Packet
         requires { has_initiated (server_shown self.old) ≡ true }
         ensures first { server_first_step (server_shown self.old) id ≡ record { packet = result; after = server_shown self.new } }
-        ensures room { HasCapacity result }
+        ensures capacity { HasCapacity result }
     {
         let mut packet = Packet::new();
         self.first_into(id, &mut packet);
@@ -45,7 +45,7 @@ pub trait ServerMethod: Drop {
     fn first_into(&mut self, id: u8, packet: &mut Packet)
         requires { has_initiated (server_shown self.old) ≡ true }
         ensures first { server_first_step (server_shown self.old) id ≡ record { packet = packet.new; after = server_shown self.new } }
-        ensures room { HasCapacity packet.new };
+        ensures capacity { HasCapacity packet.new };
 
     /// The turn for a Response of this Type with nothing past its Length. A Request that follows has the Identifier
     /// `next_id` and leaves room for an Expanded Type: it has at most 1,493 octets. The users' keys have 16 octets for
@@ -55,7 +55,7 @@ pub trait ServerMethod: Drop {
         requires keys { All (λ user. IsTrue (is_valid_for user.kind user.psk)) users.now }
         ensures turn { server_step users.now next_id (server_shown self.old) response.now
             ≡ record { turn = server_turn_of result; after = server_shown self.new } }
-        ensures room { ServerTurnHasCapacity result }
+        ensures capacity { ServerTurnHasCapacity result }
     {
         let mut packet = Packet::new();
         let mut tags = Tags::new();
@@ -78,7 +78,7 @@ pub trait ServerMethod: Drop {
         ensures turn { server_step users.now next_id (server_shown self.old) response.now
             ≡ record { turn = server_turn_with result packet.new tags.new; after = server_shown self.new } }
         ensures tags { tags.new ≡ server_tags (server_turn_with result packet.new tags.new) }
-        ensures room { requests result ≡ true → HasCapacity packet.new };
+        ensures capacity { requests result ≡ true → HasCapacity packet.new };
 
     /// The same, with room for the records or none.
     fn handle_step<R: Records>(
@@ -96,7 +96,7 @@ pub trait ServerMethod: Drop {
         ensures turn { server_step users.now next_id (server_shown self.old) response.now
             ≡ record { turn = server_turn_with result packet.new tags.new; after = server_shown self.new } }
         ensures tags { tags.new ≡ server_tags (server_turn_with result packet.new tags.new) }
-        ensures room { requests result ≡ true → HasCapacity packet.new };
+        ensures capacity { requests result ≡ true → HasCapacity packet.new };
 
     /// What the server has after a login that succeeded; None before and after any other.
     fn report(&self) -> Option<Report>

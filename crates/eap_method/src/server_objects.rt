@@ -44,7 +44,7 @@ pub fn offer_method<M: ServerMethod>(
     ensures offer { (order : List ℕ) → is_among order kind ≡ true
         → server_offer own.now nonce.now kind id (server_views order (map M.server_shown methods.old))
         ≡ record { packet = if result then Some packet.new else None; after = server_views order (map M.server_shown methods.new) } }
-    ensures room { result ≡ true → HasCapacity packet.new }
+    ensures capacity { result ≡ true → HasCapacity packet.new }
     ensures kinds { server_kinds (map M.server_shown methods.new) ≡ server_kinds (map M.server_shown methods.old) }
     ensures unnamed { (order : List ℕ) → is_among order kind ≡ true
         → servers_unnamed order (map M.server_shown methods.new) ≡ servers_unnamed order (map M.server_shown methods.old) }
@@ -82,7 +82,7 @@ pub fn call_server_method<M: ServerMethod, R: Records>(
         → server_turn users.now next_id kind (server_views order (map M.server_shown methods.old)) response.now
         ≡ record { turn = server_turn_with result packet.new tags.new; after = server_views order (map M.server_shown methods.new) } }
     ensures tags { tags.new ≡ server_tags (server_turn_with result packet.new tags.new) }
-    ensures room { requests result ≡ true → HasCapacity packet.new }
+    ensures capacity { requests result ≡ true → HasCapacity packet.new }
     ensures kinds { server_kinds (map M.server_shown methods.new) ≡ server_kinds (map M.server_shown methods.old) }
     ensures unnamed { (order : List ℕ) → is_among order kind ≡ true
         → servers_unnamed order (map M.server_shown methods.new) ≡ servers_unnamed order (map M.server_shown methods.old) }

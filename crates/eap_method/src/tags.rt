@@ -116,7 +116,7 @@ impl<R: Records> Model for TagList<R> {
 
     ghost view = { λ l. l.note.records };
 
-    ghost invariant = { λ l. (l.count ≤ 2) × (l.count ≡ length l.note.records) × R.keeps l.room l.note.records };
+    ghost invariant = { λ l. (l.count ≤ 2) × (l.count ≡ length l.note.records) × R.stores l.room l.note.records };
 }
 
 impl<R: Records> TagList<R> {
@@ -153,7 +153,7 @@ impl<R: Records> TagList<R> {
     ) -> bool
         requires covered { length (concat (map (λ p. p.now) covered.now)) ≤ max_packet }
         requires tag { length tag.now ≤ 32 }
-        ensures room { IsTrue result ↔ (length self.old < 2) }
+        ensures capacity { IsTrue result ↔ (length self.old < 2) }
         ensures added { length self.old < 2
             → self.new ≡ self.old ++ (record {
               method = method;
@@ -201,7 +201,7 @@ impl<R: Records> TagList<R> {
 
     /// Appends a record and answers true. If 2 records are there it answers false and changes nothing.
     fn add_record(&mut self, tag: &TagRecord) -> bool
-        ensures room { IsTrue result ↔ (length self.old < 2) }
+        ensures capacity { IsTrue result ↔ (length self.old < 2) }
         ensures added { length self.old < 2 → self.new ≡ self.old ++ tag.now ∷ [] }
         ensures unchanged { 2 ≤ length self.old → self.new ≡ self.old }
     {
@@ -218,7 +218,7 @@ impl<R: Records> TagList<R> {
 impl TagList<TwoRecords> {
     /// Appends a record and answers true. If 2 records are there it answers false and changes nothing.
     pub fn push(&mut self, tag: TagRecord) -> bool
-        ensures room { IsTrue result ↔ (length self.old < 2) }
+        ensures capacity { IsTrue result ↔ (length self.old < 2) }
         ensures added { length self.old < 2 → self.new ≡ self.old ++ tag ∷ [] }
         ensures unchanged { 2 ≤ length self.old → self.new ≡ self.old }
     {
@@ -228,7 +228,7 @@ impl TagList<TwoRecords> {
     /// The records in order.
     pub fn as_slice(&self) -> &[TagRecord]
         ensures same { result.now ≡ self.now }
-        ensures fits { length result.now ≤ 2 }
+        ensures bounded { length result.now ≤ 2 }
     {
         self.room.as_slice()
     }

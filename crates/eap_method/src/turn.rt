@@ -64,7 +64,7 @@ impl PeerAnswer {
     /// The turn with the packet and the records that its call wrote.
     pub fn with(self, packet: Packet, tags: Tags) -> PeerTurn
         ensures turn { peer_turn_of result ≡ peer_turn_with self packet tags }
-        ensures room { (replies self ≡ true → HasCapacity packet) → PeerTurnHasCapacity result }
+        ensures capacity { (replies self ≡ true → HasCapacity packet) → PeerTurnHasCapacity result }
     {
         match self {
             PeerAnswer::Discard(cause) => PeerTurn::Discard(cause),
@@ -82,7 +82,7 @@ impl ServerAnswer {
     /// The turn with the packet and the records that its call wrote.
     pub fn with(self, packet: Packet, tags: Tags) -> ServerTurn
         ensures turn { server_turn_of result ≡ server_turn_with self packet tags }
-        ensures room { (requests self ≡ true → HasCapacity packet) → ServerTurnHasCapacity result }
+        ensures capacity { (requests self ≡ true → HasCapacity packet) → ServerTurnHasCapacity result }
     {
         match self {
             ServerAnswer::Discard(cause) => ServerTurn::Discard(cause),

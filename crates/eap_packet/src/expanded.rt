@@ -161,7 +161,7 @@ pub fn plain(view: &PacketView) -> Option<Packet>
 pub fn wrap_in_place(packet: &mut Packet)
     requires typed { 5 ≤ length_of packet.old }
     requires whole { length_of packet.old ≤ length packet.old }
-    requires fits { length_of packet.old ≤ 1493 }
+    requires bounded { length_of packet.old ≤ 1493 }
     ensures { packet.new ≡ expanded_form packet.old }
 {
     let plain = packet.copy();
@@ -175,7 +175,7 @@ pub fn wrap_in_place(packet: &mut Packet)
 pub fn wrap(packet: &Packet) -> Packet
     requires typed { 5 ≤ length_of packet.now }
     requires whole { length_of packet.now ≤ length packet.now }
-    requires fits { length_of packet.now ≤ 1493 }
+    requires bounded { length_of packet.now ≤ 1493 }
     ensures { result ≡ expanded_form packet.now }
 {
     let mut wrapped = packet.copy();

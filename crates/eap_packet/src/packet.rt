@@ -76,7 +76,7 @@ fn first_fault(octets: &[u8]) -> Option<Cause>
 fn typed_view<'a>(code: Code, octets: &'a [u8]) -> PacketView<'a>
     requires typed { 5 ≤ length_of octets.now }
     requires whole { length_of octets.now ≤ length octets.now }
-    requires fits { length_of octets.now ≤ max_packet }
+    requires bounded { length_of octets.now ≤ max_packet }
     ensures same_code { result.code ≡ code }
     ensures id { result.id ≡ slice_index octets.now 1 }
     ensures kind { result.kind ≡ type_of octets.now }
@@ -165,7 +165,7 @@ fn header(code: Code, id: u8, length: usize) -> [u8; 4]
 /// to be appended.
 pub fn init_into(packet: &mut Packet, code: Code, id: u8, kind: u8, size: usize)
     requires typed { IsTrue (has_type code) }
-    requires fits { size ≤ max_type_data }
+    requires bounded { size ≤ max_type_data }
     requires no_nak_request { code ≡ Code.Request → kind ≢ nak_kind }
     requires nak_desires { code ≡ Code.Response → kind ≡ nak_kind → size ≢ 0 }
     ensures spells { (body : List ℕ) → length body ≡ size → packet.new ++ body ≡ spelled (value_with code id kind body) }
@@ -179,7 +179,7 @@ pub fn init_into(packet: &mut Packet, code: Code, id: u8, kind: u8, size: usize)
 /// the packet had.
 pub fn encode_into(packet: &mut Packet, code: Code, id: u8, kind: u8, body: &[u8])
     requires typed { IsTrue (has_type code) }
-    requires fits { length body.now ≤ max_type_data }
+    requires bounded { length body.now ≤ max_type_data }
     requires no_nak_request { code ≡ Code.Request → kind ≢ nak_kind }
     requires nak_desires { code ≡ Code.Response → kind ≡ nak_kind → body.now ≢ [] }
     ensures { packet.new ≡ spelled (value_with code id kind body.now) }
@@ -191,7 +191,7 @@ pub fn encode_into(packet: &mut Packet, code: Code, id: u8, kind: u8, body: &[u8
 /// A Request or a Response of this Type and Type-Data (RFC 3748 section 4.1).
 pub fn encode(code: Code, id: u8, kind: u8, body: &[u8]) -> Packet
     requires typed { IsTrue (has_type code) }
-    requires fits { length body.now ≤ max_type_data }
+    requires bounded { length body.now ≤ max_type_data }
     requires no_nak_request { code ≡ Code.Request → kind ≢ nak_kind }
     requires nak_desires { code ≡ Code.Response → kind ≡ nak_kind → body.now ≢ [] }
     ensures { result ≡ spelled (value_with code id kind body.now) }

@@ -33,7 +33,7 @@ impl Path {
 
     /// Appends a state and answers true. If 8 states are there it answers false and changes nothing.
     pub fn push(&mut self, state: State) -> bool
-        ensures room { IsTrue result ↔ (length self.old < 8) }
+        ensures capacity { IsTrue result ↔ (length self.old < 8) }
         ensures pushed { length self.old < 8 → self.new ≡ self.old ++ state ∷ [] }
         ensures unchanged { 8 ≤ length self.old → self.new ≡ self.old }
     {
@@ -43,7 +43,7 @@ impl Path {
     /// The states in order.
     pub fn as_slice(&self) -> &[State]
         ensures same { result.now ≡ self.now }
-        ensures fits { length result.now ≤ 8 }
+        ensures bounded { length result.now ≤ 8 }
     {
         self.states.as_slice()
     }

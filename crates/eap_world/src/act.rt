@@ -169,14 +169,14 @@ impl<P: PeerMethod, S: ServerMethod> Machines<P, S> {
                 } else if is_misplaced {
                     Action::Skipped(Skip::Place)
                 } else {
-                    self.hand(packet.port, octets)
+                    self.deliver_octets(packet.port, octets)
                 }
             }
         }
     }
 
     /// Octets arrive at a port, which a party has.
-    fn hand(&mut self, port: Port, octets: &[u8]) -> Action
+    fn deliver_octets(&mut self, port: Port, octets: &[u8]) -> Action
         requires serving { IsServing self.old.mode self.old.server.vars }
         ensures { DoesCall P.peer_shown S.server_shown self.old result self.new None (Some (call_at port octets.now)) }
     {
@@ -455,7 +455,7 @@ fn is_absent(mode: Mode, port: Port) -> bool
 /// The octets of a packet; none if it wasn't sent.
 fn octets_of<'a>(packet: Option<Stored<'a>>) -> &'a [u8]
     ensures octets { result.now ≡ octets_of (sent_of_slot packet.entry) }
-    ensures fits { IfSome packet.entry (λ s. length s.octets.now ≤ max_packet) → length result.now ≤ max_packet }
+    ensures bounded { IfSome packet.entry (λ s. length s.octets.now ≤ max_packet) → length result.now ≤ max_packet }
 {
     match packet {
         None => &[],

@@ -110,7 +110,7 @@ impl Conversations {
     /// has none left; nothing changes then.
     pub fn start_peer(&mut self, event: u32) -> Option<Nonce>
         ensures next { result ≡ next_nonce self.old.peer_left }
-        ensures begun { self.new ≡ peer_initiates event self.old self.old.peer_left }
+        ensures initiated { self.new ≡ peer_initiates event self.old self.old.peer_left }
     {
         match self.peer_left.next_unused() {
             None => None,
@@ -130,7 +130,7 @@ impl Conversations {
     /// The same of the server.
     pub fn start_server(&mut self, event: u32) -> Option<Nonce>
         ensures next { result ≡ next_nonce self.old.server_left }
-        ensures begun { self.new ≡ server_initiates event self.old self.old.server_left }
+        ensures initiated { self.new ≡ server_initiates event self.old self.old.server_left }
     {
         match self.server_left.next_unused() {
             None => None,
@@ -179,8 +179,8 @@ fn begin(
     one: &Waiting,
 )
     requires two { 2 ≤ length begun.old.items }
-    requires room { array_vec_len begun.old < 32 }
-    ensures begun { begun.new.items
+    requires capacity { array_vec_len begun.old < 32 }
+    ensures started { begun.new.items
         ≡ begun.old.items ++ record { event = event; end = end; nonce = one.now.nonce } ∷ [] }
     ensures count { array_vec_len begun.new ≡ array_vec_len begun.old + 1 }
     ensures fresh { (later_fresh.new && fronts_differ begun.new.items)

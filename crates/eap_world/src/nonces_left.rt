@@ -120,7 +120,7 @@ fn first_octets(nonces: &[Nonce]) -> [bool; 256]
 fn mark_first(firsts: &mut [bool; 256], nonce: &Nonce)
     ensures size { length nonce.now ≡ 32 }
     ensures first { is_first firsts.new (slice_index nonce.now 0) ≡ true }
-    ensures kept { (octet : ℕ) → is_first firsts.old octet ≡ true → is_first firsts.new octet ≡ true }
+    ensures preserves { (octet : ℕ) → is_first firsts.old octet ≡ true → is_first firsts.new octet ≡ true }
 {
     firsts[usize::from(nonce[0])] = true;
 }

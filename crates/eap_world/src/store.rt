@@ -81,7 +81,7 @@ impl Store {
 
     /// Makes room for one more packet of at most 1,500 octets. False for want of memory, which comes only if
     /// that room lacked. The packets stay, and no room is lost.
-    pub fn make_room(&mut self) -> bool
+    pub fn reserve_packet(&mut self) -> bool
         ensures packets { self.new.packets ≡ self.old.packets }
         ensures stored { self.new.stored ≡ self.old.stored }
         ensures octets_capacity { result ≡ true → max_packet ≤ self.new.octets_capacity }
@@ -96,8 +96,8 @@ impl Store {
     /// Stores a packet of at most 1,500 octets, for which there is room. One whose octets are those of the
     /// last packet to the same port takes no more octets.
     #[tactic(auto, using(crate::proofs::Storing::one_more, crate::proofs::Storing::stored_after, crate::proofs::Storing::are_there))]
-    pub fn keep(&mut self, port: Port, octets: &[u8])
-        requires fits { length octets.now ≤ max_packet }
+    pub fn append(&mut self, port: Port, octets: &[u8])
+        requires bounded { length octets.now ≤ max_packet }
         requires octets_capacity { max_packet ≤ self.old.octets_capacity }
         requires packets_capacity { 1 ≤ self.old.packets_capacity }
         ensures packets { self.new.packets ≡ self.old.packets ++ (record { port = port; octets = octets.now }) ∷ [] }
@@ -128,7 +128,7 @@ impl Store {
     /// The packet of this number, counted from 1; None if none was sent with it.
     pub fn get(&self, number: u32) -> Option<Stored>
         ensures packet { sent_of_slot result ≡ packet_numbered self.now.packets number }
-        ensures fits { IfSome result (λ packet. length packet.octets.now ≤ max_packet) }
+        ensures bounded { IfSome result (λ packet. length packet.octets.now ≤ max_packet) }
     {
         if number == 0 {
             return None;
@@ -195,7 +195,7 @@ fn is_to(slot: &Slot, port: Port) -> bool
 fn octets_at<'a>(octets: &'a [u8], slot: &Slot) -> &'a [u8]
     requires { IsThere (length octets.now) slot.now }
     ensures same { result.now ≡ (packet_at octets.now slot.now).octets }
-    ensures fits { length result.now ≤ max_packet }
+    ensures bounded { length result.now ≤ max_packet }
 {
     &octets[slot.place..slot.place + slot.length]
 }

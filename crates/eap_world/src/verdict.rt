@@ -62,7 +62,7 @@ fn peer_agrees(setup: &PeerSetup, report: &Report) -> bool
     ensures { result ≡ peer_agrees setup.now report.now }
 {
     is_among(setup.methods.as_slice(), report.method)
-        && setup.accepts.takes(report.id_s.as_slice())
+        && setup.accepts.allows(report.id_s.as_slice())
         && allows_suite(setup.suites.as_slice(), report)
 }
 

@@ -25,7 +25,7 @@ use peer_machine::PeerMachine;
 use server_machine::{Role, ServerMachine};
 use std::alloc::Global;
 use std::marker::Model;
-use tag_book::{End, Entry, MadeBy, TagsVerdict, book_tags, judge_tags};
+use tag_book::{End, Entry, RecordOwner, TagsVerdict, book_tags, judge_tags};
 use thiserror::Error;
 
 /// Want of memory, the one error of `World::start` and `World::step`.
@@ -106,8 +106,8 @@ impl<P: PeerMethod, S: ServerMethod> World<P, S> {
         requires sound_server { IsSoundServer setup.server }
         requires peer_objects { have_each (peer_kinds (map P.peer_shown methods.peer.items)) setup.peer.methods ≡ true }
         requires server_objects { have_each (server_kinds (map S.server_shown methods.server.items)) setup.server.methods ≡ true }
-        ensures made { now_of P.peer_shown S.server_shown result ≡ initial_world setup }
-        ensures kept { PreservesObjects P.peer_shown S.server_shown setup.peer.methods setup.server.methods
+        ensures initial { now_of P.peer_shown S.server_shown result ≡ initial_world setup }
+        ensures preserves { PreservesObjects P.peer_shown S.server_shown setup.peer.methods setup.server.methods
             methods.peer.items methods.server.items result.peer.methods result.server.methods }
         ensures objects { HasObjects P.peer_shown S.server_shown result }
     {
@@ -156,11 +156,11 @@ impl<P: PeerMethod, S: ServerMethod> World<P, S> {
     pub fn start_brief(&mut self) -> Result<Brief, Memory>
         requires unstarted { self.old.started ≡ false }
         requires objects { HasObjects P.peer_shown S.server_shown self.old }
-        ensures told { MatchResult result
+        ensures reported { MatchResult result
             (λ told. IsResult P.peer_shown S.server_shown (world_start (now_of P.peer_shown S.server_shown self.old)) told self.new)
             (λ _. self.new ≡ self.old) }
         ensures run { IfOk result (λ told. StartsRun P.peer_shown S.server_shown self.old self.new) }
-        ensures kept { PreservesAllObjects P.peer_shown S.server_shown self.old self.new }
+        ensures preserves { PreservesAllObjects P.peer_shown S.server_shown self.old self.new }
         ensures names { NamesAlike self.old self.new }
         ensures objects { HasObjects P.peer_shown S.server_shown self.new }
     {
@@ -180,13 +180,13 @@ impl<P: PeerMethod, S: ServerMethod> World<P, S> {
     pub fn step_brief(&mut self, event: &Event) -> Result<Brief, Memory>
         requires started { self.old.started ≡ true }
         requires objects { HasObjects P.peer_shown S.server_shown self.old }
-        requires room { self.old.counts.events < 1000000 }
-        ensures told { MatchResult result
+        requires capacity { self.old.counts.events < 1000000 }
+        ensures reported { MatchResult result
             (λ told. IsResult P.peer_shown S.server_shown (world_step (now_of P.peer_shown S.server_shown self.old) event.now) told self.new)
             (λ _. self.new ≡ self.old) }
         ensures run { IfOk result (λ told. HasContinued P.peer_shown S.server_shown event.now self.old self.new) }
         ensures packets { length self.new.sent ≤ self.new.counts.events + 1 }
-        ensures kept { PreservesAllObjects P.peer_shown S.server_shown self.old self.new }
+        ensures preserves { PreservesAllObjects P.peer_shown S.server_shown self.old self.new }
         ensures names { NamesAlike self.old self.new }
         ensures objects { HasObjects P.peer_shown S.server_shown self.new }
     {
@@ -197,12 +197,12 @@ impl<P: PeerMethod, S: ServerMethod> World<P, S> {
     pub fn start(&mut self) -> Result<Told, Memory>
         requires unstarted { self.old.started ≡ false }
         requires objects { HasObjects P.peer_shown S.server_shown self.old }
-        ensures told { MatchResult result
+        ensures reported { MatchResult result
             (λ told. IsResult P.peer_shown S.server_shown (world_start (now_of P.peer_shown S.server_shown self.old)) (brief_of told) self.new)
             (λ _. self.new ≡ self.old) }
         ensures octets { IfOk result (λ told. packet_octets told.sent ≡ octets_of_sent self.new.sent (brief_of told).sent) }
         ensures run { IfOk result (λ told. StartsRun P.peer_shown S.server_shown self.old self.new) }
-        ensures kept { PreservesAllObjects P.peer_shown S.server_shown self.old self.new }
+        ensures preserves { PreservesAllObjects P.peer_shown S.server_shown self.old self.new }
         ensures names { NamesAlike self.old self.new }
         ensures objects { HasObjects P.peer_shown S.server_shown self.new }
     {
@@ -214,14 +214,14 @@ impl<P: PeerMethod, S: ServerMethod> World<P, S> {
     pub fn step(&mut self, event: &Event) -> Result<Told, Memory>
         requires started { self.old.started ≡ true }
         requires objects { HasObjects P.peer_shown S.server_shown self.old }
-        requires room { self.old.counts.events < 1000000 }
-        ensures told { MatchResult result
+        requires capacity { self.old.counts.events < 1000000 }
+        ensures reported { MatchResult result
             (λ told. IsResult P.peer_shown S.server_shown (world_step (now_of P.peer_shown S.server_shown self.old) event.now) (brief_of told) self.new)
             (λ _. self.new ≡ self.old) }
         ensures octets { IfOk result (λ told. packet_octets told.sent ≡ octets_of_sent self.new.sent (brief_of told).sent) }
         ensures run { IfOk result (λ told. HasContinued P.peer_shown S.server_shown event.now self.old self.new) }
         ensures packets { length self.new.sent ≤ self.new.counts.events + 1 }
-        ensures kept { PreservesAllObjects P.peer_shown S.server_shown self.old self.new }
+        ensures preserves { PreservesAllObjects P.peer_shown S.server_shown self.old self.new }
         ensures names { NamesAlike self.old self.new }
         ensures objects { HasObjects P.peer_shown S.server_shown self.new }
     {
@@ -250,18 +250,18 @@ impl<P: PeerMethod, S: ServerMethod> World<P, S> {
     #[tactic(auto, unfolding(crate::specs::World::world_start))]
     fn start_by_table(&mut self) -> Result<Brief, Memory>
         requires { self.old.started ≡ false }
-        ensures told { MatchResult result
+        ensures reported { MatchResult result
             (λ told. IsResult P.peer_shown S.server_shown (world_start (now_of P.peer_shown S.server_shown self.old)) told self.new)
             (λ _. self.new ≡ self.old) }
-        ensures kept { PreservesAllObjects P.peer_shown S.server_shown self.old self.new }
+        ensures preserves { PreservesAllObjects P.peer_shown S.server_shown self.old self.new }
         ensures names { NamesAlike self.old self.new }
     {
-        if !make_room(&mut self.sent, &mut self.book) {
+        if !reserve_event(&mut self.sent, &mut self.book) {
             return Err(Memory);
         }
         let action = self.machines.start();
         self.started = true;
-        Ok(keep(
+        Ok(store_result(
             &self.machines,
             &mut self.sent,
             &mut self.book,
@@ -276,15 +276,15 @@ impl<P: PeerMethod, S: ServerMethod> World<P, S> {
     fn step_by_table(&mut self, event: &Event) -> Result<Brief, Memory>
         requires started { self.old.started ≡ true }
         requires objects { HasObjects P.peer_shown S.server_shown self.old }
-        requires room { self.old.counts.events < 1000000 }
-        ensures told { MatchResult result
+        requires capacity { self.old.counts.events < 1000000 }
+        ensures reported { MatchResult result
             (λ told. IsResult P.peer_shown S.server_shown (world_step (now_of P.peer_shown S.server_shown self.old) event.now) told self.new)
             (λ _. self.new ≡ self.old) }
         ensures packets { length self.new.sent ≤ self.new.counts.events + 1 }
-        ensures kept { PreservesAllObjects P.peer_shown S.server_shown self.old self.new }
+        ensures preserves { PreservesAllObjects P.peer_shown S.server_shown self.old self.new }
         ensures names { NamesAlike self.old self.new }
     {
-        if !make_room(&mut self.sent, &mut self.book) {
+        if !reserve_event(&mut self.sent, &mut self.book) {
             return Err(Memory);
         }
         let number = self.counts.events + 1;
@@ -292,7 +292,7 @@ impl<P: PeerMethod, S: ServerMethod> World<P, S> {
         self.machines.event = number;
         let action = self.machines.act(&self.sent, event);
         self.counts = count(self.counts, &action);
-        Ok(keep(
+        Ok(store_result(
             &self.machines,
             &mut self.sent,
             &mut self.book,
@@ -328,7 +328,7 @@ impl<P: PeerMethod, S: ServerMethod> World<P, S> {
     /// 4); None if none was sent with it.
     pub fn packet(&self, number: u32) -> Option<&[u8]>
         ensures octets { option_copied result ≡ octets_numbered self.now.sent number }
-        ensures fits { IfSome result (λ octets. length octets.now ≤ max_packet) }
+        ensures bounded { IfSome result (λ octets. length octets.now ≤ max_packet) }
     {
         match self.sent.get(number) {
             None => None,
@@ -339,7 +339,7 @@ impl<P: PeerMethod, S: ServerMethod> World<P, S> {
     /// The octets of the packet that was reported; no octets if none was sent, or not in this world.
     pub fn octets_of(&self, told: &Brief) -> &[u8]
         ensures octets { result.now ≡ octets_of_sent self.now.sent told.now.sent }
-        ensures fits { length result.now ≤ max_packet }
+        ensures bounded { length result.now ≤ max_packet }
     {
         match told.sent {
             None => &[],
@@ -422,7 +422,7 @@ impl<P: PeerMethod, S: ServerMethod> World<P, S> {
     pub fn tags(&self) -> TagsVerdict
         ensures { result ≡ tags_verdict self.now.book }
     {
-        judge_tags(self.book.as_slice(), MadeBy::Other)
+        judge_tags(self.book.as_slice(), RecordOwner::Other)
     }
 
     /// Whether each accepted tag was made earlier by either end, with the same method, label, key, octets
@@ -431,7 +431,7 @@ impl<P: PeerMethod, S: ServerMethod> World<P, S> {
     pub fn tags_either(&self) -> TagsVerdict
         ensures { result ≡ tags_verdict_either self.now.book }
     {
-        judge_tags(self.book.as_slice(), MadeBy::Either)
+        judge_tags(self.book.as_slice(), RecordOwner::Either)
     }
 
     /// Whether both ends agree in their present conversations. The crate `world_laws` says what this is in every run of a setup
@@ -531,7 +531,7 @@ fn reported_anew(held: HasReported, conversations: &Conversations, party: Party)
 }
 
 /// Makes room for one packet and four tags; false for want of memory, which comes only if room lacked.
-fn make_room(sent: &mut Store, book: &mut Vec<Entry>) -> bool
+fn reserve_event(sent: &mut Store, book: &mut Vec<Entry>) -> bool
     ensures sent { sent.new.packets ≡ sent.old.packets }
     ensures stored { sent.new.stored ≡ sent.old.stored }
     ensures book { book.new.items ≡ book.old.items }
@@ -541,11 +541,11 @@ fn make_room(sent: &mut Store, book: &mut Vec<Entry>) -> bool
     ensures lacked { max_packet ≤ sent.old.octets_capacity → 1 ≤ sent.old.packets_capacity → vec_len book.old + 4 ≤ vec_capacity book.old
         → result ≡ true }
 {
-    sent.make_room() && book.reserve(MAX_TAGS).is_ok()
+    sent.reserve_packet() && book.reserve(MAX_TAGS).is_ok()
 }
 
 /// Stores what an action sends and what it writes into the book, for which there is room, and returns its result.
-fn keep<P: PeerMethod, S: ServerMethod>(
+fn store_result<P: PeerMethod, S: ServerMethod>(
     machines: &Machines<P, S>,
     sent: &mut Store,
     book: &mut Vec<Entry>,
@@ -556,12 +556,12 @@ fn keep<P: PeerMethod, S: ServerMethod>(
     requires sent_capacity { (max_packet ≤ sent.old.octets_capacity) × (1 ≤ sent.old.packets_capacity) }
     requires book_capacity { vec_len book.old + 4 ≤ vec_capacity book.old }
     requires few { length sent.old.packets < 2 ^ 32 - 1 }
-    ensures told { result
+    ensures reported { result
         ≡ result_with P.peer_shown S.server_shown held.old machines.now event (length sent.old.packets + 1)
         (action_with action machines.now.packet machines.now.tags) }
     ensures sent { sent.new.packets ≡ sent.old.packets ++ sent_by (action_with action machines.now.packet machines.now.tags) }
     ensures book { book.new.items ≡ book.old.items ++ booked_by event (action_with action machines.now.packet machines.now.tags) }
-    ensures held { held.new ≡ reported_with P.peer_shown S.server_shown held.old machines.now (action_with action machines.now.packet machines.now.tags) }
+    ensures reports { held.new ≡ reported_with P.peer_shown S.server_shown held.old machines.now (action_with action machines.now.packet machines.now.tags) }
     ensures few_sent { length sent.new.packets ≤ length sent.old.packets + 1 }
     ensures few_booked { vec_len book.new ≤ vec_len book.old + 4 }
 {
@@ -595,7 +595,7 @@ fn store_first_report<P: PeerMethod, S: ServerMethod>(
     requires { named.old ≡ None }
     ensures named { named.new
         ≡ first_report (has_reported held.old party) party (report_of (parties_of P.peer_shown S.server_shown machines.now) party) }
-    ensures held { held.new ≡ reported_after held.old named.new }
+    ensures reports { held.new ≡ reported_after held.old named.new }
 {
     if !has_reported(*held, party) {
         if let Some(report) = report_of(machines, party) {
@@ -647,7 +647,7 @@ fn with_party(held: HasReported, party: Party) -> HasReported
 /// Writes the tags of an action into the book, for which there is room.
 fn store_tags(book: &mut Vec<Entry>, event: u32, action: &Action, tags: &Tags<TwoRecords>)
     requires { vec_len book.old + 4 ≤ vec_capacity book.old }
-    ensures kept { (packet : List ℕ) → book.new.items ≡ book.old.items ++ booked_by event (action_with action.now packet tags.now) }
+    ensures stored { (packet : List ℕ) → book.new.items ≡ book.old.items ++ booked_by event (action_with action.now packet tags.now) }
     ensures few { vec_len book.new ≤ vec_len book.old + 4 }
 {
     if let Action::Called(did) = action {
@@ -678,20 +678,20 @@ fn next_number(sent: usize) -> u32
 
 /// Stores what an action sends, for which there is room.
 fn store_packet(sent: &mut Store, action: &Action, packet: &Packet)
-    requires room { (max_packet ≤ sent.old.octets_capacity) × (1 ≤ sent.old.packets_capacity) }
-    ensures kept { (tags : records.Tags) → sent.new.packets ≡ sent.old.packets ++ sent_by (action_with action.now packet.now tags) }
+    requires capacity { (max_packet ≤ sent.old.octets_capacity) × (1 ≤ sent.old.packets_capacity) }
+    ensures stored { (tags : records.Tags) → sent.new.packets ≡ sent.old.packets ++ sent_by (action_with action.now packet.now tags) }
     ensures few { length sent.new.packets ≤ length sent.old.packets + 1 }
 {
     if let Action::Called(did) = action {
         if did.step.sends {
-            sent.keep(did.port, packet.as_slice());
+            sent.append(did.port, packet.as_slice());
         }
     }
 }
 
 /// The counts with one more event.
 fn count(counts: Counts, action: &Action) -> Counts
-    requires room { counts.events < 2 ^ 31 }
+    requires capacity { counts.events < 2 ^ 31 }
     requires deliveries { counts.deliveries ≤ counts.events }
     requires discards { counts.discards ≤ counts.events }
     ensures value { (packet : List ℕ) (tags : records.Tags) → result ≡ counts_after counts (action_with action.now packet tags) }
@@ -729,7 +729,7 @@ fn skip_result(event: u32, skip: Skip) -> Brief
 
 /// The result of a call, but for a report: the number of its event, and that of the packet that it sends.
 fn tell(event: u32, number: u32, party: Party, port: Port, step: Step) -> Brief
-    ensures told { (is_delivery : Bool) (packet : List ℕ) (tags : records.Tags)
+    ensures reported { (is_delivery : Bool) (packet : List ℕ) (tags : records.Tags)
         → result ≡ told_of event number None
         (Called (record { party = party; is_delivery = is_delivery; port = port; step = step_with step packet tags })) }
     ensures unnamed { result.named ≡ None }

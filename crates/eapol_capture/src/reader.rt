@@ -102,7 +102,7 @@ impl PcapReader {
         ensures contents { Answers result self.old self.new (S.shown.octets source.old) (S.shown.octets source.new) }
         ensures number { self.new.number ≡ self.old.number + begun result (records_start self.old) self.new }
         ensures over { self.new.over ≡ is_last result }
-        ensures takes { ConsumesSome result self.old.taken self.new.taken }
+        ensures consumes { ConsumesSome result self.old.taken self.new.taken }
         ensures bounded { self.new.taken ≤ max_input }
         ensures exhausted { Exhausts result (S.shown.octets source.new) }
         ensures waits { Waits result self.old self.new (S.shown.octets source.old) }
@@ -133,7 +133,7 @@ impl PcapReader {
     fn settle(&mut self, answer: NextRecord, start: u32)
         requires alive { self.old.over ≡ false }
         requires counted { self.old.number ≤ self.old.taken }
-        requires room { answer ≡ Record → self.old.number < self.old.taken }
+        requires capacity { answer ≡ Record → self.old.number < self.old.taken }
         ensures { self.new ≡ record self.old { number = self.old.number + begun answer start self.old; over = is_last answer } }
     {
         let has_initiated = match answer {
@@ -152,7 +152,7 @@ impl PcapReader {
         ensures contents { Answers result self.old self.new (S.shown.octets source.old) (S.shown.octets source.new) }
         ensures number { self.new.number ≡ self.old.number }
         ensures over { self.new.over ≡ self.old.over }
-        ensures takes { ConsumesSome result self.old.taken self.new.taken }
+        ensures consumes { ConsumesSome result self.old.taken self.new.taken }
         ensures bounded { self.new.taken ≤ max_input }
         ensures exhausted { Exhausts result (S.shown.octets source.new) }
         ensures waits { Waits result self.old self.new (S.shown.octets source.old) }
@@ -190,7 +190,7 @@ impl PcapReader {
     fn judge(&mut self) -> Result<OctetOrder, NextRecord>
         requires { length self.old.frame ≡ 24 }
         ensures judged { result ≡ order_or_fault self.old.frame }
-        ensures kept { self.new ≡ record self.old { order = order_found result } }
+        ensures stored { self.new ≡ record self.old { order = order_found result } }
     {
         let found = judge_header(self.frame.as_slice());
         self.order = found.ok();
@@ -204,7 +204,7 @@ impl PcapReader {
         ensures contents { Answers result self.old self.new (S.shown.octets source.old) (S.shown.octets source.new) }
         ensures number { self.new.number ≡ self.old.number }
         ensures over { self.new.over ≡ self.old.over }
-        ensures takes { ConsumesSome result self.old.taken self.new.taken }
+        ensures consumes { ConsumesSome result self.old.taken self.new.taken }
         ensures bounded { self.new.taken ≤ max_input }
         ensures exhausted { Exhausts result (S.shown.octets source.new) }
         ensures waits { Waits result self.old self.new (S.shown.octets source.old) }
@@ -224,7 +224,7 @@ impl PcapReader {
         ensures contents { Answers (answer_of result) self.old self.new (S.shown.octets source.old) (S.shown.octets source.new) }
         ensures number { self.new.number ≡ self.old.number }
         ensures over { self.new.over ≡ self.old.over }
-        ensures takes { ConsumesSome (answer_of result) self.old.taken self.new.taken }
+        ensures consumes { ConsumesSome (answer_of result) self.old.taken self.new.taken }
         ensures bounded { self.new.taken ≤ max_input }
         ensures exhausted { Exhausts (answer_of result) (S.shown.octets source.new) }
         ensures waits { Waits (answer_of result) self.old self.new (S.shown.octets source.old) }
@@ -250,7 +250,7 @@ impl PcapReader {
         requires bounded { self.old.taken ≤ max_input }
         ensures part { Parts result 12 self.old self.new (S.shown.octets source.old) (S.shown.octets source.new) }
         ensures length { IfOk result (λ size. size ≡ number order (take 4 (drop 8 self.new.frame))) }
-        ensures keeps { Preserves self.old self.new }
+        ensures preserves { Preserves self.old self.new }
         ensures grows { self.old.taken ≤ self.new.taken }
         ensures bounded { self.new.taken ≤ max_input }
         ensures read { Faults S.shown (answer_of result) source.old source.new }
@@ -264,7 +264,7 @@ impl PcapReader {
     fn read_body<S: Source>(&mut self, source: &mut S, size: u32) -> Result<(), NextRecord>
         requires bounded { self.old.taken ≤ max_input }
         ensures part { Frames result size self.old self.new (S.shown.octets source.old) (S.shown.octets source.new) }
-        ensures keeps { Preserves self.old self.new }
+        ensures preserves { Preserves self.old self.new }
         ensures grows { self.old.taken ≤ self.new.taken }
         ensures bounded { self.new.taken ≤ max_input }
         ensures read { Faults S.shown (answer_of result) source.old source.new }
@@ -280,7 +280,7 @@ impl PcapReader {
         requires bounded { self.old.taken ≤ max_input }
         ensures size { OnOk result (length self.new.frame ≡ min count max_stored) }
         ensures part { Parts result count self.old self.new (S.shown.octets source.old) (S.shown.octets source.new) }
-        ensures keeps { Preserves self.old self.new }
+        ensures preserves { Preserves self.old self.new }
         ensures grows { self.old.taken ≤ self.new.taken }
         ensures bounded { self.new.taken ≤ max_input }
         ensures read { Faults S.shown (answer_of result) source.old source.new }
@@ -310,11 +310,11 @@ impl PcapReader {
 
     /// Whether an octet is left. Reads if none is buffered.
     fn has_more<S: Source>(&mut self, source: &mut S) -> Result<bool, NextRecord>
-        ensures keeps { Preserves self.old self.new }
-        ensures taken { self.new.taken ≡ self.old.taken }
+        ensures preserves { Preserves self.old self.new }
+        ensures consumed { self.new.taken ≡ self.old.taken }
         ensures frame { self.new.frame ≡ self.old.frame }
         ensures left { OnOk result (octets_left self.old (S.shown.octets source.old) ≡ octets_left self.new (S.shown.octets source.new)) }
-        ensures held { OnOk result (length self.old.held ≤ length self.new.held) }
+        ensures pending { OnOk result (length self.old.held ≤ length self.new.held) }
         ensures some { result ≡ Ok true → 0 < length self.new.held }
         ensures none_pending { result ≡ Ok false → self.new.held ≡ [] }
         ensures none_left { result ≡ Ok false → S.shown.octets source.new ≡ nothing_known (S.shown.octets source.new) }
@@ -334,13 +334,13 @@ impl PcapReader {
 
     /// Consumes octets that it has buffered, at most so many and as many as pass no limit, and answers how many.
     fn consume_pending(&mut self, most: u32) -> u32
-        ensures fits { result ≤ most }
+        ensures within_size { result ≤ most }
         ensures there { result ≤ length self.old.held }
-        ensures taken { self.new.taken ≡ self.old.taken + result }
-        ensures held { self.new.held ≡ drop result self.old.held }
-        ensures kept { self.new.frame ≡ take max_stored (self.old.frame ++ take result self.old.held) }
+        ensures consumed { self.new.taken ≡ self.old.taken + result }
+        ensures pending { self.new.held ≡ drop result self.old.held }
+        ensures stored { self.new.frame ≡ take max_stored (self.old.frame ++ take result self.old.held) }
         ensures stuck { result ≡ 0 → 0 < most → 0 < length self.old.held → max_input ≤ self.new.taken }
-        ensures keeps { Preserves self.old self.new }
+        ensures preserves { Preserves self.old self.new }
         ensures bounded { self.new.taken ≤ max_input }
     {
         let budget = (MAX_INPUT - self.taken).min(most) as usize;
@@ -356,7 +356,7 @@ impl PcapReader {
     /// If the last answer was `Record`, what was stored of its frame: the first octets, at most 4,096.
     pub fn frame(&self) -> &[u8]
         ensures same { result.now ≡ self.now.frame }
-        ensures fits { length result.now ≤ max_stored }
+        ensures bounded { length result.now ≤ max_stored }
     {
         self.frame.as_slice()
     }

@@ -72,7 +72,7 @@ fn tag_over(
 pub fn eax_seal_with(key: &CmacKey, nonce: &[u8], header: &[u8], text: &mut [u8]) -> [u8; 16]
     ensures ciphertext { text.new ≡ (eax_sealed key.now nonce.now header.now text.old).ciphertext }
     ensures tag { result ≡ (eax_sealed key.now nonce.now header.now text.old).tag }
-    ensures comes_back { eax_plaintext key.now nonce.now text.new ≡ text.old }
+    ensures decrypts { eax_plaintext key.now nonce.now text.new ≡ text.old }
 {
     let nonce_mac = omac(key, 0, nonce);
     apply_key_stream(key.cipher(), u128::from_be_bytes(nonce_mac), text);
@@ -83,7 +83,7 @@ pub fn eax_seal_with(key: &CmacKey, nonce: &[u8], header: &[u8], text: &mut [u8]
 pub fn eax_seal(key: &[u8; 16], nonce: &[u8], header: &[u8], text: &mut [u8]) -> [u8; 16]
     ensures ciphertext { text.new ≡ (eax_sealed key.now nonce.now header.now text.old).ciphertext }
     ensures tag { result ≡ (eax_sealed key.now nonce.now header.now text.old).tag }
-    ensures comes_back { eax_plaintext key.now nonce.now text.new ≡ text.old }
+    ensures decrypts { eax_plaintext key.now nonce.now text.new ≡ text.old }
 {
     eax_seal_with(&CmacKey::new(key), nonce, header, text)
 }

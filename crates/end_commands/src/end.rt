@@ -49,7 +49,7 @@ pub trait CanStart<M>: Machine {
     fn begin(end: &mut End<M, Self>) -> Option<EndStep>
         requires ready { IsReady Self.is_running has_both end.old 0 }
         ensures ready_after { IsReady Self.is_running has_both end.new 0 }
-        ensures begins { starts_at Self.table (end_seen Self.shown end.old)
+        ensures starts { starts_at Self.table (end_seen Self.shown end.old)
             ≡ record {
               text = start_text (option_map (λ step. result_with step end.new.packet end.new.tags) result);
               ruling = goes;
@@ -155,7 +155,7 @@ fn tell<E: Machine, W: Sink>(
     tags: &mut Tags<TwoRecords>,
 ) -> Result<(), Failed>
     requires { E.is_running pipe.old.machine }
-    ensures going { E.is_running pipe.new.machine }
+    ensures running { E.is_running pipe.new.machine }
     ensures after { (end_step E.table (end_now E.shown pipe.old) input.now).after ≡ end_now E.shown pipe.new }
     ensures text { Appends W.shown result sink.old sink.new
         (told_text number (end_step E.table (end_now E.shown pipe.old) input.now).told) }
@@ -171,16 +171,16 @@ impl<M, E: CanStart<M>> Command for End<M, E> {
 
     ghost seen = { end_seen E.shown };
 
-    ghost took = { end_line_result E.table };
+    ghost line_result = { end_line_result E.table };
 
     ghost closing = { end_closing E.table };
 
     ghost lacks = { end_lacks };
 
-    ghost holds = { IsReady E.is_running E.has_both };
+    ghost is_valid_after = { IsReady E.is_running E.has_both };
 
     #[tactic(auto, unfolding(crate::specs::EndCommand::end_line_result))]
-    fn take<W: Sink>(&mut self, sink: &mut W, line: &[u8]) -> Result<Next, Trouble> {
+    fn handle_line<W: Sink>(&mut self, sink: &mut W, line: &[u8]) -> Result<Next, Trouble> {
         let mut input = EndInput::Idle;
         match self.reader.line_into(line, &mut input) {
             Ok(ItemKind::Nothing) => Ok(Next::Proceed),

@@ -10,7 +10,7 @@ ghost use Rattle.end_objects.specs.Refusals.{has_other_size, has_gap, has_bad_me
 use crate::settings::{
     SETTINGS_SIZE, Settings, key_for, keyed_kinds, kinds_of, named_kinds, suites_of,
 };
-use crate::soundness::{are_kinds, are_suites, fits};
+use crate::soundness::{are_kinds, are_suites, has_key_size};
 use octet_lists::{MAX_NAME, is_among};
 
 /// Why settings are refused. If several reasons apply, the first of them is the answer.
@@ -80,7 +80,7 @@ fn are_valid(kinds: &[u8], settings: &Settings) -> bool
 {
     kinds
         .iter()
-        .all(|kind| fits(*kind, key_for(settings, *kind)))
+        .all(|kind| has_key_size(*kind, key_for(settings, *kind)))
 }
 
 /// Whether each of these methods is among others.
@@ -169,7 +169,7 @@ pub fn retry_refusal(max_retrans: u8) -> Option<Refusal>
 #[tactic(auto, unfolding(crate::specs::Refusals::stand_alone_refusal))]
 pub fn stand_alone_refusal(settings: &Settings, max_retrans: u8) -> Option<Refusal>
     ensures refused { result ≡ stand_alone_refusal (settings_of settings.now) max_retrans }
-    ensures taken { result ≡ None → server_refusal (settings_of settings.now) ≡ None }
+    ensures accepted { result ≡ None → server_refusal (settings_of settings.now) ≡ None }
     ensures other { result ≡ None → IsSoundOther (settings_of settings.now) }
     ensures kinds { result ≡ None → IsTrue (are_kinds (kinds_of (settings_of settings.now))) }
     ensures few { result ≡ None → max_retrans ≤ 10 }

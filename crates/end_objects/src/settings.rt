@@ -155,8 +155,8 @@ fn accepts(server: &[u8]) -> Accepts
 
 /// The settings of a peer.
 pub fn peer_setup(settings: &Settings, nonce: &Nonce) -> PeerSetup
-    requires taken { peer_refusal (settings_of settings.now) ≡ None }
-    ensures made { result ≡ peer_setup_of (settings_of settings.now) nonce.now }
+    requires accepted { peer_refusal (settings_of settings.now) ≡ None }
+    ensures computed { result ≡ peer_setup_of (settings_of settings.now) nonce.now }
     ensures sound { IsSoundPeer result }
     ensures keys { HasKeys result }
 {
@@ -189,7 +189,7 @@ fn peer_setup_from(settings: &Settings, nonce: &Nonce) -> PeerSetup
 pub fn user_of(settings: &Settings, kind: u8) -> User
     requires other { IsSoundOther (settings_of settings.now) }
     requires keyed { is_among (keyed_kinds (settings_of settings.now)) kind ≡ true }
-    ensures made { result ≡ user_with (settings_of settings.now) kind }
+    ensures computed { result ≡ user_with (settings_of settings.now) kind }
     ensures kind { is_kind kind ≡ true }
     ensures key { is_valid_for kind (key_for (settings_of settings.now) kind) ≡ true }
 {
@@ -241,7 +241,7 @@ fn add_users(users: &mut Users, settings: &Settings)
 #[tactic(auto, using(crate::proofs::Taken::users_have_kinds, crate::proofs::Taken::users_have_keys))]
 pub fn users_of(settings: &Settings) -> Users
     requires other { IsSoundOther (settings_of settings.now) }
-    ensures made { result ≡ users_of (settings_of settings.now) }
+    ensures computed { result ≡ users_of (settings_of settings.now) }
     ensures kinds { All (λ user. IsTrue (is_kind user.kind)) result }
     ensures keys { All (λ user. IsTrue (is_valid_for user.kind user.psk)) result }
 {
@@ -253,8 +253,8 @@ pub fn users_of(settings: &Settings) -> Users
 /// The settings of a server, but for its users: none.
 #[inline(always)]
 pub fn server_alone(settings: &Settings, nonce: &Nonce) -> ServerSetup
-    requires taken { server_refusal (settings_of settings.now) ≡ None }
-    ensures made { result ≡ record (server_setup_of (settings_of settings.now) nonce.now) { users = [] } }
+    requires accepted { server_refusal (settings_of settings.now) ≡ None }
+    ensures computed { result ≡ record (server_setup_of (settings_of settings.now) nonce.now) { users = [] } }
     ensures sound { IsSoundServer result }
 {
     ServerSetup {
@@ -270,8 +270,8 @@ pub fn server_alone(settings: &Settings, nonce: &Nonce) -> ServerSetup
 /// What a peer brings into its first method, for a method alone.
 #[tactic(auto, using(crate::proofs::Taken::peer_kinds), unfolding(crate::specs::Settings::credential_of))]
 pub fn credential(settings: &Settings) -> Credential
-    requires taken { peer_refusal (settings_of settings.now) ≡ None }
-    ensures made { result ≡ credential_of (settings_of settings.now) }
+    requires accepted { peer_refusal (settings_of settings.now) ≡ None }
+    ensures computed { result ≡ credential_of (settings_of settings.now) }
     ensures key { IsTrue (is_valid_for (first_kind (settings_of settings.now)) result.psk) }
 {
     Credential {
@@ -285,7 +285,7 @@ pub fn credential(settings: &Settings) -> Credential
 /// What a server brings into a method, its users apart.
 #[tactic(auto, unfolding(crate::specs::Settings::side_of))]
 pub fn server_side(settings: &Settings) -> ServerSide
-    requires taken { server_refusal (settings_of settings.now) ≡ None }
+    requires accepted { server_refusal (settings_of settings.now) ≡ None }
     ensures { result ≡ side_of (settings_of settings.now) }
 {
     ServerSide {

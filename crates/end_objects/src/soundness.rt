@@ -45,7 +45,7 @@ fn is_kind(kind: u8) -> bool
 }
 
 /// Whether the key has the size that the method of this Type requires; false for any other Type.
-pub(crate) fn fits(kind: u8, psk: &[u8]) -> bool
+pub(crate) fn has_key_size(kind: u8, psk: &[u8]) -> bool
     ensures { result ≡ is_valid_for kind psk.now }
 {
     if kind == PSK_KIND {
@@ -97,7 +97,7 @@ fn is_sound_key(kind: u8, key: &Option<Secret>) -> bool
 {
     match key {
         None => true,
-        Some(psk) => fits(kind, psk.as_slice()),
+        Some(psk) => has_key_size(kind, psk.as_slice()),
     }
 }
 
@@ -107,5 +107,5 @@ fn are_sound(users: &[User]) -> bool
 {
     users
         .iter()
-        .all(|user| fits(user.kind, user.psk.as_slice()))
+        .all(|user| has_key_size(user.kind, user.psk.as_slice()))
 }

@@ -23,8 +23,8 @@ impl<M: PeerMethod> PeerPipe<M> {
         requires sound { IsSoundPeer setup }
         requires keys { HasKeys setup }
         requires objects { have_each (peer_kinds (map M.peer_shown methods.items)) setup.methods ≡ true }
-        ensures begun { peer_end M.peer_shown result ≡ started_peer setup }
-        ensures stands { IsPeerAfter setup [] (peer_end M.peer_shown result) }
+        ensures started { peer_end M.peer_shown result ≡ started_peer setup }
+        ensures state { IsPeerAfter setup [] (peer_end M.peer_shown result) }
     {
         EndPipe {
             machine: PeerMachine::new(setup, methods),
@@ -45,7 +45,12 @@ impl<M: PeerMethod> Machine for PeerMachine<M> {
 
     ghost is_running = { λ machine. Unit {0} };
 
-    fn take(&mut self, input: &EndInput, packet: &mut Packet, tags: &mut Tags<TwoRecords>) -> Step {
+    fn handle_input(
+        &mut self,
+        input: &EndInput,
+        packet: &mut Packet,
+        tags: &mut Tags<TwoRecords>,
+    ) -> Step {
         packet.clear();
         tags.clear();
         match input {

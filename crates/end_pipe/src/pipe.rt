@@ -31,12 +31,17 @@ pub trait Machine: Drop {
 
     /// Takes an input that isn't skipped. The packet that is sent is written into `packet`, the records of the tags into
     /// `tags`, in place of what was there.
-    fn take(&mut self, input: &EndInput, packet: &mut Packet, tags: &mut Tags<TwoRecords>) -> Step
-        requires going { is_running self.old }
-        requires heard { is_skipped (table.state (shown self.old)) input.now ≡ false }
+    fn handle_input(
+        &mut self,
+        input: &EndInput,
+        packet: &mut Packet,
+        tags: &mut Tags<TwoRecords>,
+    ) -> Step
+        requires running { is_running self.old }
+        requires unskipped { is_skipped (table.state (shown self.old)) input.now ≡ false }
         ensures step { table.moves (shown self.old) input.now
             ≡ move_of (step_with result packet.new tags.new) (shown self.new) }
-        ensures going { is_running self.new };
+        ensures running { is_running self.new };
 
     /// The machine's state.
     fn state(&self) -> State
@@ -76,8 +81,8 @@ impl<E: Machine> EndPipe<E> {
         requires { E.is_running self.old.machine }
         ensures step { end_step E.table (end_now E.shown self.old) input.now
             ≡ outcome (result_with result packet.new tags.new) (end_now E.shown self.new) }
-        ensures going { E.is_running self.new.machine }
-        ensures goes_on { (begun : EndNow E.Now) (inputs : List EndInput)
+        ensures running { E.is_running self.new.machine }
+        ensures continues { (begun : EndNow E.Now) (inputs : List EndInput)
             → IsStateAfter (end_step E.table) begun inputs (end_now E.shown self.old)
             → HasContinued (end_step E.table) begun inputs input.now (result_with result packet.new tags.new)
             (end_now E.shown self.new) }
@@ -89,8 +94,8 @@ impl<E: Machine> EndPipe<E> {
     pub fn step(&mut self, input: &EndInput) -> EndTold
         requires { E.is_running self.old.machine }
         ensures step { end_step E.table (end_now E.shown self.old) input.now ≡ outcome result (end_now E.shown self.new) }
-        ensures going { E.is_running self.new.machine }
-        ensures goes_on { (begun : EndNow E.Now) (inputs : List EndInput)
+        ensures running { E.is_running self.new.machine }
+        ensures continues { (begun : EndNow E.Now) (inputs : List EndInput)
             → IsStateAfter (end_step E.table) begun inputs (end_now E.shown self.old)
             → HasContinued (end_step E.table) begun inputs input.now result (end_now E.shown self.new) }
     {
@@ -119,14 +124,14 @@ impl<E: Machine> EndPipe<E> {
         requires { E.is_running self.old.machine }
         ensures step { end_step E.table (end_now E.shown self.old) input.now
             ≡ outcome (result_with result packet.new tags.new) (end_now E.shown self.new) }
-        ensures going { E.is_running self.new.machine }
+        ensures running { E.is_running self.new.machine }
     {
         if !input.is_octets() && has_ended(self.machine.state()) {
             packet.clear();
             tags.clear();
             return EndStep::skipping();
         }
-        let step = self.machine.take(input, packet, tags);
+        let step = self.machine.handle_input(input, packet, tags);
         let named = first_report(&mut self.held, &self.machine);
         EndStep {
             step,
@@ -139,7 +144,7 @@ impl<E: Machine> EndPipe<E> {
 /// What the machine reports, if its end first has a report.
 pub(crate) fn first_report<E: Machine>(held: &mut bool, machine: &E) -> Option<Report>
     ensures named { result ≡ first_report held.old (E.table.reports (E.shown machine.now)) }
-    ensures held { held.new ≡ (held.old || is_some (E.table.reports (E.shown machine.now))) }
+    ensures reports { held.new ≡ (held.old || is_some (E.table.reports (E.shown machine.now))) }
 {
     if *held {
         return None;

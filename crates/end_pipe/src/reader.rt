@@ -100,7 +100,7 @@ impl EndReader {
     #[tactic(auto, using(crate::proofs::EndValid::few_retrans))]
     fn ready(&self) -> Result<EndItem, LineFault>
         requires { AreWhole self.now.role self.now.settings }
-        ensures said { IfOk result (λ item. item_value item ≡ reading.Ready) }
+        ensures meaning { IfOk result (λ item. item_value item ≡ reading.Ready) }
         ensures ready { IfOk result (λ item. IsReady item self.now) }
         ensures whole { IsOk result }
     {
@@ -186,7 +186,7 @@ impl Text for EndReader {
 
     ghost whole = { entry_with };
 
-    ghost says = { item_with };
+    ghost item_meaning = { item_with };
 
     ghost is_valid = { IsValidContent };
 
@@ -196,7 +196,7 @@ impl Text for EndReader {
         self.phase
     }
 
-    fn begin(&mut self, line: &[u8]) -> bool {
+    fn start_if_header(&mut self, line: &[u8]) -> bool {
         if line != b"eap-end 1".as_slice() {
             return false;
         }

@@ -62,7 +62,7 @@ impl<M: ServerMethod> ServerPipe<M> {
         ensures start { server_starts (server_end M.server_shown self.old)
             ≡ outcome (result_with result packet.new tags.new) (server_end M.server_shown self.new) }
         ensures started { is_started self.new.machine.vars ≡ true }
-        ensures stands { (setup : ServerSetup) (first_id max_retrans : ℕ)
+        ensures state { (setup : ServerSetup) (first_id max_retrans : ℕ)
             → server_end M.server_shown self.old ≡ server_unstarted setup first_id max_retrans
             → IsServerAfter setup first_id max_retrans [] (server_end M.server_shown self.new) }
     {
@@ -74,7 +74,7 @@ impl<M: ServerMethod> ServerPipe<M> {
         requires { is_started self.old.machine.vars ≡ false }
         ensures start { server_starts (server_end M.server_shown self.old) ≡ outcome result (server_end M.server_shown self.new) }
         ensures started { is_started self.new.machine.vars ≡ true }
-        ensures stands { (setup : ServerSetup) (first_id max_retrans : ℕ)
+        ensures state { (setup : ServerSetup) (first_id max_retrans : ℕ)
             → server_end M.server_shown self.old ≡ server_unstarted setup first_id max_retrans
             → IsServerAfter setup first_id max_retrans [] (server_end M.server_shown self.new) }
     {
@@ -125,7 +125,12 @@ impl<M: ServerMethod> Machine for StandAloneServer<M> {
 
     ghost is_running = { λ machine. is_started machine.vars ≡ true };
 
-    fn take(&mut self, input: &EndInput, packet: &mut Packet, tags: &mut Tags<TwoRecords>) -> Step {
+    fn handle_input(
+        &mut self,
+        input: &EndInput,
+        packet: &mut Packet,
+        tags: &mut Tags<TwoRecords>,
+    ) -> Step {
         packet.clear();
         tags.clear();
         match input {

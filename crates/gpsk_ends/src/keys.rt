@@ -104,11 +104,11 @@ impl Keys {
         made: &mut TagList<R>,
     )
         requires typed { IsTrue (has_type code) }
-        requires fits { size_of (message_of view.now) + 5 ≤ 1493 }
+        requires bounded { size_of (message_of view.now) + 5 ≤ 1493 }
         requires mac { length (mac_of (message_of view.now)) ≡ ks_of self.now.suite }
         ensures packet { packet.new ≡ packet_of code id self.now.suite self.now.keys.sk (without_mac (message_of view.now)) }
         ensures record { made.new ≡ record_of self.now.suite self.now.keys.sk psk.now (without_mac (message_of view.now)) ∷ [] }
-        ensures room { HasCapacity packet.new }
+        ensures capacity { HasCapacity packet.new }
     {
         write_front(view, code, id, self.suite, packet);
         let covered = &packet.as_slice()[BEFORE_COVERED..];

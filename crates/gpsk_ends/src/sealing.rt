@@ -29,10 +29,10 @@ pub(crate) fn mac_place(suite: Suite) -> &'static [u8]
 /// Writes the packet of a message up to its MAC of KS octets, which its Length counts.
 pub(crate) fn write_front(view: &GpskMessage, code: Code, id: u8, suite: Suite, packet: &mut Packet)
     requires typed { IsTrue (has_type code) }
-    requires fits { size_of (message_of view.now) + 5 ≤ max_packet }
+    requires bounded { size_of (message_of view.now) + 5 ≤ max_packet }
     requires mac { length (mac_of (message_of view.now)) ≡ ks_of suite }
-    ensures begins { 6 ≤ length packet.new }
-    ensures room { length packet.new + ks_of suite ≤ max_packet }
+    ensures prefix { 6 ≤ length packet.new }
+    ensures capacity { length packet.new + ks_of suite ≤ max_packet }
     ensures covered { drop 6 packet.new ≡ covered_of (message_of view.now) }
     ensures sealed { (tag : List ℕ) → length tag ≡ ks_of suite
         → packet.new ++ tag ≡ packets.spelled (value_with code id 51 (spelled (with_mac (message_of view.now) tag))) }

@@ -150,7 +150,7 @@ pub fn read_gpsk<'a>(body: &'a [u8], ks: Option<u8>) -> Result<GpskView<'a>, Cau
 /// The Request or the Response of Type 51 with this Identifier whose Type-Data encodes the message.
 pub fn write_gpsk(view: &GpskView, code: Code, id: u8) -> Packet
     requires typed { IsTrue (has_type code) }
-    requires fits { size_of (fields_of view.now) + 5 ≤ max_packet }
+    requires bounded { size_of (fields_of view.now) + 5 ≤ max_packet }
     ensures { result ≡ packets.spelled (value_with code id 51 (spelled (fields_of view.now))) }
 {
     let mut packet = Packet::new();

@@ -160,7 +160,7 @@ fn put_message(packet: &mut Packet, view: &GpskMessage)
 #[tactic(auto, using(crate::proofs::Grammar::encodings_are_sized))]
 pub fn write_gpsk_into(packet: &mut Packet, view: &GpskMessage, code: Code, id: u8)
     requires typed { IsTrue (has_type code) }
-    requires fits { size_of (message_of view.now) + 5 ≤ max_packet }
+    requires bounded { size_of (message_of view.now) + 5 ≤ max_packet }
     ensures { packet.new ≡ packets.spelled (value_with code id 51 (spelled (message_of view.now))) }
 {
     init_into(packet, code, id, GPSK_KIND, size_of(view));

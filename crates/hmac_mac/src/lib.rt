@@ -116,7 +116,7 @@ impl HmacKey {
 
     /// An authenticator of the empty text under this key.
     #[tactic(auto, unfolding(crate::specs::Represents::Represents, crate::specs::Represents::IsKeyOf))]
-    pub fn begin(&self) -> Hmac
+    pub fn start(&self) -> Hmac
         ensures { (key : List ℕ) → IsKeyOf self.now key → Represents result key [] }
     {
         Hmac {

@@ -32,7 +32,7 @@ impl Nonces {
 
     /// Appends the nonce and answers true. If 15 nonces are there it answers false and changes nothing.
     pub fn push(&mut self, nonce: Nonce) -> bool
-        ensures room { IsTrue result ↔ (length self.old < 15) }
+        ensures capacity { IsTrue result ↔ (length self.old < 15) }
         ensures pushed { length self.old < 15 → self.new ≡ self.old ++ nonce ∷ [] }
         ensures unchanged { 15 ≤ length self.old → self.new ≡ self.old }
     {

@@ -43,7 +43,7 @@ pub enum Accepts {
 
 impl Accepts {
     /// Whether the peer accepts a server of this name.
-    pub fn takes(&self, name: &[u8]) -> bool
+    pub fn allows(&self, name: &[u8]) -> bool
         ensures { result ≡ accepts_name self.now name.now }
     {
         match self {

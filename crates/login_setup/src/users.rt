@@ -85,7 +85,7 @@ impl Users {
     /// Appends the user and answers true. If 16 users are there, or one of them has the same name
     /// and kind, it answers false and changes nothing.
     pub fn add(&mut self, user: User) -> bool
-        ensures room { IsTrue result ↔ HasCapacity self.old user }
+        ensures capacity { IsTrue result ↔ HasCapacity self.old user }
         ensures added { HasCapacity self.old user → self.new ≡ self.old ++ user ∷ [] }
         ensures unchanged { (HasCapacity self.old user → ⊥) → self.new ≡ self.old }
     {

@@ -94,9 +94,9 @@ impl LineReader {
         // however they are cut into reads.
         ensures lines { Divides result self.new.line (lines_left self.old (S.shown.octets source.old)) (lines_left self.new (S.shown.octets source.new)) }
         ensures number { Numbers result self.old.number self.new.number }
-        ensures begun { StartsAt result self.old self.new }
+        ensures started { StartsAt result self.old self.new }
         ensures over { self.new.over ≡ is_last result }
-        ensures takes { ConsumesSome result self.old.taken self.new.taken }
+        ensures consumes { ConsumesSome result self.old.taken self.new.taken }
         ensures bounded { self.new.taken ≤ max_input }
         ensures exhausted { Exhausts result (S.shown.octets source.new) }
 
@@ -121,15 +121,15 @@ impl LineReader {
 
     /// Reads a line, without its number.
     fn read_line<S: Source>(&mut self, source: &mut S) -> NextLine
-        requires begun { self.old.line ≡ [] }
+        requires empty_line { self.old.line ≡ [] }
         requires bounded { self.old.taken ≤ max_input }
         ensures lines { Divides result self.new.line (lines_within self.old (S.shown.octets source.old)) (lines_left self.new (S.shown.octets source.new)) }
         ensures number { self.new.number ≡ self.old.number }
         ensures over { self.new.over ≡ self.old.over }
-        ensures takes { ConsumesSome result self.old.taken self.new.taken }
+        ensures consumes { ConsumesSome result self.old.taken self.new.taken }
         ensures bounded { self.new.taken ≤ max_input }
         ensures grows { self.old.taken ≤ self.new.taken }
-        ensures begins { result ≡ NextLine.Read → self.new.taken ≡ self.old.taken + length self.new.line }
+        ensures initial { result ≡ NextLine.Read → self.new.taken ≡ self.old.taken + length self.new.line }
         ensures exhausted { Exhausts result (S.shown.octets source.new) }
 
         ensures read { Faults S.shown result source.old source.new }
@@ -143,7 +143,7 @@ impl LineReader {
                     Err(_) => return NextLine::Read,
                 }
             }
-            match self.take() {
+            match self.consume_stretch() {
                 Step::HasContinued => {}
                 Step::EndsLine => return NextLine::Line,
                 Step::PassesLine => return NextLine::TooLong,
@@ -153,10 +153,10 @@ impl LineReader {
     }
 
     /// Consumes the octets that it has buffered, up to the end of the line or to a limit.
-    fn take(&mut self) -> Step
+    fn consume_stretch(&mut self) -> Step
         requires some { 0 < length self.old.held }
         ensures lines { (left : Option (List ℕ)) → Advances result self.new (lines_within self.old left) left }
-        ensures takes { ConsumesOctets result self.old self.new }
+        ensures consumes { ConsumesOctets result self.old self.new }
         ensures number { self.new.number ≡ self.old.number }
         ensures over { self.new.over ≡ self.old.over }
         ensures bounded { self.new.taken ≤ max_input }
@@ -174,7 +174,7 @@ impl LineReader {
     /// Consumes the octets that it has buffered before the first LF, as many as pass no limit.
     fn next_stretch(&mut self)
         ensures lines { (left : Option (List ℕ)) → lines_within self.old left ≡ lines_within self.new left }
-        ensures taken { self.new.taken + length self.old.line ≡ self.old.taken + length self.new.line }
+        ensures consumed { self.new.taken + length self.old.line ≡ self.old.taken + length self.new.line }
         ensures some { self.new.taken + length self.new.held ≡ self.old.taken + length self.old.held }
         ensures grows { self.old.taken ≤ self.new.taken }
         ensures stops { Stops self.new }
@@ -196,7 +196,7 @@ impl LineReader {
         requires next { self.old.held ≡ octet ∷ drop 1 self.old.held }
         requires stops { Stops self.old }
         ensures lines { (left : Option (List ℕ)) → Advances result self.new (lines_within self.old left) left }
-        ensures takes { ConsumesOctets result self.old self.new }
+        ensures consumes { ConsumesOctets result self.old self.new }
         ensures number { self.new.number ≡ self.old.number }
         ensures over { self.new.over ≡ self.old.over }
         ensures bounded { self.new.taken ≤ max_input }
@@ -231,7 +231,7 @@ impl LineReader {
     fn end_line(&mut self, answer: NextLine)
         requires alive { self.old.over ≡ false }
         requires counted { self.old.number ≤ self.old.taken }
-        requires room { answer ≡ Line → self.old.number < self.old.taken }
+        requires capacity { answer ≡ Line → self.old.number < self.old.taken }
         ensures { self.new ≡ record self.old { number = self.old.number + initiated_by answer self.old.line; over = is_last answer } }
     {
         let has_initiated = match answer {
@@ -246,7 +246,7 @@ impl LineReader {
     /// The octets of the line that was read last, at most 4,096.
     pub fn line(&self) -> &[u8]
         ensures same { result.now ≡ self.now.line }
-        ensures fits { length result.now ≤ max_line }
+        ensures bounded { length result.now ≤ max_line }
     {
         self.line.as_slice()
     }
@@ -269,7 +269,7 @@ impl LineReader {
 /// The number of octets before the first LF, or of all if there is none.
 fn octets_before_lf(octets: &[u8]) -> usize
     ensures count { result ≡ position_or_len (λ b. b == 10) octets.now }
-    ensures fits { result ≤ length octets.now }
+    ensures bounded { result ≤ length octets.now }
 {
     first_lf(octets).unwrap_or(octets.len())
 }

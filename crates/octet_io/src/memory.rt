@@ -58,8 +58,8 @@ impl Source for MemSource {
     ghost shown = { record { octets = λ s. Some s.left; faults = λ s. s.faults; most_faults = None } };
 
     fn read(&mut self, buf: &mut [u8]) -> Result<usize, Failed>
-        ensures fits { IfOk result (λ n. n ≤ length buf.old) }
-        ensures taken { IfOk result (λ n. Some self.old.left ≡ prepend_known (take n buf.new) (Some self.new.left)) }
+        ensures bounded { IfOk result (λ n. n ≤ length buf.old) }
+        ensures consumed { IfOk result (λ n. Some self.old.left ≡ prepend_known (take n buf.new) (Some self.new.left)) }
         ensures over { IfOk result (λ n. n ≡ 0 → 0 < length buf.old → Some self.new.left ≡ nothing_known (Some self.new.left)) }
         ensures counted { OnErr result (self.old.faults < self.new.faults) }
         ensures uncounted { OnOk result (self.new.faults ≡ self.old.faults) }
@@ -149,7 +149,7 @@ impl Sink for MemSink {
 
     fn write(&mut self, piece: &[u8]) -> Result<usize, Failed>
         ensures moves { IfOk result (λ n. 0 < length piece.now → 0 < n) }
-        ensures fits { IfOk result (λ n. n ≤ length piece.now) }
+        ensures bounded { IfOk result (λ n. n ≤ length piece.now) }
         ensures appended { IfOk result (λ n. append_known (Some self.old.written) (take n piece.now) ≡ Some self.new.written) }
         ensures unchanged { OnErr result (Some self.new.written ≡ Some self.old.written) }
         ensures counted { OnErr result (self.new.faults ≤ self.old.faults → Some last_fault ≡ Some self.new.faults) }

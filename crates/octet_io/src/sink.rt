@@ -19,7 +19,7 @@ pub trait Sink {
     /// passes; then nothing was written. Without `Failed` the count is as it was.
     fn write(&mut self, piece: &[u8]) -> Result<usize, Failed>
         ensures moves { IfOk result (λ n. 0 < length piece.now → 0 < n) }
-        ensures fits { IfOk result (λ n. n ≤ length piece.now) }
+        ensures bounded { IfOk result (λ n. n ≤ length piece.now) }
         ensures appended { IfOk result (λ n. append_known (shown.octets self.old) (take n piece.now) ≡ shown.octets self.new) }
         ensures unchanged { OnErr result (shown.octets self.new ≡ shown.octets self.old) }
         ensures counted { OnErr result (HasRisen shown self.old self.new) }

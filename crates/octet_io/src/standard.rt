@@ -45,7 +45,7 @@ impl<R: Read + Drop> Source for StdSource<R> {
     ghost shown = { record { octets = λ _. None; faults = λ s. s.faults; most_faults = Some last_fault } };
 
     fn read(&mut self, buf: &mut [u8]) -> Result<usize, Failed>
-        ensures fits { IfOk result (λ n. n ≤ length buf.old) }
+        ensures bounded { IfOk result (λ n. n ≤ length buf.old) }
         ensures counted { OnErr result (self.new.faults ≤ self.old.faults → Some last_fault ≡ Some self.new.faults) }
         ensures never_falls { self.old.faults ≤ self.new.faults }
         ensures never_passes { self.new.faults ≤ last_fault }
@@ -104,7 +104,7 @@ impl<W: Write + Drop> Sink for StdSink<W> {
 
     fn write(&mut self, piece: &[u8]) -> Result<usize, Failed>
         ensures moves { IfOk result (λ n. 0 < length piece.now → 0 < n) }
-        ensures fits { IfOk result (λ n. n ≤ length piece.now) }
+        ensures bounded { IfOk result (λ n. n ≤ length piece.now) }
         ensures counted { OnErr result (self.new.faults ≤ self.old.faults → Some last_fault ≡ Some self.new.faults) }
         ensures never_falls { self.old.faults ≤ self.new.faults }
         ensures never_passes { self.new.faults ≤ last_fault }

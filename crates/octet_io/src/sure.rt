@@ -40,8 +40,8 @@ impl Source for SureSource {
     ghost shown = { record { octets = λ s. Some s; faults = λ _. 0; most_faults = None } };
 
     fn read(&mut self, buf: &mut [u8]) -> Result<usize, Failed>
-        ensures fits { IfOk result (λ n. n ≤ length buf.old) }
-        ensures taken { IfOk result (λ n. Some self.old ≡ prepend_known (take n buf.new) (Some self.new)) }
+        ensures bounded { IfOk result (λ n. n ≤ length buf.old) }
+        ensures consumed { IfOk result (λ n. Some self.old ≡ prepend_known (take n buf.new) (Some self.new)) }
         ensures over { IfOk result (λ n. n ≡ 0 → 0 < length buf.old → Some self.new ≡ nothing_known (Some self.new)) }
 
         // It never fails, and takes as much as the buffer and what is left allow.

@@ -38,7 +38,7 @@ impl Unread {
     pub fn read(&mut self, most: usize, buf: &mut [u8]) -> usize
         ensures count { result ≡ min (min most (length buf.old)) (length self.old) }
         ensures front { buf.new ≡ take result self.old ++ drop result buf.old }
-        ensures taken { self.old ≡ take result buf.new ++ self.new }
+        ensures consumed { self.old ≡ take result buf.new ++ self.new }
         ensures left { self.new ≡ drop result self.old }
     {
         let rest = &self.octets.as_slice()[self.place..];

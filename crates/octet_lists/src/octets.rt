@@ -55,7 +55,7 @@ impl<const N: usize> Octets<N> {
 
     /// The list of these octets, or None if there are more than `N`.
     pub fn from_slice(octets: &[u8]) -> Option<Octets<N>>
-        ensures fits { IsSome result ↔ (length octets.now ≤ N) }
+        ensures bounded { IsSome result ↔ (length octets.now ≤ N) }
         ensures same { IfSome result (λ list. list ≡ octets.now) }
     {
         let mut list = Octets::new();
@@ -78,7 +78,7 @@ impl<const N: usize> Octets<N> {
 
     /// Appends one octet and answers true. If the list is full it answers false and changes nothing.
     pub fn push(&mut self, octet: u8) -> bool
-        ensures room { IsTrue result ↔ (length self.old < N) }
+        ensures capacity { IsTrue result ↔ (length self.old < N) }
         ensures pushed { length self.old < N → self.new ≡ self.old ++ octet ∷ [] }
         ensures unchanged { N ≤ length self.old → self.new ≡ self.old }
     {
@@ -87,7 +87,7 @@ impl<const N: usize> Octets<N> {
 
     /// Appends all these octets and answers true. If they don't fit it answers false and changes nothing.
     pub fn append(&mut self, octets: &[u8]) -> bool
-        ensures room { IsTrue result ↔ (length self.old + length octets.now ≤ N) }
+        ensures capacity { IsTrue result ↔ (length self.old + length octets.now ≤ N) }
         ensures appended { length self.old + length octets.now ≤ N → self.new ≡ self.old ++ octets.now }
         ensures unchanged { N < length self.old + length octets.now → self.new ≡ self.old }
     {
@@ -128,7 +128,7 @@ impl<const N: usize> Octets<N> {
     /// The octets in order.
     pub fn as_slice(&self) -> &[u8]
         ensures same { result.now ≡ self.now }
-        ensures fits { length result.now ≤ N }
+        ensures bounded { length result.now ≤ N }
     {
         self.items.as_slice()
     }
@@ -136,7 +136,7 @@ impl<const N: usize> Octets<N> {
     /// The number of octets.
     pub fn len(&self) -> usize
         ensures count { result ≡ length self.now }
-        ensures fits { result ≤ N }
+        ensures bounded { result ≤ N }
     {
         self.items.len()
     }

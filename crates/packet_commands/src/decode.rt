@@ -69,16 +69,16 @@ impl Command for Decode {
 
     ghost seen = { λ c. c };
 
-    ghost took = { decode_step };
+    ghost line_result = { decode_step };
 
     ghost closing = { decode_closing };
 
     ghost lacks = { decode_lacks };
 
-    ghost holds = { HasCounted };
+    ghost is_valid_after = { HasCounted };
 
     #[tactic(auto, unfolding(crate::specs::Decode::decode_step))]
-    fn take<W: Sink>(&mut self, sink: &mut W, line: &[u8]) -> Result<Next, Trouble> {
+    fn handle_line<W: Sink>(&mut self, sink: &mut W, line: &[u8]) -> Result<Next, Trouble> {
         match read_packet_line(line) {
             Ok(None) => Ok(Next::Proceed),
             Ok(Some(octets)) => self.packet(sink, octets.as_slice()),

@@ -30,16 +30,16 @@ impl Command for Keys {
 
     ghost seen = { λ _. all_asked };
 
-    ghost took = { keys_step };
+    ghost line_result = { keys_step };
 
     ghost closing = { keys_closing };
 
     ghost lacks = { keys_lacks };
 
-    ghost holds = { λ _ _. Unit {0} };
+    ghost is_valid_after = { λ _ _. Unit {0} };
 
     #[tactic(auto, unfolding(crate::specs::Keys::keys_step, answer_text::specs::Writes::Appends))]
-    fn take<W: Sink>(&mut self, sink: &mut W, line: &[u8]) -> Result<Next, Trouble> {
+    fn handle_line<W: Sink>(&mut self, sink: &mut W, line: &[u8]) -> Result<Next, Trouble> {
         match read_key_line_into(line, &mut self.asked) {
             Ok(false) => Ok(Next::Proceed),
             Ok(true) => match write_key_line(sink, &self.asked) {

@@ -86,8 +86,8 @@ impl<M: PeerMethod> PeerMachine<M> {
         requires sound { IsSoundPeer setup }
         requires keys { HasKeys setup }
         requires objects { have_each (peer_kinds (map M.peer_shown methods.items)) setup.methods ≡ true }
-        ensures made { now_of M.peer_shown result ≡ initial_peer setup }
-        ensures kept { PreservesPeers setup.methods (map M.peer_shown methods.items) (map M.peer_shown result.methods) }
+        ensures initial { now_of M.peer_shown result ≡ initial_peer setup }
+        ensures preserves { PreservesPeers setup.methods (map M.peer_shown methods.items) (map M.peer_shown result.methods) }
     {
         let mut methods = methods;
         start_peers(methods.as_mut_slice(), &setup);
@@ -112,7 +112,7 @@ impl<M: PeerMethod> PeerMachine<M> {
     pub fn restart_step(&mut self, nonce: &Nonce) -> Step
         requires objects { have_each (peer_kinds (map M.peer_shown self.old.methods)) self.old.vars.setup.methods ≡ true }
         ensures step { peer_restart (now_of M.peer_shown self.old) nonce.now ≡ answer (step_with result [] no_tags) (now_of M.peer_shown self.new) }
-        ensures kept { PreservesPeers self.old.vars.setup.methods (map M.peer_shown self.old.methods) (map M.peer_shown self.new.methods) }
+        ensures preserves { PreservesPeers self.old.vars.setup.methods (map M.peer_shown self.old.methods) (map M.peer_shown self.new.methods) }
         ensures setup { self.new.vars.setup ≡ setup_with_nonce self.old.vars.setup nonce.now }
     {
         self.vars.setup.nonce = *nonce;
@@ -147,7 +147,7 @@ impl<M: PeerMethod> PeerMachine<M> {
         tags: &mut Tags<R>,
     ) -> Step
         ensures step { peer_receives (now_of M.peer_shown self.old) octets.now ≡ answer (step_with result packet.new tags.new) (now_of M.peer_shown self.new) }
-        ensures kept { PreservesPeers self.old.vars.setup.methods (map M.peer_shown self.old.methods) (map M.peer_shown self.new.methods) }
+        ensures preserves { PreservesPeers self.old.vars.setup.methods (map M.peer_shown self.old.methods) (map M.peer_shown self.new.methods) }
         ensures setup { self.new.vars.setup ≡ self.old.vars.setup }
     {
         tags.clear();
@@ -164,7 +164,7 @@ impl<M: PeerMethod> PeerMachine<M> {
     pub fn idle_step(&mut self) -> Step
         requires { is_end self.old.vars.state ≡ false }
         ensures step { peer_idle (now_of M.peer_shown self.old) ≡ answer (step_with result [] no_tags) (now_of M.peer_shown self.new) }
-        ensures kept { PreservesPeers self.old.vars.setup.methods (map M.peer_shown self.old.methods) (map M.peer_shown self.new.methods) }
+        ensures preserves { PreservesPeers self.old.vars.setup.methods (map M.peer_shown self.old.methods) (map M.peer_shown self.new.methods) }
         ensures setup { self.new.vars.setup ≡ self.old.vars.setup }
     {
         if self.vars.decision == Decision::UncondSucc {
@@ -180,7 +180,7 @@ impl<M: PeerMethod> PeerMachine<M> {
     pub fn alt_accept_step(&mut self) -> Step
         requires { is_end self.old.vars.state ≡ false }
         ensures step { peer_alt_accept (now_of M.peer_shown self.old) ≡ answer (step_with result [] no_tags) (now_of M.peer_shown self.new) }
-        ensures kept { PreservesPeers self.old.vars.setup.methods (map M.peer_shown self.old.methods) (map M.peer_shown self.new.methods) }
+        ensures preserves { PreservesPeers self.old.vars.setup.methods (map M.peer_shown self.old.methods) (map M.peer_shown self.new.methods) }
         ensures setup { self.new.vars.setup ≡ self.old.vars.setup }
     {
         if self.vars.decision != Decision::Fail {
@@ -197,7 +197,7 @@ impl<M: PeerMethod> PeerMachine<M> {
     pub fn alt_reject_step(&mut self) -> Step
         requires { is_end self.old.vars.state ≡ false }
         ensures step { peer_alt_reject (now_of M.peer_shown self.old) ≡ answer (step_with result [] no_tags) (now_of M.peer_shown self.new) }
-        ensures kept { PreservesPeers self.old.vars.setup.methods (map M.peer_shown self.old.methods) (map M.peer_shown self.new.methods) }
+        ensures preserves { PreservesPeers self.old.vars.setup.methods (map M.peer_shown self.old.methods) (map M.peer_shown self.new.methods) }
         ensures setup { self.new.vars.setup ≡ self.old.vars.setup }
     {
         end(&mut self.vars, State::Failure)
@@ -207,7 +207,7 @@ impl<M: PeerMethod> PeerMachine<M> {
     pub fn restart(&mut self, nonce: &Nonce) -> PeerStep
         requires objects { have_each (peer_kinds (map M.peer_shown self.old.methods)) self.old.vars.setup.methods ≡ true }
         ensures step { peer_restart (now_of M.peer_shown self.old) nonce.now ≡ answer result (now_of M.peer_shown self.new) }
-        ensures kept { PreservesPeers self.old.vars.setup.methods (map M.peer_shown self.old.methods) (map M.peer_shown self.new.methods) }
+        ensures preserves { PreservesPeers self.old.vars.setup.methods (map M.peer_shown self.old.methods) (map M.peer_shown self.new.methods) }
         ensures setup { self.new.vars.setup ≡ setup_with_nonce self.old.vars.setup nonce.now }
     {
         self.restart_step(nonce).alone()
@@ -216,7 +216,7 @@ impl<M: PeerMethod> PeerMachine<M> {
     /// [`deliver_step`](PeerMachine::deliver_step), with the packet and the records in its answer.
     pub fn deliver(&mut self, octets: &[u8]) -> PeerStep
         ensures step { peer_receives (now_of M.peer_shown self.old) octets.now ≡ answer result (now_of M.peer_shown self.new) }
-        ensures kept { PreservesPeers self.old.vars.setup.methods (map M.peer_shown self.old.methods) (map M.peer_shown self.new.methods) }
+        ensures preserves { PreservesPeers self.old.vars.setup.methods (map M.peer_shown self.old.methods) (map M.peer_shown self.new.methods) }
         ensures setup { self.new.vars.setup ≡ self.old.vars.setup }
     {
         let mut packet = Packet::new();
@@ -229,7 +229,7 @@ impl<M: PeerMethod> PeerMachine<M> {
     pub fn idle(&mut self) -> PeerStep
         requires { is_end self.old.vars.state ≡ false }
         ensures step { peer_idle (now_of M.peer_shown self.old) ≡ answer result (now_of M.peer_shown self.new) }
-        ensures kept { PreservesPeers self.old.vars.setup.methods (map M.peer_shown self.old.methods) (map M.peer_shown self.new.methods) }
+        ensures preserves { PreservesPeers self.old.vars.setup.methods (map M.peer_shown self.old.methods) (map M.peer_shown self.new.methods) }
         ensures setup { self.new.vars.setup ≡ self.old.vars.setup }
     {
         self.idle_step().alone()
@@ -239,7 +239,7 @@ impl<M: PeerMethod> PeerMachine<M> {
     pub fn alt_accept(&mut self) -> PeerStep
         requires { is_end self.old.vars.state ≡ false }
         ensures step { peer_alt_accept (now_of M.peer_shown self.old) ≡ answer result (now_of M.peer_shown self.new) }
-        ensures kept { PreservesPeers self.old.vars.setup.methods (map M.peer_shown self.old.methods) (map M.peer_shown self.new.methods) }
+        ensures preserves { PreservesPeers self.old.vars.setup.methods (map M.peer_shown self.old.methods) (map M.peer_shown self.new.methods) }
         ensures setup { self.new.vars.setup ≡ self.old.vars.setup }
     {
         self.alt_accept_step().alone()
@@ -249,7 +249,7 @@ impl<M: PeerMethod> PeerMachine<M> {
     pub fn alt_reject(&mut self) -> PeerStep
         requires { is_end self.old.vars.state ≡ false }
         ensures step { peer_alt_reject (now_of M.peer_shown self.old) ≡ answer result (now_of M.peer_shown self.new) }
-        ensures kept { PreservesPeers self.old.vars.setup.methods (map M.peer_shown self.old.methods) (map M.peer_shown self.new.methods) }
+        ensures preserves { PreservesPeers self.old.vars.setup.methods (map M.peer_shown self.old.methods) (map M.peer_shown self.new.methods) }
         ensures setup { self.new.vars.setup ≡ self.old.vars.setup }
     {
         self.alt_reject_step().alone()
@@ -321,7 +321,7 @@ impl<M: PeerMethod> PeerMachine<M> {
         requires expanded { self.old.vars.setup.expanded ≡ true }
         requires tags { tags.old ≡ no_tags }
         ensures step { peer_receives (now_of M.peer_shown self.old) octets.now ≡ answer (step_with result packet.new tags.new) (now_of M.peer_shown self.new) }
-        ensures kept { PreservesPeers self.old.vars.setup.methods (map M.peer_shown self.old.methods) (map M.peer_shown self.new.methods) }
+        ensures preserves { PreservesPeers self.old.vars.setup.methods (map M.peer_shown self.old.methods) (map M.peer_shown self.new.methods) }
         ensures setup { self.new.vars.setup ≡ self.old.vars.setup }
     {
         match decode(octets) {
@@ -347,7 +347,7 @@ impl<M: PeerMethod> PeerMachine<M> {
         requires tags { tags.old ≡ no_tags }
         ensures step { reads_request (now_of M.peer_shown self.old) octets.now view.now.id view.now.kind view.now.body.now
             ≡ answer (step_with result packet.new tags.new) (now_of M.peer_shown self.new) }
-        ensures kept { PreservesPeers self.old.vars.setup.methods (map M.peer_shown self.old.methods) (map M.peer_shown self.new.methods) }
+        ensures preserves { PreservesPeers self.old.vars.setup.methods (map M.peer_shown self.old.methods) (map M.peer_shown self.new.methods) }
         ensures setup { self.new.vars.setup ≡ self.old.vars.setup }
     {
         if is_bad_expanded(view) {
@@ -375,7 +375,7 @@ impl<M: PeerMethod> PeerMachine<M> {
         ensures step { expressed_unless (is_last_id self.old.vars.last_id view.now.id)
             (peer_deliver (now_of M.peer_shown self.old) (plain_octets octets.now (value_of view.now)))
             ≡ answer (step_with result packet.new tags.new) (now_of M.peer_shown self.new) }
-        ensures kept { PreservesPeers self.old.vars.setup.methods (map M.peer_shown self.old.methods) (map M.peer_shown self.new.methods) }
+        ensures preserves { PreservesPeers self.old.vars.setup.methods (map M.peer_shown self.old.methods) (map M.peer_shown self.new.methods) }
         ensures setup { self.new.vars.setup ≡ self.old.vars.setup }
     {
         let is_last = self.vars.last_id == Some(view.id);
@@ -401,9 +401,9 @@ impl<M: PeerMethod> PeerMachine<M> {
         requires tags { tags.old ≡ no_tags }
         ensures step { peer_deliver (now_of M.peer_shown self.old) (plain_octets octets.now (value_of view.now))
             ≡ answer (step_with result packet.new tags.new) (now_of M.peer_shown self.new) }
-        ensures kept { PreservesPeers self.old.vars.setup.methods (map M.peer_shown self.old.methods) (map M.peer_shown self.new.methods) }
+        ensures preserves { PreservesPeers self.old.vars.setup.methods (map M.peer_shown self.old.methods) (map M.peer_shown self.new.methods) }
         ensures setup { self.new.vars.setup ≡ self.old.vars.setup }
-        ensures room { is_last_id self.old.vars.last_id view.now.id ≡ false → result.sends ≡ true → HasCapacity packet.new }
+        ensures capacity { is_last_id self.old.vars.last_id view.now.id ≡ false → result.sends ≡ true → HasCapacity packet.new }
     {
         let mut plain = Packet::new();
         if write_plain(view, &mut plain) {
@@ -424,22 +424,22 @@ impl<M: PeerMethod> PeerMachine<M> {
     ) -> Step
         requires tags { tags.old ≡ no_tags }
         ensures step { peer_deliver (now_of M.peer_shown self.old) octets.now ≡ answer (step_with result packet.new tags.new) (now_of M.peer_shown self.new) }
-        ensures kept { PreservesPeers self.old.vars.setup.methods (map M.peer_shown self.old.methods) (map M.peer_shown self.new.methods) }
+        ensures preserves { PreservesPeers self.old.vars.setup.methods (map M.peer_shown self.old.methods) (map M.peer_shown self.new.methods) }
         ensures setup { self.new.vars.setup ≡ self.old.vars.setup }
-        ensures room { is_last_id self.old.vars.last_id (slice_index octets.now 1) ≡ false → result.sends ≡ true → HasCapacity packet.new }
+        ensures capacity { is_last_id self.old.vars.last_id (slice_index octets.now 1) ≡ false → result.sends ≡ true → HasCapacity packet.new }
     {
         if self.ended() {
             return Step::discarding(&[], Cause::Ended);
         }
         match decode(octets) {
             Err(cause) => discard(cause),
-            Ok(view) => self.take(&view, packet, tags),
+            Ok(view) => self.receive_packet(&view, packet, tags),
         }
     }
 
     /// RECEIVED, of a packet; `tags` has no record yet.
     #[tactic(auto, using(crate::proofs::Requests::is_request))]
-    fn take<R: Records>(
+    fn receive_packet<R: Records>(
         &mut self,
         view: &PacketView,
         packet: &mut Packet,
@@ -450,9 +450,9 @@ impl<M: PeerMethod> PeerMachine<M> {
         requires tags { tags.old ≡ no_tags }
         ensures step { peer_row (now_of M.peer_shown self.old) (Ok (value_of view.now))
             ≡ answer (step_with result packet.new tags.new) (now_of M.peer_shown self.new) }
-        ensures kept { PreservesPeers self.old.vars.setup.methods (map M.peer_shown self.old.methods) (map M.peer_shown self.new.methods) }
+        ensures preserves { PreservesPeers self.old.vars.setup.methods (map M.peer_shown self.old.methods) (map M.peer_shown self.new.methods) }
         ensures setup { self.new.vars.setup ≡ self.old.vars.setup }
-        ensures room { is_last_id self.old.vars.last_id view.now.id ≡ false → result.sends ≡ true → HasCapacity packet.new }
+        ensures capacity { is_last_id self.old.vars.last_id view.now.id ≡ false → result.sends ≡ true → HasCapacity packet.new }
     {
         let is_last = self.vars.last_id == Some(view.id);
         match view.code {
@@ -485,7 +485,7 @@ impl<M: PeerMethod> PeerMachine<M> {
     fn success(&mut self) -> Step
         ensures step { (packet : List ℕ) → peer_success (now_of M.peer_shown self.old)
             ≡ answer (step_with result packet no_tags) (now_of M.peer_shown self.new) }
-        ensures kept { PreservesPeers self.old.vars.setup.methods (map M.peer_shown self.old.methods) (map M.peer_shown self.new.methods) }
+        ensures preserves { PreservesPeers self.old.vars.setup.methods (map M.peer_shown self.old.methods) (map M.peer_shown self.new.methods) }
         ensures setup { self.new.vars.setup ≡ self.old.vars.setup }
     {
         if self.vars.decision != Decision::Fail {
@@ -501,7 +501,7 @@ impl<M: PeerMethod> PeerMachine<M> {
     fn failure(&mut self) -> Step
         ensures step { (packet : List ℕ) → peer_failure (now_of M.peer_shown self.old)
             ≡ answer (step_with result packet no_tags) (now_of M.peer_shown self.new) }
-        ensures kept { PreservesPeers self.old.vars.setup.methods (map M.peer_shown self.old.methods) (map M.peer_shown self.new.methods) }
+        ensures preserves { PreservesPeers self.old.vars.setup.methods (map M.peer_shown self.old.methods) (map M.peer_shown self.new.methods) }
         ensures setup { self.new.vars.setup ≡ self.old.vars.setup }
     {
         if self.vars.decision == Decision::UncondSucc {
@@ -526,9 +526,9 @@ impl<M: PeerMethod> PeerMachine<M> {
         requires tags { tags.old ≡ no_tags }
         ensures step { new_request (now_of M.peer_shown self.old) id kind request.now self.old.vars.selected
             ≡ answer (step_with result packet.new tags.new) (now_of M.peer_shown self.new) }
-        ensures kept { PreservesPeers self.old.vars.setup.methods (map M.peer_shown self.old.methods) (map M.peer_shown self.new.methods) }
+        ensures preserves { PreservesPeers self.old.vars.setup.methods (map M.peer_shown self.old.methods) (map M.peer_shown self.new.methods) }
         ensures setup { self.new.vars.setup ≡ self.old.vars.setup }
-        ensures room { result.sends ≡ true → HasCapacity packet.new }
+        ensures capacity { result.sends ≡ true → HasCapacity packet.new }
     {
         match self.vars.selected {
             None => self.first_request(id, kind, request, packet, tags),
@@ -562,9 +562,9 @@ impl<M: PeerMethod> PeerMachine<M> {
         requires tags { tags.old ≡ no_tags }
         ensures step { new_request (now_of M.peer_shown self.old) id kind request.now None
             ≡ answer (step_with result packet.new tags.new) (now_of M.peer_shown self.new) }
-        ensures kept { PreservesPeers self.old.vars.setup.methods (map M.peer_shown self.old.methods) (map M.peer_shown self.new.methods) }
+        ensures preserves { PreservesPeers self.old.vars.setup.methods (map M.peer_shown self.old.methods) (map M.peer_shown self.new.methods) }
         ensures setup { self.new.vars.setup ≡ self.old.vars.setup }
-        ensures room { result.sends ≡ true → HasCapacity packet.new }
+        ensures capacity { result.sends ≡ true → HasCapacity packet.new }
     {
         if kind == IDENTITY {
             write_response(packet, id, IDENTITY, self.vars.setup.name.as_slice());
@@ -596,11 +596,11 @@ impl<M: PeerMethod> PeerMachine<M> {
         requires allowed { is_among self.old.vars.setup.methods kind ≡ true }
         ensures step { peer_method selects (now_of M.peer_shown self.old) kind id request.now
             ≡ answer (step_with result packet.new tags.new) (now_of M.peer_shown self.new) }
-        ensures kept { PreservesPeers self.old.vars.setup.methods (map M.peer_shown self.old.methods) (map M.peer_shown self.new.methods) }
+        ensures preserves { PreservesPeers self.old.vars.setup.methods (map M.peer_shown self.old.methods) (map M.peer_shown self.new.methods) }
         ensures setup { self.new.vars.setup ≡ self.old.vars.setup }
-        ensures room { result.sends ≡ true → HasCapacity packet.new }
+        ensures capacity { result.sends ≡ true → HasCapacity packet.new }
     {
-        let turn = hand(&mut self.methods, kind, request, packet, tags);
+        let turn = call_method(&mut self.methods, kind, request, packet, tags);
         settle(&mut self.vars, selects, kind, id, turn, packet)
     }
 }
@@ -615,10 +615,10 @@ fn discard(cause: Cause) -> Step
 /// Writes a Response of this Type and Type-Data in place of what was there.
 #[tactic(auto, using(eap_method::proofs::Capacities::response_has_capacity))]
 fn write_response(packet: &mut Packet, id: u8, kind: u8, body: &[u8])
-    requires fits { length body.now ≤ 1488 }
+    requires bounded { length body.now ≤ 1488 }
     requires nak_desires { kind ≡ nak_kind → body.now ≢ [] }
     ensures response { packet.new ≡ spelled (packets.response id kind body.now) }
-    ensures room { HasCapacity packet.new }
+    ensures capacity { HasCapacity packet.new }
 {
     encode_into(packet, Code::Response, id, kind, body);
 }
@@ -701,7 +701,7 @@ fn end_received(vars: &mut PeerVariables, state: State) -> Step
 }
 
 /// The turn of the object of this Type.
-fn hand<M: PeerMethod, R: Records>(
+fn call_method<M: PeerMethod, R: Records>(
     methods: &mut Vec<M>,
     kind: u8,
     request: &[u8],
@@ -713,9 +713,9 @@ fn hand<M: PeerMethod, R: Records>(
         → peer_turn kind (peer_views allowed (map M.peer_shown methods.old.items)) request.now
         ≡ record { turn = peer_turn_with result packet.new tags.new; after = peer_views allowed (map M.peer_shown methods.new.items) } }
     ensures tags { tags.new ≡ peer_tags (peer_turn_with result packet.new tags.new) }
-    ensures kept { (allowed : List ℕ) → is_among allowed kind ≡ true
+    ensures preserves { (allowed : List ℕ) → is_among allowed kind ≡ true
         → PreservesPeers allowed (map M.peer_shown methods.old.items) (map M.peer_shown methods.new.items) }
-    ensures room { replies result ≡ true → HasCapacity packet.new }
+    ensures capacity { replies result ≡ true → HasCapacity packet.new }
 {
     call_peer_method(methods.as_mut_slice(), kind, request, packet, tags)
 }

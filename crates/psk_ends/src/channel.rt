@@ -72,11 +72,11 @@ pub fn seal_in<R: Records>(
 )
     requires blank { 17 ≤ length packet.old }
     requires two_bits { r < 4 }
-    requires room { length made.old < 2 }
+    requires capacity { length made.old < 2 }
     ensures packet { packet.new ≡ take (length packet.old - 17) packet.old
         ++ ((sealed_result tek.now number (header_of packet.old) r).tag
         ++ slice_index (sealed_result tek.now number (header_of packet.old) r).ciphertext 0 ∷ []) }
-    ensures made { made.new ≡ made.old ++ tek_record psk.now number (header_of packet.old)
+    ensures records { made.new ≡ made.old ++ tek_record psk.now number (header_of packet.old)
         (slice_index (sealed_result tek.now number (header_of packet.old) r).ciphertext 0)
         (sealed_result tek.now number (header_of packet.old) r).tag ∷ [] }
     ensures size { length (sealed_result tek.now number (header_of packet.old) r).tag ≡ 16 }

@@ -22,7 +22,7 @@ pub fn add_mac_p<'a, R: Records>(
     rand_p: &'a [u8; 16],
     mac: &[u8; 16],
 )
-    requires room { length list.old < 2 }
+    requires capacity { length list.old < 2 }
     requires id_p { length id_p.now ≤ max_name }
     requires id_s { length id_s.now ≤ max_name }
     ensures { list.new ≡ list.old ++ ak_record psk.now (mac_p_octets id_p.now id_s.now rand_s.now rand_p.now) mac.now ∷ [] }
@@ -39,7 +39,7 @@ pub fn add_mac_s<'a, R: Records>(
     rand_p: &'a [u8; 16],
     mac: &[u8; 16],
 )
-    requires room { length list.old < 2 }
+    requires capacity { length list.old < 2 }
     requires id_s { length id_s.now ≤ max_name }
     ensures { list.new ≡ list.old ++ ak_record psk.now (mac_s_octets id_s.now rand_p.now) mac.now ∷ [] }
 {
@@ -54,7 +54,7 @@ pub fn add_channel<R: Records>(
     header: &[u8],
     channel: &Channel,
 )
-    requires room { length list.old < 2 }
+    requires capacity { length list.old < 2 }
     requires header { length header.now ≤ 22 }
     ensures { list.new ≡ list.old
         ++ tek_record psk.now channel.now.nonce header.now channel.now.sealed channel.now.tag ∷ [] }
@@ -72,7 +72,7 @@ fn add_pieces<'a, R: Records>(
     sealed: &'a [u8; 1],
     tag: &[u8; 16],
 )
-    requires room { length list.old < 2 }
+    requires capacity { length list.old < 2 }
     requires header { length header.now ≤ 22 }
     ensures { list.new ≡ list.old
         ++ (record { method = psk_kind; label = Tek; psk = psk.now; octets = nonce.now ++ (header.now ++ sealed.now); tag = tag.now }) ∷ [] }

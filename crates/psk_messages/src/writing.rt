@@ -38,7 +38,7 @@ fn flags_of(view: &PskMessage) -> u8
 
 /// Appends the fields after Flags, for which there is room.
 fn put_fields(packet: &mut Packet, view: &PskMessage)
-    requires room { length packet.old ≤ 6 }
+    requires capacity { length packet.old ≤ 6 }
     requires identity { length (identity_of (message_of view.now)) ≤ max_name }
     ensures { packet.new ≡ packet.old ++ fields_of (message_of view.now) }
 {
@@ -76,7 +76,7 @@ fn count(field: &[u8]) -> usize
 fn size_of(view: &PskMessage) -> usize
     requires { length (identity_of (message_of view.now)) ≤ max_name }
     ensures size { result ≡ size_of (message_of view.now) }
-    ensures fits { result ≤ 302 }
+    ensures bounded { result ≤ 302 }
 {
     match view {
         PskMessage::P1(psk1) => 1 + count(&psk1.rand_s) + psk1.id_s.len(),

@@ -26,7 +26,7 @@ const MAX_VALUE: usize = 253;
 /// Appends an attribute, for which there is room.
 fn put_attribute(packet: &mut Octets<2000>, kind: u8, value: &[u8])
     requires value { length value.now ≤ max_value }
-    requires room { length packet.old + length value.now + 2 ≤ 2000 }
+    requires capacity { length packet.old + length value.now + 2 ≤ 2000 }
     ensures { packet.new ≡ packet.old ++ attribute_octets (kind, value.now) }
 {
     packet.put(&[kind, value.len() as u8 + 2]);
@@ -37,7 +37,7 @@ fn put_attribute(packet: &mut Octets<2000>, kind: u8, value: &[u8])
 #[tactic(auto, unfolding(crate::specs::Packet::octets_of))]
 fn put_field(packet: &mut Octets<2000>, kind: u8, value: &[u8])
     requires value { length value.now ≤ max_value }
-    requires room { length packet.old + length value.now + 2 ≤ 2000 }
+    requires capacity { length packet.old + length value.now + 2 ≤ 2000 }
     ensures octets { packet.new ≡ packet.old ++ octets_of (field kind value.now) }
     ensures size { length packet.new ≤ length packet.old + length value.now + 2 }
 {
@@ -50,7 +50,7 @@ fn put_field(packet: &mut Octets<2000>, kind: u8, value: &[u8])
 #[tactic(auto, using(crate::proofs::Pieced::octets_of_none))]
 fn put_eap(packet: &mut Octets<2000>, eap: &[u8])
     requires eap { length eap.now ≤ max_packet }
-    requires room { length packet.old ≤ 400 }
+    requires capacity { length packet.old ≤ 400 }
     ensures octets { packet.new ≡ packet.old ++ octets_of (pieces eap.now) }
     ensures size { length packet.new ≤ length packet.old + 1513 }
 {
@@ -143,7 +143,7 @@ fn tag_over(
     attributes: &[u8],
 ) -> [u8; 16]
     requires secret { length secret.now ≤ 64 }
-    requires fits { length attributes.now ≤ 1834 }
+    requires bounded { length attributes.now ≤ 1834 }
     ensures { (list : List Attribute) → attributes.now ≡ octets_of list → result ≡ hmac_md5 secret.now (spelled (blank_of code id authenticator.now list)) }
 {
     let blank = framed(code, id, authenticator, attributes, &[0; 16]);

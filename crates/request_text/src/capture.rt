@@ -137,7 +137,7 @@ impl Text for CaptureReader {
 
     ghost whole = { λ entry event. entry };
 
-    ghost says = { λ item after event. item };
+    ghost item_meaning = { λ item after event. item };
 
     ghost is_valid = { HasKey };
 
@@ -147,7 +147,7 @@ impl Text for CaptureReader {
         self.phase
     }
 
-    fn begin(&mut self, line: &[u8]) -> bool {
+    fn start_if_header(&mut self, line: &[u8]) -> bool {
         if line != b"eap-capture 1".as_slice() {
             return false;
         }

@@ -134,7 +134,7 @@ impl KeyLine {
 pub fn read_key_line_into(line: &[u8], asked: &mut KeyLine) -> Result<bool, LineFault>
     ensures value { read_into result asked.new ≡ key_line line.now }
     ensures sizes { result ≡ Ok true → HasSizes asked.new }
-    ensures kept { result ≢ Ok true → asked.new ≡ asked.old }
+    ensures unchanged { result ≢ Ok true → asked.new ≡ asked.old }
 {
     if is_comment(line) {
         return Ok(false);
@@ -159,7 +159,7 @@ pub fn read_key_line(line: &[u8]) -> Result<Option<KeyLine>, LineFault>
 #[tactic(auto, unfolding(crate::specs::Keys::asked_by), using(text_tables::proofs::Bounded::fits))]
 fn read_request(line: &[u8], asked: &mut KeyLine) -> Result<(), LineFault>
     ensures value { asked_into result asked.new ≡ asked_by line.now }
-    ensures kept { IfErr result (λ fault. asked.new ≡ asked.old) }
+    ensures unchanged { IfErr result (λ fault. asked.new ≡ asked.old) }
 {
     match read_keyword(&REQUESTS, line) {
         Err(fault) => Err(fault),

@@ -64,7 +64,7 @@ impl Text for RadiusReader {
 
     ghost whole = { λ entry event. entry };
 
-    ghost says = { λ item after event. item };
+    ghost item_meaning = { λ item after event. item };
 
     ghost is_valid = { λ entry. Unit {0} };
 
@@ -74,7 +74,7 @@ impl Text for RadiusReader {
         self.phase
     }
 
-    fn begin(&mut self, line: &[u8]) -> bool {
+    fn start_if_header(&mut self, line: &[u8]) -> bool {
         if line != b"eap-radius 1".as_slice() {
             return false;
         }

@@ -138,7 +138,7 @@ impl Text for ScenarioReader {
 
     ghost whole = { entry_with };
 
-    ghost says = { item_with };
+    ghost item_meaning = { item_with };
 
     ghost is_valid = { IsValidContent };
 
@@ -148,7 +148,7 @@ impl Text for ScenarioReader {
         self.phase
     }
 
-    fn begin(&mut self, line: &[u8]) -> bool {
+    fn start_if_header(&mut self, line: &[u8]) -> bool {
         match Version::of_header(line) {
             None => false,
             Some(version) => {

@@ -60,8 +60,8 @@ impl<M: ServerMethod> Backend<M> {
     pub fn new(setup: ServerSetup, methods: Vec<M>) -> Backend<M>
         requires sound { IsSoundServer setup }
         requires objects { have_each (server_kinds (map M.server_shown methods.items)) setup.methods ≡ true }
-        ensures made { now_of M.server_shown result ≡ initial_backend setup }
-        ensures kept { PreservesServers setup.methods (map M.server_shown methods.items) (map M.server_shown result.methods) }
+        ensures initial { now_of M.server_shown result ≡ initial_backend setup }
+        ensures preserves { PreservesServers setup.methods (map M.server_shown methods.items) (map M.server_shown result.methods) }
     {
         Backend {
             machine: ServerMachine::in_role(Role::Backend, setup, 0, 0, methods),
@@ -98,7 +98,7 @@ impl<M: ServerMethod> Backend<M> {
     ) -> Step
         ensures step { server_receives (now_of M.server_shown self.old) octets.now
             ≡ answer (step_with result packet.new tags.new) (now_of M.server_shown self.new) }
-        ensures kept { PreservesServers self.old.vars.setup.methods (map M.server_shown self.old.methods) (map M.server_shown self.new.methods) }
+        ensures preserves { PreservesServers self.old.vars.setup.methods (map M.server_shown self.old.methods) (map M.server_shown self.new.methods) }
         ensures setup { self.new.vars.setup ≡ self.old.vars.setup }
     {
         self.machine.deliver_step(octets, packet, tags)
@@ -112,7 +112,7 @@ impl<M: ServerMethod> Backend<M> {
         requires objects { have_each (server_kinds (map M.server_shown self.old.methods)) self.old.vars.setup.methods ≡ true }
         ensures step { server_restart (now_of M.server_shown self.old) nonce.now
             ≡ answer (step_with result [] no_tags) (now_of M.server_shown self.new) }
-        ensures kept { PreservesServers self.old.vars.setup.methods (map M.server_shown self.old.methods) (map M.server_shown self.new.methods) }
+        ensures preserves { PreservesServers self.old.vars.setup.methods (map M.server_shown self.old.methods) (map M.server_shown self.new.methods) }
         ensures setup { self.new.vars.setup ≡ setup_with_nonce self.old.vars.setup nonce.now }
     {
         self.machine.make_again(nonce);
@@ -122,8 +122,8 @@ impl<M: ServerMethod> Backend<M> {
     /// Sets the variables and begins the objects as INITIALIZE does, as [`ServerMachine::make_again`].
     pub fn make_again(&mut self, nonce: &Nonce)
         requires objects { have_each (server_kinds (map M.server_shown self.old.methods)) self.old.vars.setup.methods ≡ true }
-        ensures made { made_again (now_of M.server_shown self.old) nonce.now ≡ now_of M.server_shown self.new }
-        ensures kept { PreservesServers self.old.vars.setup.methods (map M.server_shown self.old.methods) (map M.server_shown self.new.methods) }
+        ensures restarted { made_again (now_of M.server_shown self.old) nonce.now ≡ now_of M.server_shown self.new }
+        ensures preserves { PreservesServers self.old.vars.setup.methods (map M.server_shown self.old.methods) (map M.server_shown self.new.methods) }
         ensures setup { self.new.vars.setup ≡ setup_with_nonce self.old.vars.setup nonce.now }
     {
         self.machine.make_again(nonce)
@@ -132,7 +132,7 @@ impl<M: ServerMethod> Backend<M> {
     /// [`deliver_step`](Backend::deliver_step), with the packet and the records in its answer.
     pub fn deliver(&mut self, octets: &[u8]) -> ServerStep
         ensures step { server_receives (now_of M.server_shown self.old) octets.now ≡ answer result (now_of M.server_shown self.new) }
-        ensures kept { PreservesServers self.old.vars.setup.methods (map M.server_shown self.old.methods) (map M.server_shown self.new.methods) }
+        ensures preserves { PreservesServers self.old.vars.setup.methods (map M.server_shown self.old.methods) (map M.server_shown self.new.methods) }
         ensures setup { self.new.vars.setup ≡ self.old.vars.setup }
     {
         let mut packet = Packet::new();
@@ -145,7 +145,7 @@ impl<M: ServerMethod> Backend<M> {
     pub fn restart(&mut self, nonce: &Nonce) -> ServerStep
         requires objects { have_each (server_kinds (map M.server_shown self.old.methods)) self.old.vars.setup.methods ≡ true }
         ensures step { server_restart (now_of M.server_shown self.old) nonce.now ≡ answer result (now_of M.server_shown self.new) }
-        ensures kept { PreservesServers self.old.vars.setup.methods (map M.server_shown self.old.methods) (map M.server_shown self.new.methods) }
+        ensures preserves { PreservesServers self.old.vars.setup.methods (map M.server_shown self.old.methods) (map M.server_shown self.new.methods) }
         ensures setup { self.new.vars.setup ≡ setup_with_nonce self.old.vars.setup nonce.now }
     {
         self.restart_step(nonce).alone()
@@ -199,7 +199,7 @@ impl<M: ServerMethod> Backend<M> {
 
     /// The backend knows this user too from now on, as [`ServerMachine::add_user`].
     pub fn add_user(&mut self, user: User)
-        requires room { users.HasCapacity self.old.vars.setup.users user }
+        requires capacity { users.HasCapacity self.old.vars.setup.users user }
         requires kind { is_kind user.kind ≡ true }
         requires key { is_valid_for user.kind user.psk ≡ true }
         ensures { self.new ≡ with_users self.old (self.old.vars.setup.users ++ user ∷ []) }

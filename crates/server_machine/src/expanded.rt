@@ -30,7 +30,7 @@ pub fn awaits_first(vars: &ServerVariables) -> bool
 /// the octets that came; the answer is then false, and what `packet` then has is unspecified.
 pub fn write_if_accepted(vars: &ServerVariables, view: &PacketView, packet: &mut Packet) -> bool
     requires response { view.now.code ≡ Code.Response }
-    requires fits { length view.now.body.now ≤ max_type_data }
+    requires bounded { length view.now.body.now ≤ max_type_data }
     ensures { (octets : List ℕ) → response_octets vars.now octets view.now.id view.now.kind view.now.body.now
         ≡ (if result then packet.new else octets) }
 {
@@ -83,7 +83,7 @@ fn write_nak(packet: &mut Packet, id: u8, list: &[u8])
 /// are. It isn't inlined, so that the copy of the packet isn't on the stack in a method's turn.
 #[inline(never)]
 pub fn wrap_sent(vars: &mut ServerVariables, sends: bool, packet: &mut Packet)
-    requires room { MayWrap sends packet.old }
+    requires capacity { MayWrap sends packet.old }
     ensures step { (step : brief.Step) (tags : records.Tags) (views : ServerViews) → step.sends ≡ sends
         → wraps (answer (step_with step packet.old tags) (record { vars = vars.old; views = views }))
         ≡ answer (step_with step packet.new tags) (record { vars = vars.new; views = views }) }

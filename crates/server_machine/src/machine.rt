@@ -91,8 +91,8 @@ impl<M: ServerMethod> ServerMachine<M> {
         requires sound { IsSoundServer setup }
         requires few { max_retrans ≤ 10 }
         requires objects { have_each (server_kinds (map M.server_shown methods.items)) setup.methods ≡ true }
-        ensures made { now_of M.server_shown result ≡ initial_server StandAlone setup first_id max_retrans }
-        ensures kept { PreservesServers setup.methods (map M.server_shown methods.items) (map M.server_shown result.methods) }
+        ensures initial { now_of M.server_shown result ≡ initial_server StandAlone setup first_id max_retrans }
+        ensures preserves { PreservesServers setup.methods (map M.server_shown methods.items) (map M.server_shown result.methods) }
     {
         ServerMachine::in_role(Role::StandAlone, setup, first_id, max_retrans, methods)
     }
@@ -109,8 +109,8 @@ impl<M: ServerMethod> ServerMachine<M> {
         requires sound { IsSoundServer setup }
         requires few { max_retrans ≤ 10 }
         requires objects { have_each (server_kinds (map M.server_shown methods.items)) setup.methods ≡ true }
-        ensures made { now_of M.server_shown result ≡ initial_server role setup first_id max_retrans }
-        ensures kept { PreservesServers setup.methods (map M.server_shown methods.items) (map M.server_shown result.methods) }
+        ensures initial { now_of M.server_shown result ≡ initial_server role setup first_id max_retrans }
+        ensures preserves { PreservesServers setup.methods (map M.server_shown methods.items) (map M.server_shown result.methods) }
     {
         let mut methods = methods;
         start_servers(methods.as_mut_slice(), &setup);
@@ -157,7 +157,7 @@ impl<M: ServerMethod> ServerMachine<M> {
         requires unstarted { is_started self.old.vars ≡ false }
         requires stand_alone { is_backend self.old.vars ≡ false }
         ensures step { server_start (now_of M.server_shown self.old) ≡ answer (step_with result packet.new no_tags) (now_of M.server_shown self.new) }
-        ensures kept { PreservesServers self.old.vars.setup.methods (map M.server_shown self.old.methods) (map M.server_shown self.new.methods) }
+        ensures preserves { PreservesServers self.old.vars.setup.methods (map M.server_shown self.old.methods) (map M.server_shown self.new.methods) }
         ensures setup { self.new.vars.setup ≡ self.old.vars.setup }
     {
         write_identity(packet, self.vars.first_id);
@@ -187,7 +187,7 @@ impl<M: ServerMethod> ServerMachine<M> {
     pub fn restart_step(&mut self, nonce: &Nonce, packet: &mut Packet) -> Step
         requires objects { have_each (server_kinds (map M.server_shown self.old.methods)) self.old.vars.setup.methods ≡ true }
         ensures step { server_restart (now_of M.server_shown self.old) nonce.now ≡ answer (step_with result packet.new no_tags) (now_of M.server_shown self.new) }
-        ensures kept { PreservesServers self.old.vars.setup.methods (map M.server_shown self.old.methods) (map M.server_shown self.new.methods) }
+        ensures preserves { PreservesServers self.old.vars.setup.methods (map M.server_shown self.old.methods) (map M.server_shown self.new.methods) }
         ensures setup { self.new.vars.setup ≡ setup_with_nonce self.old.vars.setup nonce.now }
     {
         self.make_again(nonce);
@@ -201,8 +201,8 @@ impl<M: ServerMethod> ServerMachine<M> {
     #[tactic(auto, using(crate::proofs::Restarting::still_sound))]
     pub fn make_again(&mut self, nonce: &Nonce)
         requires objects { have_each (server_kinds (map M.server_shown self.old.methods)) self.old.vars.setup.methods ≡ true }
-        ensures made { made_again (now_of M.server_shown self.old) nonce.now ≡ now_of M.server_shown self.new }
-        ensures kept { PreservesServers self.old.vars.setup.methods (map M.server_shown self.old.methods) (map M.server_shown self.new.methods) }
+        ensures restarted { made_again (now_of M.server_shown self.old) nonce.now ≡ now_of M.server_shown self.new }
+        ensures preserves { PreservesServers self.old.vars.setup.methods (map M.server_shown self.old.methods) (map M.server_shown self.new.methods) }
         ensures setup { self.new.vars.setup ≡ setup_with_nonce self.old.vars.setup nonce.now }
         ensures role { self.new.vars.role ≡ self.old.vars.role }
     {
@@ -241,7 +241,7 @@ impl<M: ServerMethod> ServerMachine<M> {
         requires ready { is_ready self.old.vars ≡ true }
         ensures step { server_receives (now_of M.server_shown self.old) octets.now
             ≡ answer (step_with result packet.new tags.new) (now_of M.server_shown self.new) }
-        ensures kept { PreservesServers self.old.vars.setup.methods (map M.server_shown self.old.methods) (map M.server_shown self.new.methods) }
+        ensures preserves { PreservesServers self.old.vars.setup.methods (map M.server_shown self.old.methods) (map M.server_shown self.new.methods) }
         ensures setup { self.new.vars.setup ≡ self.old.vars.setup }
     {
         if self.vars.setup.expanded && !self.ended() {
@@ -258,7 +258,7 @@ impl<M: ServerMethod> ServerMachine<M> {
         requires ready { is_ready self.old.vars ≡ true }
         ensures step { server_reads (now_of M.server_shown self.old) octets.now (packet_of octets.now)
             ≡ answer (step_with result packet.new tags.new) (now_of M.server_shown self.new) }
-        ensures kept { PreservesServers self.old.vars.setup.methods (map M.server_shown self.old.methods) (map M.server_shown self.new.methods) }
+        ensures preserves { PreservesServers self.old.vars.setup.methods (map M.server_shown self.old.methods) (map M.server_shown self.new.methods) }
         ensures setup { self.new.vars.setup ≡ self.old.vars.setup }
     {
         match decode(octets) {
@@ -282,10 +282,10 @@ impl<M: ServerMethod> ServerMachine<M> {
     ) -> Step
         requires ready { is_ready self.old.vars ≡ true }
         requires response { view.now.code ≡ Code.Response }
-        requires fits { length view.now.body.now ≤ max_type_data }
+        requires bounded { length view.now.body.now ≤ max_type_data }
         ensures step { reads_response (now_of M.server_shown self.old) octets.now view.now.id view.now.kind view.now.body.now
             ≡ answer (step_with result packet.new tags.new) (now_of M.server_shown self.new) }
-        ensures kept { PreservesServers self.old.vars.setup.methods (map M.server_shown self.old.methods) (map M.server_shown self.new.methods) }
+        ensures preserves { PreservesServers self.old.vars.setup.methods (map M.server_shown self.old.methods) (map M.server_shown self.new.methods) }
         ensures setup { self.new.vars.setup ≡ self.old.vars.setup }
     {
         if is_bad_expanded(view) {
@@ -317,8 +317,8 @@ impl<M: ServerMethod> ServerMachine<M> {
         requires ready { is_ready self.old.vars ≡ true }
         ensures step { server_deliver (now_of M.server_shown self.old) octets.now
             ≡ answer (step_with result packet.new tags.new) (now_of M.server_shown self.new) }
-        ensures room { MayWrap result.sends packet.new }
-        ensures kept { PreservesServers self.old.vars.setup.methods (map M.server_shown self.old.methods) (map M.server_shown self.new.methods) }
+        ensures capacity { MayWrap result.sends packet.new }
+        ensures preserves { PreservesServers self.old.vars.setup.methods (map M.server_shown self.old.methods) (map M.server_shown self.new.methods) }
         ensures setup { self.new.vars.setup ≡ self.old.vars.setup }
     {
         tags.clear();
@@ -338,7 +338,7 @@ impl<M: ServerMethod> ServerMachine<M> {
                 if is_first {
                     self.pick_up(&view, packet)
                 } else {
-                    self.take(&view, packet, tags)
+                    self.receive_packet(&view, packet, tags)
                 }
             }
         }
@@ -351,7 +351,7 @@ impl<M: ServerMethod> ServerMachine<M> {
     pub fn timeout_step(&mut self, packet: &mut Packet) -> Step
         requires { has_timer self.old.vars ≡ true }
         ensures step { server_timeout (now_of M.server_shown self.old) ≡ answer (step_with result packet.new no_tags) (now_of M.server_shown self.new) }
-        ensures kept { PreservesServers self.old.vars.setup.methods (map M.server_shown self.old.methods) (map M.server_shown self.new.methods) }
+        ensures preserves { PreservesServers self.old.vars.setup.methods (map M.server_shown self.old.methods) (map M.server_shown self.new.methods) }
         ensures setup { self.new.vars.setup ≡ self.old.vars.setup }
     {
         self.vars.retrans_count += 1;
@@ -369,7 +369,7 @@ impl<M: ServerMethod> ServerMachine<M> {
         requires unstarted { is_started self.old.vars ≡ false }
         requires stand_alone { is_backend self.old.vars ≡ false }
         ensures step { server_start (now_of M.server_shown self.old) ≡ answer result (now_of M.server_shown self.new) }
-        ensures kept { PreservesServers self.old.vars.setup.methods (map M.server_shown self.old.methods) (map M.server_shown self.new.methods) }
+        ensures preserves { PreservesServers self.old.vars.setup.methods (map M.server_shown self.old.methods) (map M.server_shown self.new.methods) }
         ensures setup { self.new.vars.setup ≡ self.old.vars.setup }
     {
         let mut packet = Packet::new();
@@ -380,7 +380,7 @@ impl<M: ServerMethod> ServerMachine<M> {
     pub fn restart(&mut self, nonce: &Nonce) -> ServerStep
         requires objects { have_each (server_kinds (map M.server_shown self.old.methods)) self.old.vars.setup.methods ≡ true }
         ensures step { server_restart (now_of M.server_shown self.old) nonce.now ≡ answer result (now_of M.server_shown self.new) }
-        ensures kept { PreservesServers self.old.vars.setup.methods (map M.server_shown self.old.methods) (map M.server_shown self.new.methods) }
+        ensures preserves { PreservesServers self.old.vars.setup.methods (map M.server_shown self.old.methods) (map M.server_shown self.new.methods) }
         ensures setup { self.new.vars.setup ≡ setup_with_nonce self.old.vars.setup nonce.now }
     {
         let mut packet = Packet::new();
@@ -392,7 +392,7 @@ impl<M: ServerMethod> ServerMachine<M> {
     pub fn deliver(&mut self, octets: &[u8]) -> ServerStep
         requires ready { is_ready self.old.vars ≡ true }
         ensures step { server_receives (now_of M.server_shown self.old) octets.now ≡ answer result (now_of M.server_shown self.new) }
-        ensures kept { PreservesServers self.old.vars.setup.methods (map M.server_shown self.old.methods) (map M.server_shown self.new.methods) }
+        ensures preserves { PreservesServers self.old.vars.setup.methods (map M.server_shown self.old.methods) (map M.server_shown self.new.methods) }
         ensures setup { self.new.vars.setup ≡ self.old.vars.setup }
     {
         let mut packet = Packet::new();
@@ -405,7 +405,7 @@ impl<M: ServerMethod> ServerMachine<M> {
     pub fn timeout(&mut self) -> ServerStep
         requires { has_timer self.old.vars ≡ true }
         ensures step { server_timeout (now_of M.server_shown self.old) ≡ answer result (now_of M.server_shown self.new) }
-        ensures kept { PreservesServers self.old.vars.setup.methods (map M.server_shown self.old.methods) (map M.server_shown self.new.methods) }
+        ensures preserves { PreservesServers self.old.vars.setup.methods (map M.server_shown self.old.methods) (map M.server_shown self.new.methods) }
         ensures setup { self.new.vars.setup ≡ self.old.vars.setup }
     {
         let mut packet = Packet::new();
@@ -507,7 +507,7 @@ impl<M: ServerMethod> ServerMachine<M> {
     /// key for one of the two methods, of the size that the method requires.
     #[tactic(auto, using(crate::proofs::Restarting::sound_with_user))]
     pub fn add_user(&mut self, user: User)
-        requires room { users.HasCapacity self.old.vars.setup.users user }
+        requires capacity { users.HasCapacity self.old.vars.setup.users user }
         requires kind { is_kind user.kind ≡ true }
         requires key { is_valid_for user.kind user.psk ≡ true }
         ensures { self.new ≡ with_users self.old (self.old.vars.setup.users ++ user ∷ []) }
@@ -532,11 +532,11 @@ impl<M: ServerMethod> ServerMachine<M> {
     /// A packet arrives at a backend that waits for the first Response; all else is discarded with an empty
     /// path.
     fn pick_up(&mut self, view: &PacketView, packet: &mut Packet) -> Step
-        requires going { is_end self.old.vars.state ≡ false }
+        requires running { is_end self.old.vars.state ≡ false }
         ensures step { pick_up (now_of M.server_shown self.old) (Ok (value_of view.now))
             ≡ answer (step_with result packet.new no_tags) (now_of M.server_shown self.new) }
-        ensures room { MayWrap result.sends packet.new }
-        ensures kept { PreservesServers self.old.vars.setup.methods (map M.server_shown self.old.methods) (map M.server_shown self.new.methods) }
+        ensures capacity { MayWrap result.sends packet.new }
+        ensures preserves { PreservesServers self.old.vars.setup.methods (map M.server_shown self.old.methods) (map M.server_shown self.new.methods) }
         ensures setup { self.new.vars.setup ≡ self.old.vars.setup }
     {
         match view.code {
@@ -549,11 +549,11 @@ impl<M: ServerMethod> ServerMachine<M> {
 
     /// The first Response sets currentId, and the first method is proposed, or the first that a Nak desires.
     fn pick_up_response(&mut self, id: u8, kind: u8, body: &[u8], packet: &mut Packet) -> Step
-        requires going { is_end self.old.vars.state ≡ false }
+        requires running { is_end self.old.vars.state ≡ false }
         ensures step { first_response (now_of M.server_shown self.old) id kind body.now
             ≡ answer (step_with result packet.new no_tags) (now_of M.server_shown self.new) }
-        ensures room { MayWrap result.sends packet.new }
-        ensures kept { PreservesServers self.old.vars.setup.methods (map M.server_shown self.old.methods) (map M.server_shown self.new.methods) }
+        ensures capacity { MayWrap result.sends packet.new }
+        ensures preserves { PreservesServers self.old.vars.setup.methods (map M.server_shown self.old.methods) (map M.server_shown self.new.methods) }
         ensures setup { self.new.vars.setup ≡ self.old.vars.setup }
     {
         self.vars.state = State::Idle;
@@ -570,7 +570,7 @@ impl<M: ServerMethod> ServerMachine<M> {
 
     /// RECEIVED, of a packet; `tags` has no record yet.
     #[tactic(auto, using(crate::proofs::Responses::is_response))]
-    fn take<R: Records>(
+    fn receive_packet<R: Records>(
         &mut self,
         view: &PacketView,
         packet: &mut Packet,
@@ -581,8 +581,8 @@ impl<M: ServerMethod> ServerMachine<M> {
         requires tags { tags.old ≡ no_tags }
         ensures step { server_row (now_of M.server_shown self.old) (Ok (value_of view.now))
             ≡ answer (step_with result packet.new tags.new) (now_of M.server_shown self.new) }
-        ensures room { MayWrap result.sends packet.new }
-        ensures kept { PreservesServers self.old.vars.setup.methods (map M.server_shown self.old.methods) (map M.server_shown self.new.methods) }
+        ensures capacity { MayWrap result.sends packet.new }
+        ensures preserves { PreservesServers self.old.vars.setup.methods (map M.server_shown self.old.methods) (map M.server_shown self.new.methods) }
         ensures setup { self.new.vars.setup ≡ self.old.vars.setup }
     {
         match view.code {
@@ -610,8 +610,8 @@ impl<M: ServerMethod> ServerMachine<M> {
         requires tags { tags.old ≡ no_tags }
         ensures step { current_response (now_of M.server_shown self.old) view.now.id view.now.kind view.now.body.now
             ≡ answer (step_with result packet.new tags.new) (now_of M.server_shown self.new) }
-        ensures room { MayWrap result.sends packet.new }
-        ensures kept { PreservesServers self.old.vars.setup.methods (map M.server_shown self.old.methods) (map M.server_shown self.new.methods) }
+        ensures capacity { MayWrap result.sends packet.new }
+        ensures preserves { PreservesServers self.old.vars.setup.methods (map M.server_shown self.old.methods) (map M.server_shown self.new.methods) }
         ensures setup { self.new.vars.setup ≡ self.old.vars.setup }
     {
         if view.kind == NAK && self.vars.progress == Progress::Proposed {
@@ -638,8 +638,8 @@ impl<M: ServerMethod> ServerMachine<M> {
     ) -> Step
         ensures step { let now = now_of M.server_shown self.old in select_action (before_proposal way) now.vars now.views id (option_copied desired.entry)
             ≡ answer (step_with result packet.new no_tags) (now_of M.server_shown self.new) }
-        ensures room { MayWrap result.sends packet.new }
-        ensures kept { PreservesServers self.old.vars.setup.methods (map M.server_shown self.old.methods) (map M.server_shown self.new.methods) }
+        ensures capacity { MayWrap result.sends packet.new }
+        ensures preserves { PreservesServers self.old.vars.setup.methods (map M.server_shown self.old.methods) (map M.server_shown self.new.methods) }
         ensures setup { self.new.vars.setup ≡ self.old.vars.setup }
     {
         match next_method(&self.vars.setup.methods, &self.vars.proposed, desired) {
@@ -665,8 +665,8 @@ impl<M: ServerMethod> ServerMachine<M> {
         requires ordered { is_among self.old.vars.setup.methods kind ≡ true }
         ensures step { server_method (now_of M.server_shown self.old) id kind response.now
             ≡ answer (step_with result packet.new tags.new) (now_of M.server_shown self.new) }
-        ensures room { MayWrap result.sends packet.new }
-        ensures kept { PreservesServers self.old.vars.setup.methods (map M.server_shown self.old.methods) (map M.server_shown self.new.methods) }
+        ensures capacity { MayWrap result.sends packet.new }
+        ensures preserves { PreservesServers self.old.vars.setup.methods (map M.server_shown self.old.methods) (map M.server_shown self.new.methods) }
         ensures setup { self.new.vars.setup ≡ self.old.vars.setup }
     {
         let turn = turn_of(&mut self.methods, &self.vars, kind, response, packet, tags);
@@ -701,8 +701,8 @@ fn write_first<M: ServerMethod>(
     ensures offer { server_offer (side_of vars.now.setup) vars.now.setup.nonce kind (next_id vars.now)
         (server_views vars.now.setup.methods (map M.server_shown methods.old.items))
         ≡ record { packet = if result then Some packet.new else None; after = server_views vars.now.setup.methods (map M.server_shown methods.new.items) } }
-    ensures room { result ≡ true → HasCapacity packet.new }
-    ensures kept { PreservesServers vars.now.setup.methods (map M.server_shown methods.old.items) (map M.server_shown methods.new.items) }
+    ensures capacity { result ≡ true → HasCapacity packet.new }
+    ensures preserves { PreservesServers vars.now.setup.methods (map M.server_shown methods.old.items) (map M.server_shown methods.new.items) }
 {
     offer_method(
         methods.as_mut_slice(),
@@ -730,8 +730,8 @@ fn turn_of<M: ServerMethod, R: Records>(
         (server_views vars.now.setup.methods (map M.server_shown methods.old.items)) response.now
         ≡ record { turn = server_turn_with result packet.new tags.new; after = server_views vars.now.setup.methods (map M.server_shown methods.new.items) } }
     ensures tags { tags.new ≡ server_tags (server_turn_with result packet.new tags.new) }
-    ensures room { requests result ≡ true → HasCapacity packet.new }
-    ensures kept { PreservesServers vars.now.setup.methods (map M.server_shown methods.old.items) (map M.server_shown methods.new.items) }
+    ensures capacity { requests result ≡ true → HasCapacity packet.new }
+    ensures preserves { PreservesServers vars.now.setup.methods (map M.server_shown methods.old.items) (map M.server_shown methods.new.items) }
 {
     call_server_method(
         methods.as_mut_slice(),

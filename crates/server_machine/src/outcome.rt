@@ -74,7 +74,7 @@ pub fn next_id(vars: &ServerVariables) -> u8
 pub fn end_badly(vars: &mut ServerVariables, way: ProposalPath, id: u8, packet: &mut Packet) -> Step
     ensures step { (views : ServerViews) → ends_badly (before_proposal way) vars.old views id no_tags
         ≡ answer (step_with result packet.new no_tags) (record { vars = vars.new; views = views }) }
-    ensures room { MayWrap result.sends packet.new }
+    ensures capacity { MayWrap result.sends packet.new }
     ensures setup { vars.new.setup ≡ vars.old.setup }
     ensures order { AreInOrder vars.old → AreInOrder vars.new }
 {
@@ -97,10 +97,10 @@ pub fn settle_offer(
     requires ordered { is_among vars.old.setup.methods kind ≡ true }
     requires unproposed { is_among vars.old.proposed kind ≡ false }
     requires in_order { AreInOrder vars.old }
-    requires room { has_first ≡ true → HasCapacity packet.old }
+    requires capacity { has_first ≡ true → HasCapacity packet.old }
     ensures step { (views : ServerViews) → offers (before_proposal way) vars.old views id kind (if has_first then Some packet.old else None)
         ≡ answer (step_with result packet.new no_tags) (record { vars = vars.new; views = views }) }
-    ensures room { MayWrap result.sends packet.new }
+    ensures capacity { MayWrap result.sends packet.new }
     ensures setup { vars.new.setup ≡ vars.old.setup }
     ensures order { AreInOrder vars.new }
 {
@@ -140,11 +140,11 @@ fn send_request(vars: &mut ServerVariables, request: &Packet)
 /// INTEGRITY_CHECK, of the turn of the method's object, whose Request is `packet`: a discard writes
 /// nothing, and after the method's end a Success or a Failure takes the place of what was there.
 pub fn settle(vars: &mut ServerVariables, id: u8, turn: ServerAnswer, packet: &mut Packet) -> Step
-    requires room { requests turn ≡ true → HasCapacity packet.old }
+    requires capacity { requests turn ≡ true → HasCapacity packet.old }
     ensures step { (before after : ServerViews) (tags : Tags) → let whole = server_turn_with turn packet.old tags in
         method_answers (record { vars = vars.old; views = before }) id after whole
         ≡ answer (step_with result packet.new (server_tags whole)) (record { vars = vars.new; views = views_after before after whole }) }
-    ensures room { MayWrap result.sends packet.new }
+    ensures capacity { MayWrap result.sends packet.new }
     ensures setup { vars.new.setup ≡ vars.old.setup }
     ensures order { AreInOrder vars.old → AreInOrder vars.new }
 {
@@ -184,7 +184,7 @@ fn end_method(vars: &mut ServerVariables, id: u8, success: bool, packet: &mut Pa
         → (if success then ends_well (before_proposal AfterResponse) vars.old views id tags
         else ends_badly (before_proposal AfterResponse) vars.old views id tags)
         ≡ answer (step_with result packet.new tags) (record { vars = vars.new; views = views }) }
-    ensures room { MayWrap result.sends packet.new }
+    ensures capacity { MayWrap result.sends packet.new }
     ensures setup { vars.new.setup ≡ vars.old.setup }
     ensures order { AreInOrder vars.old → AreInOrder vars.new }
 {

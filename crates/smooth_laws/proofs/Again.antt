@@ -15,7 +15,7 @@ use Rattle.eap_world.specs.Conversations.{front}
 use Rattle.tag_book.specs.Book.{first_broken, tags_verdict, verdict_on}
 use Rattle.tag_book.specs.declared.book.Entry.{Entry}
 use Rattle.tag_book.specs.declared.book.TagsVerdict.TheVariants.{Honest}
-use Rattle.tag_book.specs.declared.book.MadeBy.TheVariants.{Other}
+use Rattle.tag_book.specs.declared.book.RecordOwner.TheVariants.{Other}
 use Rattle.eap_world.specs.Judgement.{is_success, verdict_of}
 use Rattle.eap_world.specs.World.{WorldNow, Parties, run_after, world_start}
 use Rattle.smooth_laws.specs.Again.{HasJustStarted, IsLoggedInSince, SmoothLoginsSucceedAgain}

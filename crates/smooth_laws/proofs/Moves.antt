@@ -33,7 +33,7 @@ use Rattle.eap_world.specs.World.{WorldNow, Parties, Acted, Called, act_with, ac
 use Rattle.eap_world.specs.World.{WorldOutcome, conversations_after, conversed_by, conversed_unless, port_to, reported_before, is_absent, octets_of, packet_skips, run_after, act_of_skip, world_step}
 use Rattle.tag_book.specs.declared.book.End.{End}
 use Rattle.tag_book.specs.declared.book.End.TheVariants as end
-use Rattle.tag_book.specs.declared.book.MadeBy.TheVariants.{Other}
+use Rattle.tag_book.specs.declared.book.RecordOwner.TheVariants.{Other}
 use Rattle.eap_world.specs.declared.told.Skip.{Skip}
 use Rattle.eap_world.specs.declared.told.Skip.TheVariants.{NoParty, Unsent, Place}
 use Rattle.world_laws.proofs.Acting.{counted_acted}

@@ -12,8 +12,8 @@ use Rattle.tag_book.specs.declared.book.End.TheVariants.{Peer, Server}
 use Rattle.tag_book.specs.declared.book.Use.{Use}
 use Rattle.tag_book.specs.declared.book.Use.TheVariants.{Accepted, Made}
 use Rattle.tag_book.specs.declared.book.Entry.{Entry}
-use Rattle.tag_book.specs.declared.book.MadeBy.{MadeBy}
-use Rattle.tag_book.specs.declared.book.MadeBy.TheVariants.{Other, Either}
+use Rattle.tag_book.specs.declared.book.RecordOwner.{RecordOwner}
+use Rattle.tag_book.specs.declared.book.RecordOwner.TheVariants.{Other, Either}
 use Rattle.tag_book.specs.declared.book.TagsVerdict.{TagsVerdict}
 use Rattle.tag_book.specs.declared.book.TagsVerdict.TheVariants.{Honest, Broken}
 
@@ -48,20 +48,20 @@ abbrev pub is_accepted : Entry → Bool
 is_accepted e = elim e.used [ Accepted ↦ true | Made ↦ false ]
 
 -- whether a tag that the one end made vouches for one that the other accepted
-abbrev pub may_make : MadeBy → End → End → Bool
+abbrev pub may_make : RecordOwner → End → End → Bool
 may_make Other made accepted = not (same_end made accepted)
 may_make Either made accepted = true
 
 -- whether an entry is that of the same tag, made by such an end
-abbrev pub vouches : MadeBy → Entry → Entry → Bool
+abbrev pub vouches : RecordOwner → Entry → Entry → Bool
 vouches makers accepted made = not (is_accepted made) && (may_make makers made.end accepted.end && same_tag made.tag accepted.tag)
 
 -- whether an entry is no accepted tag, or one that such an end made earlier
-abbrev pub is_honest : MadeBy → List Entry → Entry → Bool
+abbrev pub is_honest : RecordOwner → List Entry → Entry → Bool
 is_honest makers earlier e = if is_accepted e then list_any (vouches makers e) earlier else true
 
 -- the event of the first accepted tag which no such end made earlier
-unfoldable pub first_broken : MadeBy → List Entry → List Entry → Option ℕ
+unfoldable pub first_broken : RecordOwner → List Entry → List Entry → Option ℕ
 first_broken makers earlier [] = None
 first_broken makers earlier (e ∷ rest) = if is_honest makers earlier e then first_broken makers (earlier ++ e ∷ []) rest else Some e.event
 

@@ -35,7 +35,7 @@ pub struct Entry {
 
 /// Whose record vouches for an accepted tag.
 #[derive(Clone, Copy, PartialEq, Eq, Debug)]
-pub enum MadeBy {
+pub enum RecordOwner {
     /// That of the other end.
     Other,
     /// That of either end, the one that accepted the tag among them.
@@ -90,7 +90,7 @@ fn book_one(book: &mut Vec<Entry>, event: u32, end: End, used: Use, tag: &TagRec
 
 /// Whether each accepted tag of a book was made earlier by such an end.
 #[tactic(auto, using(crate::proofs::FirstBroken::broken_more, crate::proofs::FirstBroken::broken_here, crate::proofs::FirstBroken::broken_all))]
-pub fn judge_tags(book: &[Entry], makers: MadeBy) -> TagsVerdict
+pub fn judge_tags(book: &[Entry], makers: RecordOwner) -> TagsVerdict
     ensures { result ≡ verdict_on (first_broken makers [] book.now) }
 {
     for place in 0..book.len() {
@@ -102,7 +102,7 @@ pub fn judge_tags(book: &[Entry], makers: MadeBy) -> TagsVerdict
 }
 
 /// Whether an entry is no accepted tag, or one that such an end made earlier.
-fn is_honest(earlier: &[Entry], entry: &Entry, makers: MadeBy) -> bool
+fn is_honest(earlier: &[Entry], entry: &Entry, makers: RecordOwner) -> bool
     ensures { result ≡ is_honest makers earlier.now entry.now }
 {
     match entry.used {
@@ -112,14 +112,14 @@ fn is_honest(earlier: &[Entry], entry: &Entry, makers: MadeBy) -> bool
 }
 
 /// Whether such an end made this tag earlier.
-fn is_vouched(earlier: &[Entry], accepted: &Entry, makers: MadeBy) -> bool
+fn is_vouched(earlier: &[Entry], accepted: &Entry, makers: RecordOwner) -> bool
     ensures { result ≡ list_any (vouches makers accepted.now) earlier.now }
 {
     earlier.iter().any(|made| vouches(accepted, made, makers))
 }
 
 /// Whether an entry is that of the same tag, made by such an end.
-fn vouches(accepted: &Entry, made: &Entry, makers: MadeBy) -> bool
+fn vouches(accepted: &Entry, made: &Entry, makers: RecordOwner) -> bool
     ensures { result ≡ vouches makers accepted.now made.now }
 {
     made.used == Use::Made
@@ -128,12 +128,12 @@ fn vouches(accepted: &Entry, made: &Entry, makers: MadeBy) -> bool
 }
 
 /// Whether a tag that the one end made vouches for one that the other accepted.
-fn may_make(makers: MadeBy, made: End, accepted: End) -> bool
+fn may_make(makers: RecordOwner, made: End, accepted: End) -> bool
     ensures { result ≡ may_make makers made accepted }
 {
     match makers {
-        MadeBy::Other => made != accepted,
-        MadeBy::Either => true,
+        RecordOwner::Other => made != accepted,
+        RecordOwner::Either => true,
     }
 }
 

@@ -122,7 +122,7 @@ pub(crate) fn octet_count(word: &[u8]) -> usize
 #[tactic(auto, unfolding(crate::specs::Fields::spells_octets))]
 pub fn octets<const N: usize>(word: &[u8]) -> Octets<N>
     requires hex { IsTrue (spells_octets word.now) }
-    requires fits { length (octets_of word.now) ≤ N }
+    requires bounded { length (octets_of word.now) ≤ N }
     ensures { result ≡ octets_of word.now }
 {
     if word == b"-".as_slice() {
@@ -147,7 +147,7 @@ pub fn array<const N: usize>(word: &[u8]) -> [u8; N]
 /// The octets that pairs of hex digits spell.
 fn hex_octets<const N: usize>(digits: &[u8]) -> Octets<N>
     requires hex { IsTrue (list_all is_hex_digit digits.now) }
-    requires fits { length (octets_of digits.now) ≤ N }
+    requires bounded { length (octets_of digits.now) ≤ N }
     ensures { result ≡ octets_of digits.now }
 {
     let mut octets = Octets::new();

@@ -43,7 +43,7 @@ pub trait Text: Drop {
     ghost whole: { Self.Entry → Self.Event → Whole };
 
     /// What a line says, with what is kept after it and the event that was written if it has one.
-    ghost says: { Self.Item → Self → Self.Event → Meaning };
+    ghost item_meaning: { Self.Item → Self → Self.Event → Meaning };
 
     /// What holds of each entry.
     ghost is_valid: { Self.Entry → Type 0 };
@@ -56,8 +56,8 @@ pub trait Text: Drop {
         ensures { result ≡ table.phase self.now };
 
     /// Begins if the line is a header of the text, and answers whether it is.
-    fn begin(&mut self, line: &[u8]) -> bool
-        ensures begun { table.begun self.old line.now ≡ initiated_by result self.new }
+    fn start_if_header(&mut self, line: &[u8]) -> bool
+        ensures initiated { table.begun self.old line.now ≡ initiated_by result self.new }
         ensures unchanged { result ≡ false → self.new ≡ self.old };
 
     /// The keywords of the text.
@@ -90,12 +90,12 @@ pub trait Text: Drop {
     fn add(&mut self, entry: Self::Entry) -> Self::Item
         requires valid { is_valid entry }
         requires none_missing { (event : Self.Event) → table.is_missing self.old (whole entry event) ≡ false }
-        ensures taken { (event : Self.Event) → table.taken self.old (whole entry event) ≡ line_of (says result self.new event) self.new }
+        ensures consumed { (event : Self.Event) → table.taken self.old (whole entry event) ≡ line_of (item_meaning result self.new event) self.new }
         ensures so { is_so result self.new };
 
     /// What the header says, and a line that is ignored.
     fn nothing() -> Self::Item
-        ensures item { (after : Self) (event : Self.Event) → says result after event ≡ table.nothing }
+        ensures item { (after : Self) (event : Self.Event) → item_meaning result after event ≡ table.nothing }
         ensures so { (after : Self) → is_so result after };
 }
 
@@ -107,7 +107,7 @@ pub fn read_line<T: Text>(
     line: &[u8],
     event: &mut T::Event,
 ) -> Result<T::Item, LineFault>
-    ensures read { texts.read_line T.Word.row_of T.table text.old line.now ≡ line_result T.says result text.new event.new }
+    ensures read { texts.read_line T.Word.row_of T.table text.old line.now ≡ line_result T.item_meaning result text.new event.new }
     ensures so { IfOk result (λ item. T.is_so item text.new) }
     ensures unchanged { OnErr result (text.new ≡ text.old) }
 {
@@ -120,11 +120,11 @@ pub fn read_line<T: Text>(
 /// Reads line 1.
 fn read_header<T: Text>(text: &mut T, line: &[u8]) -> Result<T::Item, LineFault>
     ensures read { (event : T.Event) → read_first_line T.Word.row_of T.table (T.table.begun text.old line.now)
-        ≡ line_result T.says result text.new event }
+        ≡ line_result T.item_meaning result text.new event }
     ensures so { IfOk result (λ item. T.is_so item text.new) }
     ensures unchanged { OnErr result (text.new ≡ text.old) }
 {
-    if text.begin(line) {
+    if text.start_if_header(line) {
         Ok(T::nothing())
     } else {
         Err(LineFault::NoHeader)
@@ -133,7 +133,7 @@ fn read_header<T: Text>(text: &mut T, line: &[u8]) -> Result<T::Item, LineFault>
 
 /// Reads a line after the first.
 fn read_body<T: Text>(text: &mut T, line: &[u8], event: &mut T::Event) -> Result<T::Item, LineFault>
-    ensures read { texts.read_body T.Word.row_of T.table text.old line.now ≡ line_result T.says result text.new event.new }
+    ensures read { texts.read_body T.Word.row_of T.table text.old line.now ≡ line_result T.item_meaning result text.new event.new }
     ensures so { IfOk result (λ item. T.is_so item text.new) }
     ensures unchanged { OnErr result (text.new ≡ text.old) }
 {
@@ -153,7 +153,7 @@ fn read_words<T: Text>(
     line: &[u8],
     event: &mut T::Event,
 ) -> Result<T::Item, LineFault>
-    ensures read { read_words T.Word.row_of T.table text.old word (words line.now) ≡ line_result T.says result text.new event.new }
+    ensures read { read_words T.Word.row_of T.table text.old word (words line.now) ≡ line_result T.item_meaning result text.new event.new }
     ensures so { IfOk result (λ item. T.is_so item text.new) }
     ensures unchanged { OnErr result (text.new ≡ text.old) }
 {
@@ -175,7 +175,7 @@ fn read_words<T: Text>(
 fn take<T: Text>(text: &mut T, entry: T::Entry) -> Result<T::Item, LineFault>
     requires { T.is_valid entry }
     ensures read { (event : T.Event) → texts.take T.Word.row_of T.table text.old (T.whole entry event)
-        ≡ line_result T.says result text.new event }
+        ≡ line_result T.item_meaning result text.new event }
     ensures so { IfOk result (λ item. T.is_so item text.new) }
     ensures unchanged { OnErr result (text.new ≡ text.old) }
 {

@@ -76,7 +76,7 @@ fn user_named(word: &[u8], kind: &[u8], key: &[u8]) -> Option<User>
 #[tactic(auto, unfolding(crate::specs::UserWords::is_name))]
 fn is_name(word: &[u8]) -> bool
     ensures name { result ≡ is_name word.now }
-    ensures fits { result ≡ true → IsName word.now }
+    ensures valid { result ≡ true → IsName word.now }
 {
     is_visible(word) && is_within(word.len(), 1, MAX_NAME)
 }
@@ -85,7 +85,7 @@ fn is_name(word: &[u8]) -> bool
 #[tactic(auto, unfolding(crate::specs::UserWords::is_key))]
 fn is_key(kind: u8, word: &[u8]) -> bool
     ensures key { result ≡ is_key kind word.now }
-    ensures fits { result ≡ true → IsKey kind word.now }
+    ensures valid { result ≡ true → IsKey kind word.now }
 {
     spells_octets(word) && is_valid_for(kind, word)
 }

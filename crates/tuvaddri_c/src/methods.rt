@@ -39,8 +39,8 @@ fn store_peer(end: &mut End, object: PeerObject, key: Secret)
 #[unsafe(no_mangle)]
 pub extern "C" fn tuv_peer_method_begin(end: &mut TuvEnd, settings: &Settings, nonce: &Nonce) -> u8
     ensures refused { IfSome (peer_refusal (settings_of settings.now)) (λ reason. result ≡ refusal_number reason) }
-    ensures begun { peer_refusal (settings_of settings.now) ≡ None → result ≡ begun }
-    ensures made { result ≡ begun → AsPeerMethod end.new.value.end (λ n key. (key ≡ (credential_of (settings_of settings.now)).psk)
+    ensures started { peer_refusal (settings_of settings.now) ≡ None → result ≡ begun }
+    ensures initial { result ≡ begun → AsPeerMethod end.new.value.end (λ n key. (key ≡ (credential_of (settings_of settings.now)).psk)
         × (peer_object_shown n ≡ peer_fresh (first_kind (settings_of settings.now)) (credential_of (settings_of settings.now)) nonce.now)) }
     ensures sent { result ≡ begun → end.new.value.sent ≡ none_sent }
     ensures unchanged { (result ≡ begun → ⊥) → end.new.value ≡ end.old.value }
@@ -98,7 +98,7 @@ pub extern "C" fn tuv_peer_method_handle(end: &mut TuvEnd, octets: &[u8]) -> Tuv
                     &mut packet,
                     &mut tags,
                 ));
-                session.sent.take(turn.sends, &packet);
+                session.sent.set(turn.sends, &packet);
                 turn
             }
         },
@@ -125,8 +125,8 @@ pub extern "C" fn tuv_server_method_begin(
     id: u8,
 ) -> u8
     ensures refused { IfSome (server_refusal (settings_of settings.now)) (λ reason. result ≡ refusal_number reason) }
-    ensures begun { server_refusal (settings_of settings.now) ≡ None → result ≡ begun }
-    ensures made { result ≡ begun → AsServerMethod end.new.value.end (λ n known. (known.users ≡ users_of (settings_of settings.now))
+    ensures started { server_refusal (settings_of settings.now) ≡ None → result ≡ begun }
+    ensures initial { result ≡ begun → AsServerMethod end.new.value.end (λ n known. (known.users ≡ users_of (settings_of settings.now))
         × (server_first_step (server_fresh (first_kind (settings_of settings.now)) (side_of (settings_of settings.now)) nonce.now) id
         ≡ record { packet = end.new.value.sent.packet; after = server_object_shown n })) }
     ensures sent { result ≡ begun → end.new.value.sent.fresh ≡ true }
@@ -187,7 +187,7 @@ pub extern "C" fn tuv_server_method_handle(
                 let mut tags: Tags<NoRecords> = Tags::new();
                 let turn = object.handle_step(whole, next_id, &known.users, &mut packet, &mut tags);
                 let turn = TuvMethodTurn::of_server(turn);
-                session.sent.take(turn.sends, &packet);
+                session.sent.set(turn.sends, &packet);
                 turn
             }
         },

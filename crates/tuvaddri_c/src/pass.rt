@@ -22,8 +22,8 @@ use pass_through::PassThrough;
 #[unsafe(no_mangle)]
 pub extern "C" fn tuv_pass_begin(end: &mut TuvEnd, first_id: u8, max_retrans: u8) -> u8
     ensures refused { IfSome (retry_refusal max_retrans) (λ reason. result ≡ refusal_number reason) }
-    ensures begun { retry_refusal max_retrans ≡ None → result ≡ begun }
-    ensures made { result ≡ begun → AsPass end.new.value.end (λ n. n ≡ initial_pass first_id max_retrans) }
+    ensures started { retry_refusal max_retrans ≡ None → result ≡ begun }
+    ensures initial { result ≡ begun → AsPass end.new.value.end (λ n. n ≡ initial_pass first_id max_retrans) }
     ensures sent { result ≡ begun → end.new.value.sent ≡ none_sent }
     ensures unchanged { (result ≡ begun → ⊥) → end.new.value ≡ end.old.value }
 {

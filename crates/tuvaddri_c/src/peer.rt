@@ -23,7 +23,7 @@ use peer_machine::PeerMachine;
 use std::alloc::Global;
 
 /// Makes the end this peer. (By itself, since the compiler then builds it where it stays.)
-fn hold(end: &mut End, machine: PeerMachine<PeerObject>)
+fn store_machine(end: &mut End, machine: PeerMachine<PeerObject>)
     ensures { end.new ≡ ends.Peer machine }
 {
     *end = End::Peer(machine);
@@ -40,8 +40,8 @@ pub extern "C" fn tuv_peer_begin(
     nonce: &Nonce,
 ) -> u8
     ensures refused { IfSome (peer_refusal (settings_of settings.now)) (λ reason. result ≡ refusal_number reason) }
-    ensures begun { peer_refusal (settings_of settings.now) ≡ None → (result ≡ no_memory → ⊥) → result ≡ begun }
-    ensures made { result ≡ begun → AsPeer end.new.value.end (λ n.
+    ensures started { peer_refusal (settings_of settings.now) ≡ None → (result ≡ no_memory → ⊥) → result ≡ begun }
+    ensures initial { result ≡ begun → AsPeer end.new.value.end (λ n.
         peer.now_of peer_object_shown n ≡ initial_peer (peer_setup_of (settings_of settings.now) nonce.now)) }
     ensures objects { result ≡ begun → can_restart end.new.value.end ≡ true }
     ensures sent { result ≡ begun → end.new.value.sent ≡ none_sent }
@@ -56,7 +56,7 @@ pub extern "C" fn tuv_peer_begin(
     };
     let setup = peer_setup(settings, nonce);
     let session = end.session();
-    hold(&mut session.end, PeerMachine::new(setup, methods));
+    store_machine(&mut session.end, PeerMachine::new(setup, methods));
     session.sent.clear();
     STARTED
 }

@@ -45,7 +45,7 @@ pub struct TuvReport {
 #[unsafe(no_mangle)]
 pub extern "C" fn tuv_end_report(end: &mut TuvEnd, report: &mut TuvReport) -> bool
     ensures same { end.new.value ≡ end.old.value }
-    ensures held { report.old.size ≡ report_size → IfSome (end_stored end.old.value.end) (λ held. IsTrue result × IsReport held report.old report.new) }
+    ensures stored { report.old.size ≡ report_size → IfSome (end_stored end.old.value.end) (λ held. IsTrue result × IsReport held report.old report.new) }
     ensures none { end_stored end.old.value.end ≡ None → (IsTrue result → ⊥) × (report.new ≡ report.old) }
     ensures other_size { (report.old.size ≡ report_size → ⊥) → (IsTrue result → ⊥) × (report.new ≡ report.old) }
 {
@@ -58,7 +58,7 @@ pub extern "C" fn tuv_end_report(end: &mut TuvEnd, report: &mut TuvReport) -> bo
 
 /// Writes what the object has. (By its kind, so that no report is copied.)
 fn write_object(object: Object, report: &mut TuvReport) -> bool
-    ensures held { IfSome (object_stored object.entry) (λ held. IsTrue result × IsReport held report.old report.new) }
+    ensures stored { IfSome (object_stored object.entry) (λ held. IsTrue result × IsReport held report.old report.new) }
     ensures none { object_stored object.entry ≡ None → (IsTrue result → ⊥) × (report.new ≡ report.old) }
 {
     match object {
@@ -69,7 +69,7 @@ fn write_object(object: Object, report: &mut TuvReport) -> bool
 }
 
 fn write_end_report(held: &Option<Report>, nonces: &Option<Nonces>, report: &mut TuvReport) -> bool
-    ensures held { IfSome (both held.now nonces.now) (λ held. IsTrue result × IsReport held report.old report.new) }
+    ensures stored { IfSome (both held.now nonces.now) (λ held. IsTrue result × IsReport held report.old report.new) }
     ensures none { both held.now nonces.now ≡ None → (IsTrue result → ⊥) × (report.new ≡ report.old) }
 {
     match held {

@@ -30,7 +30,7 @@ use std::alloc::Global;
 
 /// Makes the end a stand-alone server with these settings. (It is built where it stays, and nothing of it is copied.)
 #[tactic(auto, using(crate::proofs::TwoRecords::server_started_with, crate::proofs::TwoRecords::server_preserved), unfolding(end_objects::specs::Settings::server_setup_of))]
-fn hold(
+fn store_machine(
     end: &mut End,
     settings: &Settings,
     nonce: &Nonce,
@@ -38,11 +38,11 @@ fn hold(
     max_retrans: u8,
     methods: Vec<ServerObject>,
 )
-    requires taken { server_refusal (settings_of settings.now) ≡ None }
+    requires accepted { server_refusal (settings_of settings.now) ≡ None }
     requires other { IsSoundOther (settings_of settings.now) }
     requires few { max_retrans ≤ 10 }
     requires objects { have_each (server_kinds (map server_object_shown methods.items)) (kinds_of (settings_of settings.now)) ≡ true }
-    ensures made { AsServer end.new (λ n. server.now_of server_object_shown n
+    ensures initial { AsServer end.new (λ n. server.now_of server_object_shown n
         ≡ initial_server StandAlone (server_setup_of (settings_of settings.now) nonce.now) first_id max_retrans) }
     ensures objects { can_restart end.new ≡ true }
 {
@@ -75,8 +75,8 @@ pub extern "C" fn tuv_server_begin(
     max_retrans: u8,
 ) -> u8
     ensures refused { IfSome (stand_alone_refusal (settings_of settings.now) max_retrans) (λ reason. result ≡ refusal_number reason) }
-    ensures begun { stand_alone_refusal (settings_of settings.now) max_retrans ≡ None → (result ≡ no_memory → ⊥) → result ≡ begun }
-    ensures made { result ≡ begun → AsServer end.new.value.end (λ n. server.now_of server_object_shown n
+    ensures started { stand_alone_refusal (settings_of settings.now) max_retrans ≡ None → (result ≡ no_memory → ⊥) → result ≡ begun }
+    ensures initial { result ≡ begun → AsServer end.new.value.end (λ n. server.now_of server_object_shown n
         ≡ initial_server StandAlone (server_setup_of (settings_of settings.now) nonce.now) first_id max_retrans) }
     ensures objects { result ≡ begun → can_restart end.new.value.end ≡ true }
     ensures sent { result ≡ begun → end.new.value.sent ≡ none_sent }
@@ -91,7 +91,7 @@ pub extern "C" fn tuv_server_begin(
     };
     let session = end.session();
     let end = &mut session.end;
-    hold(end, settings, nonce, first_id, max_retrans, methods);
+    store_machine(end, settings, nonce, first_id, max_retrans, methods);
     session.sent.clear();
     STARTED
 }
@@ -99,10 +99,10 @@ pub extern "C" fn tuv_server_begin(
 /// Makes the end a backend with these settings, likewise.
 #[tactic(auto, using(crate::proofs::TwoRecords::server_started_with, crate::proofs::TwoRecords::server_preserved), unfolding(end_objects::specs::Settings::server_setup_of))]
 fn store_backend(end: &mut End, settings: &Settings, nonce: &Nonce, methods: Vec<ServerObject>)
-    requires taken { server_refusal (settings_of settings.now) ≡ None }
+    requires accepted { server_refusal (settings_of settings.now) ≡ None }
     requires other { IsSoundOther (settings_of settings.now) }
     requires objects { have_each (server_kinds (map server_object_shown methods.items)) (kinds_of (settings_of settings.now)) ≡ true }
-    ensures made { AsBackend end.new (λ n. server.now_of server_object_shown n ≡ initial_backend (server_setup_of (settings_of settings.now) nonce.now)) }
+    ensures initial { AsBackend end.new (λ n. server.now_of server_object_shown n ≡ initial_backend (server_setup_of (settings_of settings.now) nonce.now)) }
     ensures objects { can_restart end.new ≡ true }
 {
     *end = End::Backend(Backend::unbegun(server_alone(settings, nonce), methods));
@@ -124,8 +124,8 @@ pub extern "C" fn tuv_backend_begin(
     nonce: &Nonce,
 ) -> u8
     ensures refused { IfSome (server_refusal (settings_of settings.now)) (λ reason. result ≡ refusal_number reason) }
-    ensures begun { server_refusal (settings_of settings.now) ≡ None → (result ≡ no_memory → ⊥) → result ≡ begun }
-    ensures made { result ≡ begun → AsBackend end.new.value.end (λ n. server.now_of server_object_shown n
+    ensures started { server_refusal (settings_of settings.now) ≡ None → (result ≡ no_memory → ⊥) → result ≡ begun }
+    ensures initial { result ≡ begun → AsBackend end.new.value.end (λ n. server.now_of server_object_shown n
         ≡ initial_backend (server_setup_of (settings_of settings.now) nonce.now)) }
     ensures objects { result ≡ begun → can_restart end.new.value.end ≡ true }
     ensures sent { result ≡ begun → end.new.value.sent ≡ none_sent }

@@ -75,7 +75,7 @@ impl Sent {
     }
 
     /// A turn sends this packet, or nothing.
-    pub fn take(&mut self, sends: bool, packet: &Packet)
+    pub fn set(&mut self, sends: bool, packet: &Packet)
         ensures { self.new ≡ after_turn (if sends then Some packet.now else None) self.old }
     {
         self.fresh = sends;

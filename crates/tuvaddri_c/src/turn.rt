@@ -46,7 +46,7 @@ impl TuvTurn {
         ensures turn { result ≡ turn_of step.now state }
         ensures sent { sent.new ≡ after_turn (if step.now.sends then Some packet.now else None) sent.old }
     {
-        sent.take(step.sends, packet);
+        sent.set(step.sends, packet);
         match step.cause {
             None => TuvTurn {
                 sends: step.sends,

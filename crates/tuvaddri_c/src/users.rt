@@ -31,7 +31,7 @@ pub trait HasUsers {
 
     /// It knows this user too.
     fn add(&mut self, user: User)
-        requires room { HasCapacity (seen self.old).vars.setup.users user }
+        requires capacity { HasCapacity (seen self.old).vars.setup.users user }
         requires kind { is_kind user.kind ≡ true }
         requires key { is_valid_for user.kind user.psk ≡ true }
         ensures { seen self.new ≡ with_users (seen self.old) ((seen self.old).vars.setup.users ++ user ∷ []) };
@@ -61,7 +61,7 @@ impl HasUsers for Backend<ServerObject> {
 #[unsafe(no_mangle)]
 pub extern "C" fn tuv_server_user(end: &mut TuvEnd, settings: &Settings) -> u8
     ensures refused { IfSome (user_refusal (settings_of settings.now)) (λ reason. result ≡ refusal_number reason) }
-    ensures taken { user_refusal (settings_of settings.now) ≡ None → result ≡ (if has_users end.old.value.end then begun else no_place) }
+    ensures accepted { user_refusal (settings_of settings.now) ≡ None → result ≡ (if has_users end.old.value.end then begun else no_place) }
     ensures server { result ≡ begun → IfServer end.old.value.end (λ m. AsServer end.new.value.end (λ n.
         n ≡ with_users m (users_of (settings_of settings.now)))) }
     ensures backend { result ≡ begun → IfBackend end.old.value.end (λ m. AsBackend end.new.value.end (λ n.

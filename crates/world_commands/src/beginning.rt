@@ -19,7 +19,7 @@ pub fn world_of<P: PeerMethod, S: ServerMethod>(
 ) -> World<P, S>
     requires valid { IsValidSetup setup }
     requires both { HasBoth P.peer_shown S.server_shown methods }
-    ensures made { now_of P.peer_shown S.server_shown result ≡ initial_world setup }
+    ensures initial { now_of P.peer_shown S.server_shown result ≡ initial_world setup }
     ensures objects { HasObjects P.peer_shown S.server_shown result }
 {
     World::new(alloc, setup, methods)

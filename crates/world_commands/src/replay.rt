@@ -149,16 +149,16 @@ impl<P: PeerMethod, S: ServerMethod> Command for Replay<P, S> {
 
     ghost seen = { seen_of P.peer_shown S.server_shown };
 
-    ghost took = { replay_step };
+    ghost line_result = { replay_step };
 
     ghost closing = { replay_closing };
 
     ghost lacks = { replay_lacks };
 
-    ghost holds = { IsReady P.peer_shown S.server_shown };
+    ghost is_valid_after = { IsReady P.peer_shown S.server_shown };
 
     #[tactic(auto, unfolding(crate::specs::Replay::replay_step, crate::specs::Replay::replay_lacks))]
-    fn take<W: Sink>(&mut self, sink: &mut W, line: &[u8]) -> Result<Next, Trouble> {
+    fn handle_line<W: Sink>(&mut self, sink: &mut W, line: &[u8]) -> Result<Next, Trouble> {
         let mut event = Event::Idle;
         match self.reader.line_into(line, &mut event) {
             Ok(ItemKind::Nothing) => Ok(Next::Proceed),

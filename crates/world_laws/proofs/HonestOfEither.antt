@@ -6,7 +6,7 @@ use Rattle.std.proofs.lemmas.Bool.{and_parts, and_from, or_cases, or_left, or_ri
 use Rattle.world_laws.specs.Agreement.{HonestOfEither}
 use Rattle.tag_book.specs.Book.{same_end, same_tag, is_accepted, vouches, is_honest, first_broken, verdict_on}
 use Rattle.tag_book.specs.declared.book.Entry.{Entry}
-use Rattle.tag_book.specs.declared.book.MadeBy.TheVariants.{Other, Either}
+use Rattle.tag_book.specs.declared.book.RecordOwner.TheVariants.{Other, Either}
 use Rattle.tag_book.specs.declared.book.TagsVerdict.TheVariants.{Honest}
 use Rattle.tag_book.proofs.FirstBroken.{passed}
 use Rattle.world_laws.proofs.TagsOfEnds.{unbroken}

@@ -9,7 +9,7 @@ use Rattle.tag_book.specs.declared.book.End.{End}
 use Rattle.tag_book.specs.declared.book.End.TheVariants.{Peer, Server}
 use Rattle.tag_book.specs.declared.book.Use.TheVariants.{Accepted, Made}
 use Rattle.tag_book.specs.declared.book.Entry.{Entry}
-use Rattle.tag_book.specs.declared.book.MadeBy.TheVariants.{Other}
+use Rattle.tag_book.specs.declared.book.RecordOwner.TheVariants.{Other}
 use Rattle.world_laws.specs.Records.{same_use, tags_by, IsIn}
 use Rattle.world_laws.proofs.TagsOfEnds.{by_test_in, honest_vouched, in_if, is_in_front, not_true, other_end, skip_if, tags_append, tags_equal, unbroken, use_accepted, use_is}
 

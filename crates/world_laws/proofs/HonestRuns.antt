@@ -5,7 +5,7 @@ use Rattle.std.specs.Prelude.{if◌then◌else◌, ◌&&◌}
 use Rattle.login_setup.specs.declared.event.Event.{Event}
 use Rattle.login_setup.specs.declared.setup.Setup.{Setup}
 use Rattle.tag_book.specs.Book.{first_broken, tags_verdict, tags_verdict_either}
-use Rattle.tag_book.specs.declared.book.MadeBy.TheVariants.{Either}
+use Rattle.tag_book.specs.declared.book.RecordOwner.TheVariants.{Either}
 use Rattle.tag_book.specs.declared.book.TagsVerdict.TheVariants.{Honest}
 use Rattle.eap_world.specs.Judgement.{verdict_of, is_success}
 use Rattle.eap_world.specs.declared.verdict.Verdict.{Verdict}

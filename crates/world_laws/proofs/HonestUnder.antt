@@ -7,8 +7,8 @@ use Rattle.std.proofs.lemmas.Bool.{and_parts, or_cases, or_left, or_right}
 use Rattle.std.proofs.lemmas.Slice.Eq.{bytes_eq-Decides}
 use Rattle.tag_book.specs.Book.{first_broken, is_accepted, is_honest, may_make, same_label, verdict_on, vouches}
 use Rattle.tag_book.specs.declared.book.Entry.{Entry}
-use Rattle.tag_book.specs.declared.book.MadeBy.{MadeBy}
-use Rattle.tag_book.specs.declared.book.MadeBy.TheVariants.{Either, Other}
+use Rattle.tag_book.specs.declared.book.RecordOwner.{RecordOwner}
+use Rattle.tag_book.specs.declared.book.RecordOwner.TheVariants.{Either, Other}
 use Rattle.tag_book.proofs.FirstBroken.{passed}
 use Rattle.world_laws.specs.UnderKey.{HonestUnder, under}
 use Rattle.world_laws.proofs.HonestOfEither.{none_if_honest}
@@ -16,7 +16,7 @@ use Rattle.world_laws.proofs.TagsOfEnds.{unbroken}
 
 module _ (key : List ℕ) where
   -- a tag that vouches is under the same key
-  same_key : (makers : MadeBy) (e x : Entry) → vouches makers e x ≡ true → x.tag.psk ≡ e.tag.psk
+  same_key : (makers : RecordOwner) (e x : Entry) → vouches makers e x ≡ true → x.tag.psk ≡ e.tag.psk
   same_key makers e x v =
       let a = and_parts (not (is_accepted x)) _ v in
       let b = and_parts (may_make makers x.end e.end) _ a.1 in
@@ -32,7 +32,7 @@ module _ (key : List ℕ) where
   later_in f true x more is = or_right (f x) (list_any f more) is
   later_in f false x more is = is
 
-  some_under : (makers : MadeBy) (e : Entry) → bytes_eq e.tag.psk key ≡ true → (earlier : List Entry) → list_any (vouches makers e) earlier ≡ true
+  some_under : (makers : RecordOwner) (e : Entry) → bytes_eq e.tag.psk key ≡ true → (earlier : List Entry) → list_any (vouches makers e) earlier ≡ true
       → list_any (vouches makers e) (under key earlier) ≡ true
   unfolding under
   some_under makers e its [] v = cc
@@ -47,7 +47,7 @@ module _ (key : List ℕ) where
   by_use true one other more h = more h
   by_use false one other more h = refl
 
-  honest_under : (makers : MadeBy) (e : Entry) → bytes_eq e.tag.psk key ≡ true → (earlier : List Entry) → is_honest makers earlier e ≡ true
+  honest_under : (makers : RecordOwner) (e : Entry) → bytes_eq e.tag.psk key ≡ true → (earlier : List Entry) → is_honest makers earlier e ≡ true
       → is_honest makers (under key earlier) e ≡ true
   honest_under makers e its earlier h =
       by_use (is_accepted e) (list_any (vouches makers e) earlier) (list_any (vouches makers e) (under key earlier)) (some_under makers e its earlier) h
@@ -74,7 +74,7 @@ module _ (key : List ℕ) where
   nothing_more [] = refl
   nothing_more (x ∷ rest) = ap (λ (l : List Entry). x ∷ l) (nothing_more rest)
 
-  unbroken_under : (makers : MadeBy) (earlier rest : List Entry) → first_broken makers earlier rest ≡ None
+  unbroken_under : (makers : RecordOwner) (earlier rest : List Entry) → first_broken makers earlier rest ≡ None
       → first_broken makers (under key earlier) (under key rest) ≡ None
   unfolding first_broken under
   unbroken_under makers earlier [] none = refl

@@ -3,7 +3,7 @@ use Rattle.std.proofs.Common.{◌≡◌, List, [], length, true, inl, inr}
 use Rattle.login_setup.specs.declared.setup.Setup.{Setup}
 use Rattle.login_setup.specs.declared.event.Event.{Event}
 use Rattle.tag_book.specs.Book.{first_broken, tags_verdict, tags_verdict_either}
-use Rattle.tag_book.specs.declared.book.MadeBy.TheVariants.{Either}
+use Rattle.tag_book.specs.declared.book.RecordOwner.TheVariants.{Either}
 use Rattle.tag_book.specs.declared.book.TagsVerdict.TheVariants.{Honest}
 use Rattle.eap_world.specs.Judgement.{is_success}
 use Rattle.tag_book.specs.declared.book.End.TheVariants as end

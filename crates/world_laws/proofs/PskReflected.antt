@@ -40,7 +40,7 @@ use Rattle.world_laws.proofs.SucceedingEnds.{PeerSucceeds, one_of, with_psk, wit
 use Rattle.world_laws.proofs.TagsOfEnds.{honest_tags}
 use Rattle.eap_world.specs.World.{WorldNow}
 use Rattle.tag_book.specs.declared.book.End.TheVariants as end
-use Rattle.tag_book.specs.declared.book.MadeBy.TheVariants.{Either}
+use Rattle.tag_book.specs.declared.book.RecordOwner.TheVariants.{Either}
 use Rattle.tag_book.specs.declared.book.TagsVerdict.TheVariants.{Honest}
 use Rattle.tag_book.specs.declared.book.Use.TheVariants.{Made}
 

@@ -7,7 +7,7 @@ use Rattle.world_laws.specs.Records.{IsIn, tags_by}
 use Rattle.world_laws.specs.TagOwners.{NotByServer, ServerTagOwner}
 use Rattle.eap_world.specs.World.{WorldNow}
 use Rattle.tag_book.specs.declared.book.End.TheVariants as end
-use Rattle.tag_book.specs.declared.book.MadeBy.TheVariants.{Either}
+use Rattle.tag_book.specs.declared.book.RecordOwner.TheVariants.{Either}
 use Rattle.tag_book.specs.declared.book.TagsVerdict.TheVariants.{Honest}
 use Rattle.tag_book.specs.declared.book.Use.TheVariants.{Accepted, Made}
 use Rattle.world_laws.proofs.Conversing.{BothConverse}

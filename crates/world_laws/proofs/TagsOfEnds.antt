@@ -15,8 +15,8 @@ use Rattle.tag_book.specs.declared.book.End.TheVariants.{Peer, Server}
 use Rattle.tag_book.specs.declared.book.Use.{Use}
 use Rattle.tag_book.specs.declared.book.Use.TheVariants.{Accepted, Made}
 use Rattle.tag_book.specs.declared.book.Entry.{Entry}
-use Rattle.tag_book.specs.declared.book.MadeBy.{MadeBy}
-use Rattle.tag_book.specs.declared.book.MadeBy.TheVariants.{Either}
+use Rattle.tag_book.specs.declared.book.RecordOwner.{RecordOwner}
+use Rattle.tag_book.specs.declared.book.RecordOwner.TheVariants.{Either}
 use Rattle.world_laws.specs.Records.{same_use, tags_by, IsIn, here, later, AreInEither}
 
 -- ---- the lists of a longer book
@@ -204,21 +204,21 @@ test_true true x is e = e
 test_true false x is e = cc
 
 -- an honest accepted entry is vouched for
-pub honest_vouched : (makers : MadeBy) (e : Entry) (earlier : List Entry) → is_accepted e ≡ true → is_honest makers earlier e ≡ true
+pub honest_vouched : (makers : RecordOwner) (e : Entry) (earlier : List Entry) → is_accepted e ≡ true → is_honest makers earlier e ≡ true
     → list_any (vouches makers e) earlier ≡ true
 honest_vouched makers e earlier is honest = test_true (is_accepted e) (list_any (vouches makers e) earlier) is honest
 
 -- the first entry is honest, and the rest is where it stands behind it
-pub record Unbroken (makers : MadeBy) (earlier : List Entry) (e : Entry) (rest : List Entry) : Type 0 where
+pub record Unbroken (makers : RecordOwner) (earlier : List Entry) (e : Entry) (rest : List Entry) : Type 0 where
   pub honest : is_honest makers earlier e ≡ true
   pub behind : first_broken makers (earlier ++ e ∷ []) rest ≡ None
 
-unbroken_by : (makers : MadeBy) (b : Bool) (earlier : List Entry) (e : Entry) (rest : List Entry) → is_honest makers earlier e ≡ b
+unbroken_by : (makers : RecordOwner) (b : Bool) (earlier : List Entry) (e : Entry) (rest : List Entry) → is_honest makers earlier e ≡ b
     → (if b then first_broken makers (earlier ++ e ∷ []) rest else Some e.event) ≡ None → Unbroken makers earlier e rest
 unbroken_by makers true earlier e rest is none = record { honest = is; behind = none }
 unbroken_by makers false earlier e rest is none = cc
 
-pub unbroken : (makers : MadeBy) (earlier : List Entry) (e : Entry) (rest : List Entry) → first_broken makers earlier (e ∷ rest) ≡ None
+pub unbroken : (makers : RecordOwner) (earlier : List Entry) (e : Entry) (rest : List Entry) → first_broken makers earlier (e ∷ rest) ≡ None
     → Unbroken makers earlier e rest
 unfolding first_broken
 unbroken makers earlier e rest none = unbroken_by makers (is_honest makers earlier e) earlier e rest refl none

@@ -23,7 +23,7 @@ use Rattle.tag_book.specs.Book.{first_broken, same_end, tags_verdict, tags_verdi
 use Rattle.tag_book.specs.declared.book.End.{End}
 use Rattle.tag_book.specs.declared.book.End.TheVariants as end
 use Rattle.tag_book.specs.declared.book.Entry.{Entry}
-use Rattle.tag_book.specs.declared.book.MadeBy.TheVariants.{Either, Other}
+use Rattle.tag_book.specs.declared.book.RecordOwner.TheVariants.{Either, Other}
 use Rattle.tag_book.specs.declared.book.TagsVerdict.TheVariants.{Honest}
 use Rattle.tag_book.specs.declared.book.Use.{Use}
 use Rattle.tag_book.specs.declared.book.Use.TheVariants.{Accepted, Made}

@@ -147,7 +147,7 @@ pub fn freshness_is_exact()
 /// they are, altered or cut by the event that brings them, or are injected there.
 pub fn pass_is_alone()
     ensures alone { PassIsAlone }
-    ensures handed { PassIsDelivered }
+    ensures delivers { PassIsDelivered }
 {}
 
 /// The pass-through learns nothing that isn't delivered to it: two runs in mode through in which the same came to it

@@ -43,7 +43,7 @@ pub fn fresh_reads<'a>(own: &Initial, body: &'a [u8]) -> Result<Offer<'a>, Cause
     match receive(body, None) {
         Err(cause) => Err(cause),
         Ok(GpskMessage::M1(gpsk1)) => {
-            if own.cred.accepts.takes(gpsk1.id_s) {
+            if own.cred.accepts.allows(gpsk1.id_s) {
                 pick(own, &gpsk1)
             } else {
                 Err(Cause::UnknownServer)

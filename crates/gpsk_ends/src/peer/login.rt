@@ -120,11 +120,11 @@ impl Login {
         packet: &mut Packet,
         made: &mut TagList<R>,
     )
-        requires fits { size_of (message_of view.now) + 5 ≤ 1493 }
+        requires bounded { size_of (message_of view.now) + 5 ≤ 1493 }
         requires mac { length (mac_of (message_of view.now)) ≡ ks_of self.now.suite }
         ensures packet { packet.new ≡ packet_of code.Response id self.now.suite (keys_of self.now).sk (without_mac (message_of view.now)) }
         ensures record { made.new ≡ record_of self.now.suite (keys_of self.now).sk self.now.cred.psk (without_mac (message_of view.now)) ∷ [] }
-        ensures room { HasCapacity packet.new }
+        ensures capacity { HasCapacity packet.new }
     {
         let psk = &self.own.cred.psk;
         self.keys.seal(view, Code::Response, id, psk, packet, made);
@@ -136,7 +136,7 @@ impl Login {
         requires { length list.now ≤ 120 }
         ensures packet { packet.new ≡ gpsk_response id (gpsk2_of self.now list.now) }
         ensures record { made.new ≡ sk_record self.now.cred.psk (gpsk2_of self.now list.now) ∷ [] }
-        ensures room { HasCapacity packet.new }
+        ensures capacity { HasCapacity packet.new }
     {
         let suite = self.keys.suite();
         let open = GpskMessage::M2(Gpsk2 {
@@ -156,7 +156,7 @@ impl Login {
     pub fn gpsk4<R: Records>(&self, id: u8, packet: &mut Packet, made: &mut TagList<R>)
         ensures packet { packet.new ≡ gpsk_response id (gpsk4_of self.now) }
         ensures record { made.new ≡ sk_record self.now.cred.psk (gpsk4_of self.now) ∷ [] }
-        ensures room { HasCapacity packet.new }
+        ensures capacity { HasCapacity packet.new }
     {
         let open = GpskMessage::M4(Gpsk4 {
             pd: &[],
@@ -175,7 +175,7 @@ impl Login {
     )
         ensures packet { packet.new ≡ gpsk_response id (protected_fail_of self.now code) }
         ensures record { made.new ≡ sk_record self.now.cred.psk (protected_fail_of self.now code) ∷ [] }
-        ensures room { HasCapacity packet.new }
+        ensures capacity { HasCapacity packet.new }
     {
         let open = GpskMessage::ProtectedFail {
             code,

@@ -38,7 +38,7 @@ fn answer<R: Records>(
 ) -> PeerAnswer
     requires { length list.now ≤ 120 }
     ensures turn { outcome_with result packet.new tags.new (view_in login.now Wait) ≡ answers login.now id list.now }
-    ensures room { HasCapacity packet.new }
+    ensures capacity { HasCapacity packet.new }
 {
     tags.accepted.clear();
     login.gpsk2(id, list, packet, &mut tags.made);
@@ -60,11 +60,11 @@ fn confirm<R: Records>(
     packet: &mut Packet,
     tags: &mut Tags<R>,
 ) -> PeerAnswer
-    requires heard { IsReceived (message_of view.now) body.now }
+    requires received { IsReceived (message_of view.now) body.now }
     requires waits { phase.old ≡ Wait }
     ensures turn { outcome_with result packet.new tags.new (view_in login.now phase.new)
         ≡ confirms login.now id (message_of view.now) (fault_if (not (is_tagged_by login.now (message_of view.now))) BadTag None) }
-    ensures room { replies result ≡ true → HasCapacity packet.new }
+    ensures capacity { replies result ≡ true → HasCapacity packet.new }
 {
     if !login.is_tagged(view, body) {
         return PeerAnswer::Discard(Cause::BadTag);
@@ -88,7 +88,7 @@ fn repeat_fail<R: Records>(
     tags: &mut Tags<R>,
 ) -> PeerAnswer
     ensures turn { outcome_with result packet.new tags.new (view_in login.now phase.new) ≡ repeats_fail login.now id code }
-    ensures room { HasCapacity packet.new }
+    ensures capacity { HasCapacity packet.new }
 {
     write_gpsk_into(packet, &GpskMessage::Fail { code }, Code::Response, id);
     tags.clear();
@@ -112,11 +112,11 @@ fn repeat_protected<R: Records>(
     packet: &mut Packet,
     tags: &mut Tags<R>,
 ) -> PeerAnswer
-    requires heard { IsReceived (message_of view.now) body.now }
+    requires received { IsReceived (message_of view.now) body.now }
     requires waits { phase.old ≡ Wait }
     ensures turn { outcome_with result packet.new tags.new (view_in login.now phase.new)
         ≡ repeats_protected login.now id code (message_of view.now) (fault_if (not (is_tagged_by login.now (message_of view.now))) BadTag None) }
-    ensures room { replies result ≡ true → HasCapacity packet.new }
+    ensures capacity { replies result ≡ true → HasCapacity packet.new }
 {
     if !login.is_tagged(view, body) {
         return PeerAnswer::Discard(Cause::BadTag);
@@ -145,7 +145,7 @@ fn wait_reads<R: Records>(
     requires waits { phase.old ≡ Wait }
     ensures turn { outcome_with result packet.new tags.new (view_in login.now phase.new)
         ≡ wait_reads login.now id (read_of (Some (ks_of login.now.suite)) body.now) }
-    ensures room { replies result ≡ true → HasCapacity packet.new }
+    ensures capacity { replies result ≡ true → HasCapacity packet.new }
 {
     match receive(body, Some(login.suite())) {
         Err(cause) => PeerAnswer::Discard(cause),
@@ -188,7 +188,7 @@ pub fn handle_request<R: Records>(
     requires header { 5 ≤ length request.now }
     requires size { length request.now ≤ max_packet }
     ensures turn { outcome_with result packet.new tags.new (view_of stage.new) ≡ step (view_of stage.old) request.now }
-    ensures room { replies result ≡ true → HasCapacity packet.new }
+    ensures capacity { replies result ≡ true → HasCapacity packet.new }
 {
     let id = request[1];
     let body = &request[5..];

@@ -31,7 +31,7 @@ pub const PSK_NOT_FOUND: u32 = 1;
 fn refuse<R: Records>(next_id: u8, packet: &mut Packet, tags: &mut Tags<R>)
     ensures turn { (own : ServerSide) (nonce : List ℕ) →
         outcome_with Request packet.new tags.new (refusing own nonce) ≡ refuses own nonce next_id }
-    ensures room { HasCapacity packet.new }
+    ensures capacity { HasCapacity packet.new }
 {
     let message = GpskMessage::Fail {
         code: PSK_NOT_FOUND,
@@ -53,7 +53,7 @@ fn answer<R: Records>(
 ) -> Phase
     requires { IsReceived (message_of view.now) body.now }
     ensures turn { outcome_with Request packet.new tags.new (view_in login.now result) ≡ answers login.now barred next_id (message_of view.now) }
-    ensures room { HasCapacity packet.new }
+    ensures capacity { HasCapacity packet.new }
 {
     login.accept(view, body, &mut tags.accepted);
     if barred {
@@ -87,11 +87,11 @@ fn asked_receives<R: Records>(
     packet: &mut Packet,
     tags: &mut Tags<R>,
 ) -> ServerAnswer
-    requires heard { IsReceived (message_of view.now) body.now }
+    requires received { IsReceived (message_of view.now) body.now }
     requires keys { All (λ user. IsTrue (is_valid_for user.kind user.psk)) users.now }
     ensures turn { (own : ServerSide) (nonce : List ℕ) → view_of stage.old ≡ asked own nonce
         → outcome_with result packet.new tags.new (view_of stage.new) ≡ asked_receives users.now own nonce next_id (message_of view.now) }
-    ensures room { requests result ≡ true → HasCapacity packet.new }
+    ensures capacity { requests result ≡ true → HasCapacity packet.new }
 {
     let Stage::Alone { own, phase } = stage else {
         return ServerAnswer::Discard(Cause::WrongOp);
@@ -132,7 +132,7 @@ pub fn asked_reads<R: Records>(
     requires keys { All (λ user. IsTrue (is_valid_for user.kind user.psk)) users.now }
     ensures turn { (own : ServerSide) (nonce : List ℕ) → view_of stage.old ≡ asked own nonce
         → outcome_with result packet.new tags.new (view_of stage.new) ≡ asked_reads users.now own nonce next_id (read_of None body.now) }
-    ensures room { requests result ≡ true → HasCapacity packet.new }
+    ensures capacity { requests result ≡ true → HasCapacity packet.new }
 {
     match receive(body, None) {
         Err(cause) => ServerAnswer::Discard(cause),

@@ -53,7 +53,7 @@ impl Initial {
     #[tactic(auto, unfolding(eap_method::specs::GpskServer::first))]
     pub fn gpsk1(&self, id: u8, packet: &mut Packet)
         ensures first { packet.new ≡ first self.now.side self.now.nonce id }
-        ensures room { HasCapacity packet.new }
+        ensures capacity { HasCapacity packet.new }
     {
         let list = self.suite_list();
         let message = GpskMessage::M1(Gpsk1 {
@@ -175,11 +175,11 @@ impl Login {
         packet: &mut Packet,
         made: &mut TagList<R>,
     )
-        requires fits { size_of (message_of view.now) + 5 ≤ 1493 }
+        requires bounded { size_of (message_of view.now) + 5 ≤ 1493 }
         requires mac { length (mac_of (message_of view.now)) ≡ ks_of self.now.suite }
         ensures packet { packet.new ≡ packet_of code.Request id self.now.suite (keys_of self.now).sk (without_mac (message_of view.now)) }
         ensures record { made.new ≡ record_of self.now.suite (keys_of self.now).sk self.now.psk (without_mac (message_of view.now)) ∷ [] }
-        ensures room { HasCapacity packet.new }
+        ensures capacity { HasCapacity packet.new }
     {
         self.keys
             .seal(view, Code::Request, id, &self.psk, packet, made);
@@ -189,7 +189,7 @@ impl Login {
     pub fn gpsk3<R: Records>(&self, id: u8, packet: &mut Packet, made: &mut TagList<R>)
         ensures packet { packet.new ≡ gpsk_request id (gpsk3_of self.now) }
         ensures record { made.new ≡ sk_record self.now.psk (gpsk3_of self.now) ∷ [] }
-        ensures room { HasCapacity packet.new }
+        ensures capacity { HasCapacity packet.new }
     {
         let suite = self.keys.suite();
         let open = GpskMessage::M3(Gpsk3 {
@@ -207,7 +207,7 @@ impl Login {
     pub fn protected_fail<R: Records>(&self, id: u8, packet: &mut Packet, made: &mut TagList<R>)
         ensures packet { packet.new ≡ gpsk_request id (bars_with self.now) }
         ensures record { made.new ≡ sk_record self.now.psk (bars_with self.now) ∷ [] }
-        ensures room { HasCapacity packet.new }
+        ensures capacity { HasCapacity packet.new }
     {
         let open = GpskMessage::ProtectedFail {
             code: AUTHORIZATION_FAILURE,

@@ -32,7 +32,7 @@ use octet_lists::{Packet, Suite};
 #[tactic(auto, unfolding(eap_method::specs::GpskServer::first_step))]
 pub fn ask(stage: &mut Stage, id: u8, packet: &mut Packet)
     ensures first { first_step (view_of stage.old) id ≡ record { packet = packet.new; after = view_of stage.new } }
-    ensures room { is_initiated (view_of stage.old) ≡ true → HasCapacity packet.new }
+    ensures capacity { is_initiated (view_of stage.old) ≡ true → HasCapacity packet.new }
 {
     match stage {
         Stage::Alone { own, phase } => match phase {
@@ -193,7 +193,7 @@ pub fn handle_response<R: Records>(
     requires size { length response.now ≤ max_packet }
     requires keys { All (λ user. IsTrue (is_valid_for user.kind user.psk)) users.now }
     ensures turn { outcome_with result packet.new tags.new (view_of stage.new) ≡ step users.now next_id (view_of stage.old) response.now }
-    ensures room { requests result ≡ true → HasCapacity packet.new }
+    ensures capacity { requests result ≡ true → HasCapacity packet.new }
 {
     let body = &response[5..];
     match stage {

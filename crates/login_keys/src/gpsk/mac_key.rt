@@ -69,7 +69,7 @@ fn hmac_tag(key: &HmacKey, front: &[u8], pieces: &[&[u8]]) -> [u8; 32]
     ensures { (octets : List ℕ) → IsKeyOf key.now octets
         → result ≡ hmac_sha256 octets (front.now ++ concat (map (λ p. p.now) pieces.now)) }
 {
-    let mut mac = key.begin();
+    let mut mac = key.start();
     mac.update(front);
     for piece in pieces {
         mac.update(piece);

@@ -24,7 +24,7 @@ use psk_messages::{Channel, Psk3, Psk4, PskMessage, write_psk_into};
 /// Writes PSK-4 with PCHANNEL still blank.
 fn write_psk4(login: &Login, id: u8, packet: &mut Packet)
     ensures packet { packet.new ≡ psk_response id (psk4 login.now.rand_s 1 blank_tag 0) }
-    ensures room { HasCapacity packet.new }
+    ensures capacity { HasCapacity packet.new }
 {
     let message = PskMessage::P4(Psk4 {
         rand_s: *login.rand_s(),
@@ -43,8 +43,8 @@ fn psk4<R: Records>(login: &Login, id: u8, r: u8, packet: &mut Packet, made: &mu
     requires two_bits { r < 4 }
     requires none { made.old ≡ [] }
     ensures packet { packet.new ≡ psk_response id (psk4_of login.now id r) }
-    ensures made { made.new ≡ psk4_record login.now id r }
-    ensures room { HasCapacity packet.new }
+    ensures records { made.new ≡ psk4_record login.now id r }
+    ensures capacity { HasCapacity packet.new }
 {
     write_psk4(login, id, packet);
     seal_in(packet, login.tek(), login.psk(), 1, r, made);
@@ -62,7 +62,7 @@ fn confirm<R: Records>(
 ) -> PeerAnswer
     requires { tags.old.made ≡ [] }
     ensures turn { outcome_with result packet.new tags.new (in_phase phase.new login.now) ≡ confirms login.now id (result_of octet) tags.old.accepted None }
-    ensures room { HasCapacity packet.new }
+    ensures capacity { HasCapacity packet.new }
 {
     if octet / 64 == DONE_SUCCESS {
         psk4(login, id, DONE_SUCCESS, packet, &mut tags.made);
@@ -143,7 +143,7 @@ pub fn handle_psk3<R: Records>(
     requires waits { phase.old ≡ Wait }
     ensures turn { outcome_with result packet.new tags.new (in_phase phase.new login.now)
         ≡ wait_receives login.now id header.now (message_of (P3 psk3.now)) }
-    ensures room { replies result ≡ true → HasCapacity packet.new }
+    ensures capacity { replies result ≡ true → HasCapacity packet.new }
 {
     match check_psk3(login, header, psk3) {
         Err(cause) => PeerAnswer::Discard(cause),

@@ -34,7 +34,7 @@ fn fresh_reads<'a>(own: &Initial, request: &'a [u8]) -> Result<Psk1<'a>, Cause>
     match message_in(request) {
         Err(cause) => Err(cause),
         Ok(PskMessage::P1(psk1)) => {
-            if own.cred.accepts.takes(psk1.id_s) {
+            if own.cred.accepts.allows(psk1.id_s) {
                 Ok(psk1)
             } else {
                 Err(Cause::UnknownServer)
@@ -47,7 +47,7 @@ fn fresh_reads<'a>(own: &Initial, request: &'a [u8]) -> Result<Psk1<'a>, Cause>
 /// Writes PSK-2 with this MAC_P (RFC 4764 section 5.2).
 fn write_psk2(login: &Login, id: u8, mac: &[u8; 16], packet: &mut Packet)
     ensures packet { packet.new ≡ psk_response id (psk2 login.now.rand_s (rand_p_of login.now) mac.now login.now.cred.id_p) }
-    ensures room { HasCapacity packet.new }
+    ensures capacity { HasCapacity packet.new }
 {
     let message = PskMessage::P2(Psk2 {
         rand_s: *login.rand_s(),
@@ -62,7 +62,7 @@ fn write_psk2(login: &Login, id: u8, mac: &[u8; 16], packet: &mut Packet)
 #[tactic(auto, unfolding(eap_method::specs::PskPeer::answers))]
 fn answer<R: Records>(login: &Login, id: u8, packet: &mut Packet, tags: &mut Tags<R>) -> PeerAnswer
     ensures turn { outcome_with result packet.new tags.new (wait login.now) ≡ answers login.now id }
-    ensures room { HasCapacity packet.new }
+    ensures capacity { HasCapacity packet.new }
 {
     let mac = login.mac_p();
     write_psk2(login, id, &mac, packet);
@@ -86,7 +86,7 @@ fn wait_reads<R: Records>(
     requires waits { phase.old ≡ Wait }
     ensures turn { outcome_with result packet.new tags.new (in_phase phase.new login.now)
         ≡ wait_reads login.now (id_of request.now) (header_of request.now) (read_of (body_of request.now)) }
-    ensures room { replies result ≡ true → HasCapacity packet.new }
+    ensures capacity { replies result ≡ true → HasCapacity packet.new }
 {
     match message_in(request) {
         Err(cause) => PeerAnswer::Discard(cause),
@@ -108,7 +108,7 @@ pub fn handle_request<R: Records>(
 ) -> PeerAnswer
     requires { 5 ≤ length request.now }
     ensures turn { outcome_with result packet.new tags.new (view_of stage.new) ≡ step (view_of stage.old) request.now }
-    ensures room { replies result ≡ true → HasCapacity packet.new }
+    ensures capacity { replies result ≡ true → HasCapacity packet.new }
 {
     match stage {
         Stage::Unset => PeerAnswer::Discard(Cause::WrongOp),

@@ -29,7 +29,7 @@ use psk_messages::{Channel, Psk2, Psk3, PskMessage, write_psk_into};
 /// Writes PSK-3 with this MAC_S, PCHANNEL still blank.
 fn write_psk3(login: &Login, id: u8, mac: &[u8; 16], packet: &mut Packet)
     ensures packet { packet.new ≡ psk_request id (psk3 (rand_s_of login.now) mac.now 0 blank_tag 0) }
-    ensures room { HasCapacity packet.new }
+    ensures capacity { HasCapacity packet.new }
 {
     let message = PskMessage::P3(Psk3 {
         rand_s: login.rand_s(),
@@ -48,8 +48,8 @@ fn write_psk3(login: &Login, id: u8, mac: &[u8; 16], packet: &mut Packet)
 fn psk3<R: Records>(login: &Login, id: u8, packet: &mut Packet, made: &mut TagList<R>)
     requires { made.old ≡ [] }
     ensures packet { packet.new ≡ psk_request id (psk3_of login.now id) }
-    ensures made { made.new ≡ psk3_records login.now id }
-    ensures room { HasCapacity packet.new }
+    ensures records { made.new ≡ psk3_records login.now id }
+    ensures capacity { HasCapacity packet.new }
 {
     let mac = login.mac_s();
     write_psk3(login, id, &mac, packet);
@@ -67,7 +67,7 @@ pub fn answer<R: Records>(
     tags: &mut Tags<R>,
 )
     ensures turn { outcome_with Request packet.new tags.new (checked login.now) ≡ answers login.now next_id mac.now }
-    ensures room { HasCapacity packet.new }
+    ensures capacity { HasCapacity packet.new }
 {
     tags.clear();
     login.add_mac_p(&mut tags.accepted, mac);

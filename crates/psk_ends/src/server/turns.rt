@@ -25,7 +25,7 @@ use psk_messages::{Psk1, PskMessage, write_psk_into};
 #[tactic(auto, unfolding(eap_method::specs::PskServer::first))]
 fn write_psk1(own: &Initial, id: u8, packet: &mut Packet)
     ensures first { packet.new ≡ first own.now.side own.now.nonce id }
-    ensures room { HasCapacity packet.new }
+    ensures capacity { HasCapacity packet.new }
 {
     let message = PskMessage::P1(Psk1 {
         rand_s: rand_of(&own.nonce),
@@ -39,7 +39,7 @@ fn write_psk1(own: &Initial, id: u8, packet: &mut Packet)
 #[tactic(auto, unfolding(eap_method::specs::PskServer::first_step))]
 pub fn ask(stage: &mut Stage, id: u8, packet: &mut Packet)
     ensures first { record { packet = packet.new; after = view_of stage.new } ≡ first_step (view_of stage.old) id }
-    ensures room { is_initiated (view_of stage.old) ≡ true → HasCapacity packet.new }
+    ensures capacity { is_initiated (view_of stage.old) ≡ true → HasCapacity packet.new }
 {
     match stage {
         Stage::Early { own, phase } => match phase {
@@ -85,7 +85,7 @@ pub fn handle_response<R: Records>(
     requires size { 5 ≤ length response.now }
     requires keys { All (λ user. IsTrue (is_valid_for user.kind user.psk)) users.now }
     ensures turn { outcome_with result packet.new tags.new (view_of stage.new) ≡ step users.now next_id (view_of stage.old) response.now }
-    ensures room { requests result ≡ true → HasCapacity packet.new }
+    ensures capacity { requests result ≡ true → HasCapacity packet.new }
 {
     match stage {
         Stage::Unset => ServerAnswer::Discard(Cause::WrongOp),

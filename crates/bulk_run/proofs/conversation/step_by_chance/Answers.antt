@@ -22,16 +22,16 @@ loop-preserved g c =
     record {
       run = λ setup number place is stands.
           let here = c.loop.invariant.stands number place stands in
-          let next = c.octet-v.ensures.stands number (place + 2 * turns) here in
+          let next = c.octet-v.ensures.state number (place + 2 * turns) here in
           one_chosen setup number place turns c.octet-v.result c.octet-u.result _ _ (c.loop.invariant.run setup number place is stands)
           (c.octet-v.ensures.octet number (place + 2 * turns) here)
           (c.octet-u.ensures.octet number (place + 2 * turns + 1) next ∙ ap (octet_at number) (omega arith))
           (c.in_ok-step_chosen.ensures.run setup (chances setup number place turns) (c.loop.invariant.run setup number place is stands));
       stands = λ number place is.
           let here = c.loop.invariant.stands number place is in
-          let next = c.octet-v.ensures.stands number (place + 2 * turns) here in
+          let next = c.octet-v.ensures.state number (place + 2 * turns) here in
           same_place number (place + 2 * turns + 1 + 1) (place + 2 * (turns + 1)) _
-          (c.octet-u.ensures.stands number (place + 2 * turns + 1) next) (omega arith);
+          (c.octet-u.ensures.state number (place + 2 * turns + 1) next) (omega arith);
       started = c.in_ok-step_chosen.ensures.started;
       packets = c.in_ok-step_chosen.ensures.packets;
       few = c.in_ok-step_chosen.ensures.few turns c.loop.invariant.few;

@@ -23,7 +23,7 @@ loop-preserved g c =
     let each = drawn_each number in
     record {
       stands = same_place number (count * each + each) ((count + 1) * each) _
-          (c.in_ok-methods.ensures.stands (count * each) c.loop.invariant.stands) (next_place each count);
+          (c.in_ok-methods.ensures.state (count * each) c.loop.invariant.stands) (next_place each count);
       sum = c.plus-summary.ensures.value
           ∙ one_summed number count _ _ c.loop.invariant.sum (c.in_ok-methods.ensures.counts (count * each) c.loop.invariant.stands);
       small = at_most_more _ (40 * count + 40) (40 * (count + 1)) (c.plus-summary.ensures.small (40 * count) c.loop.invariant.small) (omega arith);

@@ -28,7 +28,7 @@ loop-found-preserved g c =
     record {
       not_over = is.over;
       bounded = is.bounded;
-      few_records = omega (arith, is.number, is.takes);
+      few_records = omega (arith, is.number, is.consumes);
       holds = rw after (found_step c.args.users.now c.loop-found.found c.loop-found.reader.number c.next_record.new.self.number _ is.number same.holds);
       underway = λ octets e. underway_proceeds c.args.users.now _ _ _ _ _ _ _ _ _ _ _ (same.underway octets e) is.contents is.number text after;
       read_faults = is.read ∙ same.read_faults;

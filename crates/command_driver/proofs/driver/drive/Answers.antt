@@ -7,8 +7,8 @@ pub loop-command-preserved : goal.loop-command-preserved
 loop-command-preserved g c = record {
   not_over = c.in-Line.ensures.over;
   bounded = c.in-Line.ensures.bounded;
-  few_lines = omega (arith, c.in-Line.ensures.number, c.in-Line.ensures.takes);
-  holds = subst (λ (k : ℕ). g.C.Command.holds c.take.new.self k) (sym c.in-Line.ensures.number) (c.in-Ok-Proceed.ensures.holds_after c.loop-command.reader.number c.loop-command.invariant.holds);
+  few_lines = omega (arith, c.in-Line.ensures.number, c.in-Line.ensures.consumes);
+  holds = subst (λ (k : ℕ). g.C.Command.is_valid_after c.handle_line.new.self k) (sym c.in-Line.ensures.number) (c.in-Ok-Proceed.ensures.valid_after c.loop-command.reader.number c.loop-command.invariant.holds);
   underway = λ octets e. underway_proceeds _ _ _ _ _ _ _ _ _ _ _ _ _ _ _ _ (c.loop-command.invariant.underway octets e) c.in-Line.ensures.lines c.in-Line.ensures.number c.line.ensures.same (rw c.in-Ok-Proceed.field-0-is at c.in-Ok-Proceed.ensures.answers.takes);
   read_faults = c.in-Line.ensures.read ∙ c.loop-command.invariant.read_faults;
   write_faults = c.in-Ok-Proceed.ensures.answers.uncounted ∙ c.loop-command.invariant.write_faults;
@@ -63,8 +63,8 @@ returns-in-Read-clause-responds g c =
     let same = c.loop-command.invariant in
     unreadable (λ octets e. underway_rests _ _ _ _ _ _ _ _ _ _ (same.underway octets e)) same.read_faults (search rules) same.write_faults
 
-pub take-requires : goal.take-requires
-take-requires g c = record {
+pub handle_line-requires : goal.handle_line-requires
+handle_line-requires g c = record {
   lines = c.loop-command.reader.number;
   few = omega arith;
   fact = c.loop-command.invariant.holds;

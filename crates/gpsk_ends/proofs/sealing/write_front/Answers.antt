@@ -17,8 +17,8 @@ is_cut c =
     c.write_gpsk_into.ensures
     (c.truncate.ensures ∙ ap (λ n. take (n - c.ks.result) packet) c.len.ensures.count ∙ ap (λ n. take (length packet - n) packet) c.ks.ensures)
 
-pub returns-clause-begins : goal.returns-clause-begins
-returns-clause-begins c = (is_cut c).begins
+pub returns-clause-prefix : goal.returns-clause-prefix
+returns-clause-prefix c = (is_cut c).begins
 
 pub returns-clause-covered : goal.returns-clause-covered
 returns-clause-covered c = (is_cut c).covered

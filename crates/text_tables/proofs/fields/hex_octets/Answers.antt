@@ -14,7 +14,7 @@ loop-place-preserved g c =
     let octet = 16 * c.hex_digit-high.result + c.hex_digit-low.result in
     let rest = octets_of (drop (2 * (i + 1)) ds) in
     let more = octets_of_more ds (2 * i) (2 * (i + 1)) (omega arith) (omega arith) in
-    let pushed : c.push.new.self ≡ c.loop-place.octets ++ octet ∷ [] = c.push.ensures.pushed (room c.loop-place.octets c.args.digits.now g.row.N i c.loop-place.invariant.count c.loop-place-test.true c.requires.fits) in
+    let pushed : c.push.new.self ≡ c.loop-place.octets ++ octet ∷ [] = c.push.ensures.pushed (room c.loop-place.octets c.args.digits.now g.row.N i c.loop-place.invariant.count c.loop-place-test.true c.requires.bounded) in
     let joined : (c.loop-place.octets ++ octet ∷ []) ++ rest ≡ c.loop-place.octets ++ (octet ∷ rest) = append_assoc c.loop-place.octets (octet ∷ []) rest in
     record {
       count = omega (arith, ap length pushed ∙ length-append c.loop-place.octets (octet ∷ []));

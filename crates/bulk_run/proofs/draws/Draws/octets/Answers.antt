@@ -18,7 +18,7 @@ loop-preserved c =
       count = ap length pushed ∙ let e = length-append {A = ℕ} c.loop.drawn (c.octet.result ∷ []) in omega (arith, e);
       stands = λ number place is.
           same_place number (place + c.loop.counter + 1) (place + (c.loop.counter + 1)) _
-          (c.octet.ensures.stands number (place + c.loop.counter) (c.loop.invariant.stands number place is)) (omega arith);
+          (c.octet.ensures.state number (place + c.loop.counter) (c.loop.invariant.stands number place is)) (omega arith);
       drawn = λ number place is.
           pushed ∙ one_more number place c.loop.counter _ _ (c.loop.invariant.drawn number place is)
           (c.octet.ensures.octet number (place + c.loop.counter) (c.loop.invariant.stands number place is));

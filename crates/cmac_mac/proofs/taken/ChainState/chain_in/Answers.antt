@@ -11,7 +11,7 @@ returns c = λ text n before.
     let whole : length c.split_at.result.0.now % 16 ≡ 0 = omega (arith, c.split_at.ensures.front_len) in
     let in_chain = chunks_consumed c.chain_blocks-self.result c.args.cipher.now text c.split_at.result.0.now c.as_chunks.result.0.now _ whole
     c.as_chunks.ensures.front (c.chain_blocks-self.ensures text (n + 1) full) in
-    ends_consumed _ _ c.args.cipher.now text c.split_at.result.0.now c.split_at.result.1.now c.args.octets.now c.hold.new.self.count _ _
-    (c.hold.ensures.taken c.args.cipher.now (text ++ c.split_at.result.0.now) _ in_chain)
-    (omega (arith, c.hold.ensures.count, c.split_at.ensures.back_len)) (omega (arith, c.hold.ensures.count, c.split_at.ensures.back_len))
+    ends_consumed _ _ c.args.cipher.now text c.split_at.result.0.now c.split_at.result.1.now c.args.octets.now c.append.new.self.count _ _
+    (c.append.ensures.chained c.args.cipher.now (text ++ c.split_at.result.0.now) _ in_chain)
+    (omega (arith, c.append.ensures.count, c.split_at.ensures.back_len)) (omega (arith, c.append.ensures.count, c.split_at.ensures.back_len))
     c.split_at.ensures.front c.split_at.ensures.back

@@ -7,4 +7,4 @@ pub returns-clause-run : goal.returns-clause-run
 returns-clause-run g c =
     run_starts (now_of g.P.PeerMethod.peer_shown g.S.ServerMethod.server_shown c.args.self.now)
     (now_of g.P.PeerMethod.peer_shown g.S.ServerMethod.server_shown c.start_by_table.new.self) (c.start_by_table.new.self ≡ c.args.self.now) c.start_by_table.result
-    c.start_by_table.ensures.told
+    c.start_by_table.ensures.reported

@@ -3,8 +3,8 @@ use Rattle.eapol_capture.specs.Files.{max_stored}
 use Rattle.eapol_capture.proofs.PassDelivery.{kept-part}
 use Rattle.eapol_capture.proofs.reader.PcapReader.consume_pending.Goals as goal
 
-pub returns-clause-kept : goal.returns-clause-kept
-returns-clause-kept c =
+pub returns-clause-stored : goal.returns-clause-stored
+returns-clause-stored c =
     let count = c.min-count.result in
     let frame = c.self.inside.frame in
     let held = c.self.inside.ahead in

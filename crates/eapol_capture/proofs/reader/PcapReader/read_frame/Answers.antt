@@ -17,18 +17,18 @@ returns-in_err-size-clause-contents g c =
     let looked = c.in_ok-has_more.ensures in
     let called = c.in_err-size.ensures in
     let some : 0 < length c.has_more.new.self.held = looked.some (ap Ok c.if-not-branch.false) in
-    let order : c.read_length.new.self.order ≡ Some c.args.order = called.keeps.order ∙ looked.keeps.order ∙ c.requires.order in
+    let order : c.read_length.new.self.order ≡ Some c.args.order = called.preserves.order ∙ looked.preserves.order ∙ c.requires.order in
     rw same
     (length-stops c.args.self.now c.has_more.new.self c.read_length.new.self
     (g.S.Source.shown.octets c.args.source.now) (g.S.Source.shown.octets c.has_more.new.source) (g.S.Source.shown.octets c.read_length.new.source) c.args.order c.in_err-size.field-0.0
-    c.requires.order c.requires.bounded called.bounded looked.left looked.taken some order called.part)
+    c.requires.order c.requires.bounded called.bounded looked.left looked.consumed some order called.part)
 
-pub returns-in_err-size-clause-takes : goal.returns-in_err-size-clause-takes
-returns-in_err-size-clause-takes g c =
+pub returns-in_err-size-clause-consumes : goal.returns-in_err-size-clause-consumes
+returns-in_err-size-clause-consumes g c =
     let same : c.from_residual-in_err-size.result ≡ Err c.in_err-size.field-0.0 = search rules in
     let looked = c.in_ok-has_more.ensures in
     let called = c.in_err-size.ensures in
-    let grows : c.args.self.now.taken ≤ c.read_length.new.self.taken = omega (arith, looked.taken, called.grows) in
+    let grows : c.args.self.now.taken ≤ c.read_length.new.self.taken = omega (arith, looked.consumed, called.grows) in
     rw same
     (stops-take c.in_err-size.field-0.0 12 c.has_more.new.self c.read_length.new.self
     (g.S.Source.shown.octets c.has_more.new.source) (g.S.Source.shown.octets c.read_length.new.source) called.part grows)
@@ -40,7 +40,7 @@ returns-then-size-gt-MAX_FRAME-clause-contents g c =
     let begun =
     begins c.args.order c.in_ok-size.size c.args.self.now c.has_more.new.self c.read_length.new.self
     (g.S.Source.shown.octets c.args.source.now) (g.S.Source.shown.octets c.has_more.new.source) (g.S.Source.shown.octets c.read_length.new.source)
-    c.requires.order looked.left looked.taken looked.held called.part called.length called.bounded in
+    c.requires.order looked.left looked.consumed looked.pending called.part called.length called.bounded in
     let long : max_frame < c.in_ok-size.size = omega arith in
     bad-size c.args.order c.in_ok-size.size c.args.self.now c.read_length.new.self
     (g.S.Source.shown.octets c.args.source.now) (g.S.Source.shown.octets c.read_length.new.source) begun long
@@ -52,22 +52,22 @@ returns-clause-contents g c =
     let begun =
     begins c.args.order c.in_ok-size.size c.args.self.now c.has_more.new.self c.read_length.new.self
     (g.S.Source.shown.octets c.args.source.now) (g.S.Source.shown.octets c.has_more.new.source) (g.S.Source.shown.octets c.read_length.new.source)
-    c.requires.order looked.left looked.taken looked.held called.part called.length called.bounded in
+    c.requires.order looked.left looked.consumed looked.pending called.part called.length called.bounded in
     let short : c.in_ok-size.size ≤ max_frame = omega arith in
     let body = c.read_body.ensures in
-    let order : c.read_body.new.self.order ≡ Some c.args.order = body.keeps.order ∙ called.keeps.order ∙ looked.keeps.order ∙ c.requires.order in
+    let order : c.read_body.new.self.order ≡ Some c.args.order = body.preserves.order ∙ called.preserves.order ∙ looked.preserves.order ∙ c.requires.order in
     frame-divides c.read_body.result c.args.order c.in_ok-size.size c.args.self.now c.read_length.new.self c.read_body.new.self
     (g.S.Source.shown.octets c.args.source.now) (g.S.Source.shown.octets c.read_length.new.source) (g.S.Source.shown.octets c.read_body.new.source)
     begun short order body.bounded body.part
 
-pub returns-clause-takes : goal.returns-clause-takes
-returns-clause-takes g c =
+pub returns-clause-consumes : goal.returns-clause-consumes
+returns-clause-consumes g c =
     let looked = c.in_ok-has_more.ensures in
     let called = c.in_ok-size.ensures in
     let begun =
     begins c.args.order c.in_ok-size.size c.args.self.now c.has_more.new.self c.read_length.new.self
     (g.S.Source.shown.octets c.args.source.now) (g.S.Source.shown.octets c.has_more.new.source) (g.S.Source.shown.octets c.read_length.new.source)
-    c.requires.order looked.left looked.taken looked.held called.part called.length called.bounded in
+    c.requires.order looked.left looked.consumed looked.pending called.part called.length called.bounded in
     let body = c.read_body.ensures in
     frame-takes c.read_body.result c.args.order c.in_ok-size.size c.args.self.now c.read_length.new.self c.read_body.new.self
     (g.S.Source.shown.octets c.args.source.now) (g.S.Source.shown.octets c.read_length.new.source) (g.S.Source.shown.octets c.read_body.new.source)
@@ -78,7 +78,7 @@ returns-in_err-has_more-clause-waits g c =
     let same : c.from_residual.result ≡ Err c.in_err-has_more.field-0.0 = search rules in
     rw same
     (look-waits c.in_err-has_more.field-0.0 c.args.self.now c.has_more.new.self (g.S.Source.shown.octets c.args.source.now) c.args.order
-    c.requires.order c.in_err-has_more.ensures.taken c.in_err-has_more.ensures.spent)
+    c.requires.order c.in_err-has_more.ensures.consumed c.in_err-has_more.ensures.spent)
 
 pub returns-in_err-size-clause-waits : goal.returns-in_err-size-clause-waits
 returns-in_err-size-clause-waits g c =
@@ -88,7 +88,7 @@ returns-in_err-size-clause-waits g c =
     rw same
     (length-waits c.in_err-size.field-0.0 c.args.self.now c.has_more.new.self c.read_length.new.self
     (g.S.Source.shown.octets c.args.source.now) (g.S.Source.shown.octets c.has_more.new.source) (g.S.Source.shown.octets c.read_length.new.source) c.args.order
-    c.requires.order c.requires.bounded called.bounded looked.left looked.taken looked.held called.part)
+    c.requires.order c.requires.bounded called.bounded looked.left looked.consumed looked.pending called.part)
 
 pub returns-clause-waits : goal.returns-clause-waits
 returns-clause-waits g c =
@@ -97,7 +97,7 @@ returns-clause-waits g c =
     let begun =
     begins c.args.order c.in_ok-size.size c.args.self.now c.has_more.new.self c.read_length.new.self
     (g.S.Source.shown.octets c.args.source.now) (g.S.Source.shown.octets c.has_more.new.source) (g.S.Source.shown.octets c.read_length.new.source)
-    c.requires.order looked.left looked.taken looked.held called.part called.length called.bounded in
+    c.requires.order looked.left looked.consumed looked.pending called.part called.length called.bounded in
     let short : c.in_ok-size.size ≤ max_frame = omega arith in
     let body = c.read_body.ensures in
     frame-waits c.read_body.result c.args.order c.in_ok-size.size c.args.self.now c.read_length.new.self c.read_body.new.self

@@ -16,7 +16,7 @@ returns-clause-contents g c =
     let called = c.in_ok-read_part.ensures in
     header-judged c.judge.result c.args.self.now c.read_part.new.self c.judge.new.self (g.S.Source.shown.octets c.args.source.now)
     (g.S.Source.shown.octets c.read_part.new.source)
-    c.requires.header c.requires.bounded called.bounded called.part c.judge.ensures.judged c.judge.ensures.kept
+    c.requires.header c.requires.bounded called.bounded called.part c.judge.ensures.judged c.judge.ensures.stored
 
 pub returns-in_err-read_part-clause-header : goal.returns-in_err-read_part-clause-header
 returns-in_err-read_part-clause-header g c =
@@ -29,4 +29,4 @@ returns-in_err-read_part-clause-header g c =
 pub returns-clause-header : goal.returns-clause-header
 returns-clause-header g c =
     header-heads c.judge.result c.args.self.now c.read_part.new.self c.judge.new.self (g.S.Source.shown.octets c.args.source.now)
-    (g.S.Source.shown.octets c.read_part.new.source) c.in_ok-read_part.ensures.part c.judge.ensures.judged c.judge.ensures.kept
+    (g.S.Source.shown.octets c.read_part.new.source) c.in_ok-read_part.ensures.part c.judge.ensures.judged c.judge.ensures.stored

@@ -17,15 +17,15 @@ loop-missing-preserved g c =
     let n = c.consume_pending-handed.result in
     let looks : Looks now mid (g.S.Source.shown.octets c.loop-missing.source) (g.S.Source.shown.octets c.has_more.new.source) =
     record {
-      keeps = c.has_more.ensures.keeps;
-      taken = c.has_more.ensures.taken;
+      keeps = c.has_more.ensures.preserves;
+      taken = c.has_more.ensures.consumed;
       frame = c.has_more.ensures.frame;
       octets = c.in_ok-has_more.ensures.left;
-      held = c.in_ok-has_more.ensures.held;
+      held = c.in_ok-has_more.ensures.pending;
     } in
     let t = c.consume_pending-handed.ensures in
     let takes : ConsumesSome n mid after =
-    record { keeps = t.keeps; there = t.there; taken = t.taken; held = t.held; kept = t.kept; bounded = t.bounded } in
+    record { keeps = t.preserves; there = t.there; taken = t.consumed; held = t.pending; kept = t.stored; bounded = t.bounded } in
     let fewer : c.loop-missing.missing - n + n ≡ c.loop-missing.missing = omega arith in
     more-part c.args.count c.loop-missing.missing n (c.loop-missing.missing - n) before now mid after
     (g.S.Source.shown.octets c.args.source.now) (g.S.Source.shown.octets c.loop-missing.source) (g.S.Source.shown.octets c.has_more.new.source)

@@ -36,7 +36,7 @@ is_packet g c =
     let tag = c.tag_whole-tag.result in
     let whole : length tag ≡ ks_of c.self.inside.suite = c.tag_whole-tag.ensures.size c.self.inside.suite c.self.inside.keys.sk c.self.invariant in
     let size : length c.as_slice-3.result.now ≡ length tag = ap length c.as_slice-3.ensures.same in
-    let within : length c.write_front.new.packet + length c.as_slice-3.result.now ≤ 1500 = omega (arith, c.write_front.ensures.room) in
+    let within : length c.write_front.new.packet + length c.as_slice-3.result.now ≤ 1500 = omega (arith, c.write_front.ensures.capacity) in
     c.append.ensures.appended within ∙ ap (λ (l : List ℕ). c.write_front.new.packet ++ l) c.as_slice-3.ensures.same
     ∙ c.write_front.ensures.sealed tag whole
 
@@ -61,11 +61,11 @@ returns-clause-record g c =
     ∙ ap (λ r. r ∷ [])
     (record_sealed suite c.self.inside.keys.sk c.args.psk.now (message_of c.args.view.now) octets c.tag_whole-tag.result mac (is_covered g c) (is_tag g c)))
 
-pub returns-clause-room : goal.returns-clause-room
-returns-clause-room g c =
+pub returns-clause-capacity : goal.returns-clause-capacity
+returns-clause-capacity g c =
     let tag = c.tag_whole-tag.result in
     let suite = c.self.inside.suite in
     let whole : length tag ≡ ks_of suite = c.tag_whole-tag.ensures.size suite c.self.inside.keys.sk c.self.invariant in
     let message = message_of c.args.view.now in
     let size : size_of (with_mac message tag) ≡ size_of message = size_with suite message tag (has_mac g c) whole in
-    message_has_capacity c.args.code c.args.id (with_mac message tag) c.append.new.self c.requires.typed (omega (arith, size, c.requires.fits)) (is_packet g c)
+    message_has_capacity c.args.code c.args.id (with_mac message tag) c.append.new.self c.requires.typed (omega (arith, size, c.requires.bounded)) (is_packet g c)

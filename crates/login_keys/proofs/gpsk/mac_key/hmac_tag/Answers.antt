@@ -6,7 +6,7 @@ use Rattle.login_keys.proofs.gpsk.mac_key.hmac_tag.Goals as goal
 
 pub loop-piece-init : goal.loop-piece-init
 loop-piece-init c = λ octets is_key.
-    fed_none (Represents c.update.new.self octets) c.args.front.now (c.update.ensures octets [] (c.begin-mac.ensures octets is_key))
+    fed_none (Represents c.update.new.self octets) c.args.front.now (c.update.ensures octets [] (c.start-mac.ensures octets is_key))
 
 pub loop-piece-preserved : goal.loop-piece-preserved
 loop-piece-preserved c = λ octets is_key.

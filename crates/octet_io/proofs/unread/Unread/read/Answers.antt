@@ -2,8 +2,8 @@ use Rattle.std.proofs.Common.{◌≤◌, ◌-◌, length, take, drop, arith}
 use Rattle.octet_io.proofs.Pieces.{prefix_at}
 use Rattle.octet_io.proofs.unread.Unread.read.Goals as goal
 
-pub returns-clause-taken : goal.returns-clause-taken
-returns-clause-taken c =
+pub returns-clause-consumed : goal.returns-clause-consumed
+returns-clause-consumed c =
     let octets_are = c.as_slice.ensures.value in
     let put = rw octets_are at c.put_front.ensures in
     let fits : c.min-count.result ≤ length (take (length c.as_slice.result.now - c.self.inside.place) (drop c.self.inside.place c.as_slice.result.now)) = omega arith in

@@ -10,7 +10,7 @@ returns-clause-step g c =
     let inside : PeerValue _ = record { vars = c.self.inside.vars; methods = c.self.inside.methods.items } in
     let allowed : is_among inside.vars.setup.methods c.args.kind ≡ true =
     subst (λ (v : PeerValue _). is_among v.vars.setup.methods c.args.kind ≡ true) (sym c.self.view_is) c.requires.allowed in
-    let turn = c.hand-turn in
+    let turn = c.call_method-turn in
     rw (← c.self.view_is)
     (method_settles c.args.selects (now_of shown inside) c.settle.new.vars c.args.kind c.args.id c.args.request.now turn.result
     turn.new.packet turn.new.tags (map shown turn.new.methods.items) c.settle.result

@@ -28,8 +28,8 @@ unfolding step
 returns-in-Refused-clause-turn g c =
     rw (c.in-Early.is, c.in-Refused.is) (c.idle_cause-in-Refused.ensures.server (refused c.in-Early.own.side c.in-Early.own.nonce))
 
-pub returns-in-Checked-clause-room : goal.returns-in-Checked-clause-room
-returns-in-Checked-clause-room g c = λ sent.
+pub returns-in-Checked-clause-capacity : goal.returns-in-Checked-clause-capacity
+returns-in-Checked-clause-capacity g c = λ sent.
     let reads = c.checked_reads in
     let none = sends_nothing reads.result reads.new.tags _ (λ packet. ap (λ out. out.turn) (reads.ensures packet)) in
     cc

@@ -13,5 +13,5 @@ returns-in-Ok-written-clause-ready_after g c =
     let peer_shown = g.P.PeerMethod.peer_shown in
     let server_shown = g.S.ServerMethod.server_shown in
     ready_in peer_shown server_shown _ c.start_brief.new.self refl
-    (start_starts _ (now_of peer_shown server_shown c.start_brief.new.self) c.in-Ok-start_brief.told c.in-Ok-start_brief.ensures.told)
+    (start_starts _ (now_of peer_shown server_shown c.start_brief.new.self) c.in-Ok-start_brief.told c.in-Ok-start_brief.ensures.reported)
     c.start_brief.ensures.objects

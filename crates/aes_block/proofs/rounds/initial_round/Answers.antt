@@ -1,5 +1,5 @@
 use Rattle.aes_block.proofs.Lanewise.{begun}
-use Rattle.aes_block.proofs.rounds.begin.Goals as goal
+use Rattle.aes_block.proofs.rounds.initial_round.Goals as goal
 
 pub returns : goal.returns
 returns c =

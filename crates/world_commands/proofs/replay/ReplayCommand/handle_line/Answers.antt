@@ -6,7 +6,7 @@ use Rattle.scenario_text.specs.Reading.{Reading, ReadLine, ready, setup_of, read
 use Rattle.text_tables.specs.declared.fault.LineFault.{LineFault}
 use Rattle.command_driver.specs.Commands.{AnswersLine}
 use Rattle.world_commands.specs.Replay.{seen_of, replay_step, replay_lacks, reading_result, reading_lacks}
-use Rattle.world_commands.proofs.replay.ReplayCommand.take.Goals as goal
+use Rattle.world_commands.proofs.replay.ReplayCommand.handle_line.Goals as goal
 
 from_ready : (x : Result Setup LineFault) (after : Reading) (reading : Result ReadLine LineFault) (Q : Result ReadLine LineFault → Type 0) → IsOk x → reading ≡ Ok (record { item = ready x; after = after }) → ((setup : Setup) → x ≡ Ok setup → Q (Ok (record { item = item.Ready setup; after = after }))) → Q reading
 from_ready (Ok setup) after reading Q whole is each = subst Q (sym is) (each setup refl)

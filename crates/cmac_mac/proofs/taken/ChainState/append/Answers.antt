@@ -1,9 +1,9 @@
 use Rattle.std.proofs.Common.{ℕ, List, ◌+◌, ◌-◌, ◌++◌, length, take, drop, arith, ap}
 use Rattle.cmac_mac.proofs.Growing.{accepted_more}
-use Rattle.cmac_mac.proofs.taken.ChainState.hold.Goals as goal
+use Rattle.cmac_mac.proofs.taken.ChainState.append.Goals as goal
 
-pub returns-clause-taken : goal.returns-clause-taken
-returns-clause-taken c = λ key text n before.
+pub returns-clause-chained : goal.returns-clause-chained
+returns-clause-chained c = λ key text n before.
     let held : List ℕ = c.args.self.now.held in
     let count : ℕ = c.args.self.now.count in
     let size : ℕ = count + length c.args.octets.now - count in
