@@ -4,7 +4,7 @@ use Rattle.aes_block.proofs.Aes128.encrypt_lanes.Goals as goal
 
 pub loop-round-init : goal.loop-round-init
 loop-round-init c =
-    rounds_none c.args.self.now c.args.block c.self.inside.key _ c.self.view_is c.self.invariant.first_is c.begin-state.ensures
+    rounds_none c.args.self.now c.args.block c.self.inside.key _ c.self.view_is c.self.invariant.first_is c.initial_round-state.ensures
 
 pub loop-round-preserved : goal.loop-round-preserved
 loop-round-preserved c =
