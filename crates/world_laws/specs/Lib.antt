@@ -19,3 +19,4 @@ pub mod EachConversation
 pub mod Matching
 pub mod UnderKey
 pub mod Passing
+pub mod Forgery

@@ -3,6 +3,7 @@
 ghost use Rattle.world_laws.specs.Agreement.{StartsOnce, HonestOfEither, HonestEndsAgree, HonestNamesAreTheirs, FewPackets, FewTags};
 ghost use Rattle.world_laws.specs.Alone.{OneEndImplies};
 ghost use Rattle.world_laws.specs.EndInvariants.{EndInvariants};
+ghost use Rattle.world_laws.specs.Forgery.{AgreeOrForged, EachTagIsRight};
 ghost use Rattle.world_laws.specs.Fresh.{FreshnessIsExact};
 ghost use Rattle.world_laws.specs.Laws.{DiscardsChangeNothing, ReportsAreTraced, SkipsChangeNothing};
 ghost use Rattle.world_laws.specs.Matching.{ConversationsAreAll, ConversationsMatch};
@@ -190,4 +191,22 @@ pub fn few_tags()
 /// nothing, unless it begins again; an end in SUCCESS has accepted a tag in its present conversation.
 pub fn steps_are_lawful()
     ensures { StepsAreLawful }
+{}
+
+/// Each tag in the book of a run, accepted or made by an end in any of its conversations, is the right MAC of the octets that
+/// it covers, by the algorithm and under the key of its label: MAC_P and MAC_S are AES-CMAC under AK, the tag of PCHANNEL is
+/// EAX's under TEK (RFC 4764 sections 3 and 5), and the MAC of a message of EAP-GPSK is the ciphersuite's under SK (RFC 5433
+/// sections 4 and 8). That conversation derives the key from its own settings, PSK, name and nonce, and from the other end's
+/// name and nonce and the ciphersuite that its report has; at the server the PSK is that of the user of the report's ID_Peer.
+pub fn each_tag_is_right()
+    ensures { EachTagIsRight }
+{}
+
+/// A broken tag is a forgery: in every run the book of tags is honest, or its first accepted tag that the other end had not
+/// made before is the right MAC of its octets under a key that the accepting conversation derives, and no tag that the other
+/// end had made before has the same method, label, PSK, octets and MAC. That is the event of a reduction to the MAC's
+/// unforgeability. So it is of the tags that neither end had made, and of those under one PSK alone. If no end has begun a
+/// second conversation, or nonces are fresh, two ends that are both in SUCCESS agree, or the run shows such a tag.
+pub fn agree_or_forged()
+    ensures { AgreeOrForged }
 {}
