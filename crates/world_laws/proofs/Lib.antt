@@ -163,3 +163,7 @@ pub mod HonestUnder
 pub mod RightMacs
 -- The entries of a run's book are right MACs of its conversations, and a book that isn't honest shows one that was not computed before.
 pub mod Forgery
+-- A server that has taken no Nak in its present conversation is at the first method of its order, or at none.
+pub mod Downgrade
+-- Each Nak that the peer sends anew answers a Request of a Type that it doesn't allow.
+pub mod NakAnswers

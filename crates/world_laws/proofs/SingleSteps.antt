@@ -67,7 +67,7 @@ unless_of w e (Some skip) call skip_is call_is = is_skipped skip
 unless_of w e None None skip_is call_is = is_skipped _
 unless_of w e None (Some call) skip_is call_is = is_called call skip_is call_is
 
-step_of : (w : WorldNow) (e : Event) → StepOf w e (world_step w e)
+pub step_of : (w : WorldNow) (e : Event) → StepOf w e (world_step w e)
 unfolding act conversed_by reported_before world_step
 step_of w e = unless_of w e (first_skip (skip_table w.parties w.conversations w.sent e)) (call_of w.conversations w.sent e) refl refl
 
@@ -88,7 +88,7 @@ timer_peer party.Peer bytes e = absurd cc
 timer_peer party.Pass bytes e = absurd cc
 timer_peer party.Server bytes e = absurd cc
 
-passed_to_peer : (conversations : Conversations) (sent : List Sent) (e : Event) (bytes : List ℕ)
+pub passed_to_peer : (conversations : Conversations) (sent : List Sent) (e : Event) (bytes : List ℕ)
     → call_of conversations sent e ≡ Some (to_peer (peer_inputs.octets bytes)) → bytes ≡ delivered_in sent e
 passed_to_peer conversations sent (event.Deliver n) bytes is = with_peer (packet_numbered sent n) _ bytes is
 passed_to_peer conversations sent (event.Alter n place mask) bytes is = with_peer (packet_numbered sent n) _ bytes is
@@ -157,15 +157,15 @@ is_start call = false
 
 -- ---- what is added to those sent
 
-cancel : (xs a b : List Sent) → xs ++ a ≡ xs ++ b → a ≡ b
+pub cancel : (xs a b : List Sent) → xs ++ a ≡ xs ++ b → a ≡ b
 cancel [] a b e = e
 cancel (x ∷ xs) a b e = cancel xs a b cc
 
-record IsSent (to : Port) (octets : Option (List ℕ)) (packet : Sent) : Type 0 where
+pub record IsSent (to : Port) (octets : Option (List ℕ)) (packet : Sent) : Type 0 where
   pub sent : octets ≡ Some packet.octets
   pub port : packet.port ≡ to
 
-one_sent : (to : Port) (octets : Option (List ℕ)) (packet : Sent) → sent_to to octets ≡ packet ∷ [] → IsSent to octets packet
+pub one_sent : (to : Port) (octets : Option (List ℕ)) (packet : Sent) → sent_to to octets ≡ packet ∷ [] → IsSent to octets packet
 one_sent to None packet e = cc e
 one_sent to (Some octets) packet e =
     let one : Sent = record { port = to; octets = octets } in

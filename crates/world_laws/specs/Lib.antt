@@ -20,3 +20,4 @@ pub mod Matching
 pub mod UnderKey
 pub mod Passing
 pub mod Forgery
+pub mod Downgrade

@@ -2,6 +2,7 @@
 
 ghost use Rattle.world_laws.specs.Agreement.{StartsOnce, HonestOfEither, HonestEndsAgree, HonestNamesAreTheirs, FewPackets, FewTags};
 ghost use Rattle.world_laws.specs.Alone.{OneEndImplies};
+ghost use Rattle.world_laws.specs.Downgrade.{DowngradesNeedNaks, NaksRefuse};
 ghost use Rattle.world_laws.specs.EndInvariants.{EndInvariants};
 ghost use Rattle.world_laws.specs.Forgery.{AgreeOrForged, EachTagIsRight};
 ghost use Rattle.world_laws.specs.Fresh.{FreshnessIsExact};
@@ -209,4 +210,20 @@ pub fn each_tag_is_right()
 /// second conversation, or nonces are fresh, two ends that are both in SUCCESS agree, or the run shows such a tag.
 pub fn agree_or_forged()
     ensures { AgreeOrForged }
+{}
+
+/// Downgrade by a Nak. If the server's current method is one that the peer allows, and not the first such one of the
+/// server's order, then in its present conversation the server took a Nak, or an Expanded Nak, that was delivered to it
+/// (RFC 3748 section 5.3). And wherever the peer sends these octets anew, not by RETRANSMIT, it answers a Request of a Type
+/// that it doesn't allow, as [`naks_refuse`] says, so none for that first method. So no run without such a Nak leads the
+/// server past that method: somebody else made the Nak, or led the peer to it by such a Request. A server that reads
+/// Expanded Types asks for a method by a Request of Type 254, which a peer that doesn't read them doesn't allow.
+pub fn downgrades_need_naks()
+    ensures { DowngradesNeedNaks }
+{}
+
+/// In every run each Nak or Expanded Nak that the peer sends anew, not by RETRANSMIT, answers a delivery that begins with a
+/// Request of a Type that the peer doesn't allow: by its plain form, if the peer reads Expanded Types (RFC 3748 section 5.7).
+pub fn naks_refuse()
+    ensures { NaksRefuse }
 {}
