@@ -1,13 +1,15 @@
 -- Smooth logins after restarts.
-use Rattle.std.proofs.Common.{◌≡◌, ℕ, zero, suc, ◌+◌, ◌-◌, ◌≤◌, List, [], ◌++◌, length, take, Option, None, Some, map, refl, sym, ap, subst, ◌∙◌}
+use Rattle.std.proofs.Common.{◌≡◌, ℕ, zero, suc, ◌+◌, ◌-◌, ◌≤◌, false, List, [], ◌++◌, length, take, Option, None, Some, map, refl, sym, ap, subst, ◌∙◌}
 use Rattle.std.proofs.Common.{arith, append-nil}
-use Rattle.std.specs.Prelude.{not}
+use Rattle.std.specs.Prelude.{◌||◌, Bool, not}
+use Rattle.std.proofs.Math.Bool.{or-false}
 use Rattle.std.specs.Str.{bytes_eq}
 use Rattle.std.proofs.lemmas.List.{length-append}
 use Rattle.login_setup.specs.declared.event.Event.{Event}
 use Rattle.login_setup.specs.declared.setup.Mode.{Mode}
 use Rattle.login_setup.specs.declared.setup.Mode.TheVariants as mode
 use Rattle.login_setup.specs.declared.setup.Setup.{Setup}
+use Rattle.eap_method.specs.Server.{server_report_of}
 use Rattle.server_machine.specs.ServerTable.{server_start}
 use Rattle.pass_through.specs.PassTable.{pass_start}
 use Rattle.eap_world.specs.Run.{run_of}
@@ -29,13 +31,15 @@ use Rattle.smooth_laws.proofs.SmoothRuns.{smooth_logins_succeed, prefix_deliveri
 record HasStarted (v : WorldNow) : Type 0 where
   one : length v.sent ≡ 1
   no_events : v.counts.events ≡ 0
+  no_deliveries : v.counts.deliveries ≡ 0
+  none_reported : (v.held.peer ≡ false) × (v.held.server ≡ false)
   no_discards : v.counts.discards ≡ 0
   no_tags : v.book ≡ []
 
 started_by : (runs : Mode) (setup : Setup) → HasStarted (run_of (in_mode runs setup) [])
-unfolding run_after world_start server_start pass_start
-started_by mode.Alone setup = record { one = refl; no_events = refl; no_discards = refl; no_tags = refl }
-started_by mode.Through setup = record { one = refl; no_events = refl; no_discards = refl; no_tags = refl }
+unfolding run_after world_start server_start pass_start server_report_of
+started_by mode.Alone setup = record { one = refl; no_events = refl; no_deliveries = refl; none_reported = (refl, refl); no_discards = refl; no_tags = refl }
+started_by mode.Through setup = record { one = refl; no_events = refl; no_deliveries = refl; none_reported = (refl, refl); no_discards = refl; no_tags = refl }
 
 has_started : (setup : Setup) → HasStarted (run_of setup [])
 has_started setup = started_by setup.mode setup
@@ -44,12 +48,16 @@ begins : (setup : Setup) (w : WorldNow) (begun : HasJustStarted setup w) → Fol
 begins setup w begun =
     let start = has_started setup in
     let no_events = start.no_events in
+    let no_deliveries = start.no_deliveries in
     let no_discards = start.no_discards in
     record {
       parties = begun.parties;
       sent = begun.sent;
       events = omega arith;
+      deliveries = omega arith;
       discards = omega arith;
+      peer_reported = sym (ap (λ (b : Bool). w.held.peer || b) start.none_reported.0 ∙ or-false w.held.peer);
+      server_reported = sym (ap (λ (b : Bool). w.held.server || b) start.none_reported.1 ∙ or-false w.held.server);
       book = sym (append-nil w.book) ∙ ap (λ (all : List Entry). w.book ++ map (later w.counts.events) all) (sym start.no_tags);
       begun = refl;
       fresh = refl;

@@ -1,9 +1,10 @@
 -- A world whose parties stand as those of another, and whose packets end with those of the other, goes on as the other.
 use Rattle.std.proofs.Common.{◌≡◌, ℕ, zero, suc, ◌+◌, ◌-◌, ◌≤◌, List, [], ◌∷◌, ◌++◌, length, Bool, true, false, cond, map, Option, None, Some, inl, inr, refl, sym, ap, subst, ◌∙◌}
 use Rattle.std.proofs.Common.{arith, append_assoc, append-nil}
-use Rattle.std.specs.Prelude.{◌==◌, is_some, nat_le, nat_lt, slice_get}
+use Rattle.std.specs.Prelude.{◌==◌, ◌||◌, is_some, nat_le, nat_lt, slice_get}
 use Rattle.std.specs.List.{list_any}
-use Rattle.std.proofs.lemmas.Bool.{cond-false, ne_eqb, or_cases, or_left, or_right}
+use Rattle.std.proofs.Math.Bool.{or-false, or_assoc}
+use Rattle.std.proofs.lemmas.Bool.{cond-false, false≢true, ne_eqb, or_cases, or_left, or_right}
 use Rattle.std.proofs.lemmas.List.{map-append}
 use Rattle.login_setup.specs.declared.event.Event.{Event}
 use Rattle.login_setup.specs.declared.event.Event.TheVariants as event
@@ -23,13 +24,16 @@ use Rattle.tag_book.specs.declared.book.Use.{Use}
 use Rattle.tag_book.specs.declared.book.Use.TheVariants.{Accepted, Made}
 use Rattle.eap_world.specs.declared.told.Counts.{Counts}
 use Rattle.eap_world.specs.declared.told.Skip.{Skip}
+use Rattle.eap_world.specs.declared.world.HasReported.{HasReported}
+use Rattle.eap_world.proofs.InConversation.{still_reported}
+use Rattle.eap_method.specs.declared.values.Report.{Report}
 use Rattle.tag_book.proofs.FirstBroken.{passed}
 use Rattle.world_laws.proofs.TagsOfEnds.{unbroken}
 use Rattle.peer_machine.specs.Inputs as peer_inputs
 use Rattle.server_machine.specs.Inputs as server_inputs
 use Rattle.pass_through.specs.Inputs as pass_inputs
 use Rattle.eap_world.specs.World.{WorldNow, Parties, Acted, Action, Call, Called, Skipped, act, alteration, booked_by, booked_of, call_at, call_with, called_unless}
-use Rattle.eap_world.specs.World.{conversations_after, conversed_by, conversed_unless, counts_after, end_of, first_skip, delivered_in_call, octets_of, one_if, packet_skips, pass_octets, run_after}
+use Rattle.eap_world.specs.World.{conversations_after, conversed_by, conversed_unless, counts_after, end_of, first_report, first_skip, delivered_in_call, has_reported, named_by, octets_of, one_if, packet_skips, pass_octets, report_of, reported_after, reported_before, run_after}
 use Rattle.eap_world.specs.World.{sent_by, skip_table, timer_call, to_pass, to_peer, to_server, world_step}
 use Rattle.world_laws.proofs.Acting.{starts_anew}
 use Rattle.std.specs.Prelude.{All, take}
@@ -83,15 +87,84 @@ counted_discards : (c : Counts) (action : Action) → (counts_after c action).di
 counted_discards c (Skipped skip) = omega arith
 counted_discards c (Called did) = refl
 
+abbrev deliveries_in : Action → ℕ
+deliveries_in (Skipped skip) = 0
+deliveries_in (Called did) = one_if did.is_delivery
+
+counted_deliveries : (c : Counts) (action : Action) → (counts_after c action).deliveries ≡ c.deliveries + deliveries_in action
+counted_deliveries c (Skipped skip) = omega arith
+counted_deliveries c (Called did) = refl
+
+-- ---- which ends have had a report
+
+-- whether the peer, and the server, is the party that acted and has a report
+abbrev peer_has : Party → Option Report → Bool
+peer_has party.Peer report = is_some report
+peer_has party.Pass report = false
+peer_has party.Server report = false
+
+abbrev server_has : Party → Option Report → Bool
+server_has party.Peer report = false
+server_has party.Pass report = false
+server_has party.Server report = is_some report
+
+abbrev peer_in : Acted → Bool
+peer_in out = elim out.action [ Skipped skip ↦ false | Called did ↦ peer_has did.party (report_of out.after did.party) ]
+
+abbrev server_in : Acted → Bool
+server_in out = elim out.action [ Skipped skip ↦ false | Called did ↦ server_has did.party (report_of out.after did.party) ]
+
+abbrev held_with : Bool → Bool → Party → Option Report → HasReported
+held_with peer server of report =
+    let held : HasReported = record { peer = peer; server = server } in reported_after held (first_report (has_reported held of) of report)
+
+peer_with : (peer server : Bool) (of : Party) (report : Option Report) → (held_with peer server of report).peer ≡ (peer || peer_has of report)
+peer_with true server party.Peer report = refl
+peer_with false server party.Peer None = refl
+peer_with false server party.Peer (Some report) = refl
+peer_with peer server party.Pass None = sym (or-false peer)
+peer_with peer server party.Pass (Some report) = sym (or-false peer)
+peer_with peer true party.Server report = sym (or-false peer)
+peer_with peer false party.Server None = sym (or-false peer)
+peer_with peer false party.Server (Some report) = sym (or-false peer)
+
+server_with : (peer server : Bool) (of : Party) (report : Option Report) → (held_with peer server of report).server ≡ (server || server_has of report)
+server_with peer true party.Server report = refl
+server_with peer false party.Server None = refl
+server_with peer false party.Server (Some report) = refl
+server_with peer server party.Pass None = sym (or-false server)
+server_with peer server party.Pass (Some report) = sym (or-false server)
+server_with true server party.Peer report = sym (or-false server)
+server_with false server party.Peer None = sym (or-false server)
+server_with false server party.Peer (Some report) = sym (or-false server)
+
+abbrev held_after : HasReported → Acted → HasReported
+held_after held out = reported_after held (named_by held out.after out.action)
+
+peer_after : (held : HasReported) (after : Parties) (action : Action)
+    → (let out : Acted = record { action = action; after = after } in (held_after held out).peer ≡ (held.peer || peer_in out))
+peer_after held after (Skipped skip) = sym (or-false held.peer)
+peer_after held after (Called did) = peer_with held.peer held.server did.party (report_of after did.party)
+
+server_after : (held : HasReported) (after : Parties) (action : Action)
+    → (let out : Acted = record { action = action; after = after } in (held_after held out).server ≡ (held.server || server_in out))
+server_after held after (Skipped skip) = sym (or-false held.server)
+server_after held after (Called did) = server_with held.peer held.server did.party (report_of after did.party)
+
+one_more : (now since then more : Bool) → now ≡ (since || then) → (now || more) ≡ (since || (then || more))
+one_more now since then more e = ap (λ (b : Bool). b || more) e ∙ or_assoc since then more
+
 -- ---- an event
 
 module _ (since : WorldNow) (before : List Sent) (w v : WorldNow) (f : Follows since before w v) where
   steps : (e one : Event) → act w.parties w.conversations w.sent e ≡ act v.parties v.conversations v.sent one
       → (conversed_by (w.counts.events + 1) w.parties w.conversations w.sent e).begun ≡ w.conversations.begun
       → (conversed_by (w.counts.events + 1) w.parties w.conversations w.sent e).fresh ≡ w.conversations.fresh
+      → w.held ≡ reported_before w.held w.parties w.conversations w.sent e
+      → v.held ≡ reported_before v.held v.parties v.conversations v.sent one
       → Follows since before (world_step w e).after (world_step v one).after
   unfolding world_step
-  steps e one same begun fresh =
+  steps e one same begun fresh held was =
       let out : Acted = act v.parties v.conversations v.sent one in
       let k : ℕ = since.counts.events in
       let events = f.events in
@@ -99,6 +172,9 @@ module _ (since : WorldNow) (before : List Sent) (w v : WorldNow) (f : Follows s
       let event : w.counts.events + 1 ≡ k + (v.counts.events + 1) = omega arith in
       let w_events = counted_events w.counts out.action in
       let v_events = counted_events v.counts out.action in
+      let deliveries = f.deliveries in
+      let w_deliveries = counted_deliveries w.counts out.action in
+      let v_deliveries = counted_deliveries v.counts out.action in
       let w_discards = counted_discards w.counts out.action in
       let v_discards = counted_discards v.counts out.action in
       record {
@@ -106,7 +182,20 @@ module _ (since : WorldNow) (before : List Sent) (w v : WorldNow) (f : Follows s
         sent = ap (λ (o : Acted). w.sent ++ sent_by o.action) same ∙ ap (λ (all : List Sent). all ++ sent_by out.action) f.sent
             ∙ append_assoc before v.sent (sent_by out.action);
         events = ap (λ (o : Acted). (counts_after w.counts o.action).events) same ∙ (omega arith);
+        deliveries = ap (λ (o : Acted). (counts_after w.counts o.action).deliveries) same ∙ (omega arith);
         discards = ap (λ (o : Acted). (counts_after w.counts o.action).discards) same ∙ (omega arith);
+        peer_reported = ap (λ (h : HasReported). (held_after h (act w.parties w.conversations w.sent e)).peer) (sym held)
+            ∙ ap (λ (o : Acted). (held_after w.held o).peer) same
+            ∙ peer_after w.held out.after out.action
+            ∙ one_more w.held.peer since.held.peer v.held.peer (peer_in out) f.peer_reported
+            ∙ ap (λ (b : Bool). since.held.peer || b)
+            (sym (peer_after v.held out.after out.action) ∙ ap (λ (h : HasReported). (held_after h out).peer) was);
+        server_reported = ap (λ (h : HasReported). (held_after h (act w.parties w.conversations w.sent e)).server) (sym held)
+            ∙ ap (λ (o : Acted). (held_after w.held o).server) same
+            ∙ server_after w.held out.after out.action
+            ∙ one_more w.held.server since.held.server v.held.server (server_in out) f.server_reported
+            ∙ ap (λ (b : Bool). since.held.server || b)
+            (sym (server_after v.held out.after out.action) ∙ ap (λ (h : HasReported). (held_after h out).server) was);
         book = ap (λ (o : Acted). w.book ++ booked_by (w.counts.events + 1) o.action) same
             ∙ ap (λ (number : ℕ). w.book ++ booked_by number out.action) event
             ∙ ap (λ (all : List Entry). w.book ++ all) (booked_later k (v.counts.events + 1) out.action)
@@ -201,6 +290,9 @@ trailing_same shift event.AltAccept stays = refl
 trailing_same shift event.AltReject stays = refl
 trailing_same shift (event.Restart of) stays = stays
 
+no_restart : (e : Event) → is_restart e ≡ false → (of : Party) → e ≡ event.Restart of → ⊥
+no_restart e stays of is = false≢true (sym stays ∙ ap is_restart is)
+
 module _ (since : WorldNow) (before : List Sent) (w v : WorldNow) (f : Follows since before w v) where
   -- the packet is the same
   found_so : (n : ℕ) → packet_numbered w.sent (number_behind (length before) n) ≡ packet_numbered v.sent n
@@ -233,8 +325,11 @@ module _ (since : WorldNow) (before : List Sent) (w v : WorldNow) (f : Follows s
   takes : (e : Event) → is_restart e ≡ false
       → Follows since before (world_step w (event_past (length before) e)).after (world_step v e).after
   takes e stays =
+      let past : Event = event_past (length before) e in
       let s = event_same (w.counts.events + 1) w.parties w.conversations w.sent (event_past (length before) e) (trailing_same (length before) e stays) in
-      steps since before w v f (event_past (length before) e) e (same_act e stays) s.begun s.fresh
+      steps since before w v f past e (same_act e stays) s.begun s.fresh
+      (still_reported w.held w.parties w.conversations w.sent past (no_restart past (trailing_same (length before) e stays)))
+      (still_reported v.held v.parties v.conversations v.sent e (no_restart e stays))
 
 -- so a whole run does
 pub accepts_each : (since : WorldNow) (before : List Sent) (events : List Event) → All (λ (e : Event). is_restart e ≡ false) events

@@ -1,6 +1,6 @@
 -- A run behind others: from a world whose parties have just begun again, events in which no party begins again do
 -- what they do in a run of its own.
-use Rattle.std.specs.Prelude.{◌≡◌, ℕ, ◌+◌, List, ◌++◌, length, map, Bool, true, false, ◌==◌, if◌then◌else◌, All}
+use Rattle.std.specs.Prelude.{◌≡◌, ℕ, ◌+◌, List, ◌++◌, length, map, Bool, true, false, ◌==◌, ◌||◌, if◌then◌else◌, All}
 use Rattle.login_setup.specs.declared.event.Event.{Event}
 use Rattle.login_setup.specs.declared.event.Event.TheVariants as event
 use Rattle.login_setup.specs.declared.setup.Setup.{Setup}
@@ -14,13 +14,17 @@ use Rattle.smooth_laws.specs.Again.{HasJustStarted}
 abbrev pub later : ℕ → Entry → Entry
 later shift e = record e { event = shift + e.event }
 
--- the one world goes on from a moment as the other does from its start: its parties are the same, its packets, tags
--- and counts are those that it had and then the other's, and its conversations are those that it had
+-- the one world goes on from a moment as the other does from its start: its parties are the same, and so what they report; its packets,
+-- tags and counts are those that it had and then the other's; an end has had a report if it had one then, or has had one in the other;
+-- the conversations that have begun, and whether their nonces were fresh, are as they were then
 pub record Follows (since : WorldNow) (before : List Sent) (w v : WorldNow) : Type 0 where
   pub parties : w.parties ≡ v.parties
   pub sent : w.sent ≡ before ++ v.sent
   pub events : w.counts.events ≡ since.counts.events + v.counts.events
+  pub deliveries : w.counts.deliveries ≡ since.counts.deliveries + v.counts.deliveries
   pub discards : w.counts.discards ≡ since.counts.discards + v.counts.discards
+  pub peer_reported : w.held.peer ≡ (since.held.peer || v.held.peer)
+  pub server_reported : w.held.server ≡ (since.held.server || v.held.server)
   pub book : w.book ≡ since.book ++ map (later since.counts.events) v.book
   pub begun : w.conversations.begun ≡ since.conversations.begun
   pub fresh : w.conversations.fresh ≡ since.conversations.fresh

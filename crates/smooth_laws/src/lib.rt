@@ -20,8 +20,10 @@ pub fn smooth_logins_succeed()
 {}
 
 /// From any world whose parties have just begun again, events in which no party begins again do what they do in a
-/// run of its own with the present nonces: the parties come to the same, and the packets, tags and counts of that run
-/// follow those that the world had.
+/// run of its own with the present nonces: the parties come to the same, and so report the same; the packets and tags of
+/// that run follow those that the world had; its events, deliveries and discards are added to those counted; an end has
+/// had a report if it had one in that world, or has had one in that run. Which conversations have begun, and whether
+/// their nonces were fresh, stay as they were; of the nonces that are left nothing is said.
 pub fn runs_go_on_as_their_own()
     ensures { RunsGoOnAsTheirOwn }
 {}
