@@ -234,7 +234,7 @@ def case_proves(run: Run) -> Iterator[Optional[str]]:
         yield from tells(small, 0, "proves top", f"top{10:>23}{200:>10}{0:>10}{210:>10}", "1 of 2 crates, 3.5 of 4.2 minutes")
         yield from tells(small, 0, "proves --chain small", "2 of 2 crates, 4.2 of 4.2 minutes",
                          "longest chain: 40 s of proof, 2 crates: small 30, top 10")
-        yield from tells(small, 1, "proves none", "proves: none is no crate of crates.txt")
+        yield from tells(small, 1, "proves none", "proves: none is no crate (--help says more)")
 
 
 def case_tries(run: Run) -> Iterator[Optional[str]]:

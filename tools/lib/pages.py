@@ -12,8 +12,6 @@ from typing import Dict, Iterator, List, Optional, Set, Tuple
 
 from lib.common import ROOT, this_python
 
-COMMANDS = ROOT / "docs/claims.commands"
-ASSURANCE = ROOT / "docs/ASSURANCE.md"
 SECONDS = 300
 
 ENDS = ("rt", "antt", "md", "py", "sh", "c", "h", "awk", "edit", "txt", "svg", "hex", "cases", "commands",
@@ -189,7 +187,7 @@ def is_count(label: str, said: str, counts: List[int]) -> bool:
 def check_counts(check: Tally, crates: List[str]) -> None:
     counts = counted(crates)
     told = set()
-    for page in (ROOT / "README.md", ASSURANCE):
+    for page in (ROOT / "README.md", ROOT / "docs/ASSURANCE.md"):
         for number, line in parts_of(page)[0]:
             label, *cells = cells_of(line)
             if line.startswith("|") and label in counts:
@@ -227,7 +225,8 @@ def whole_commands(lines: List[str]) -> Iterator[Tuple[str, str]]:
 
 def unrun() -> Set[str]:
     """The commands of docs/claims.commands: each is indented below its reason."""
-    return {line.strip() for line in COMMANDS.read_text().splitlines() if line.startswith(" ")} if COMMANDS.exists() else set()
+    file = ROOT / "docs/claims.commands"
+    return {line.strip() for line in file.read_text().splitlines() if line.startswith(" ")} if file.exists() else set()
 
 
 def run(command: str, folder: str) -> Tuple[object, str, str]:

@@ -95,10 +95,6 @@ class Call(Item):
         has_own = any(it.kind == "ensures" for it in self.clauses)
         return self if has_own or not self.meets else self.meets
 
-    def promises(self) -> Dict[str, str]:
-        """What it ensures, by name."""
-        return {it.name: it.text for it in self.contract.clauses if it.kind == "ensures"}
-
     def named(self) -> List[str]:
         return [it.name for it in self.clauses if it.kind == "ensures" and it.name]
 
@@ -342,11 +338,6 @@ class Repository:
                  if it.name == name and not isinstance(it, Call) and stem in ("", Path(it.file).stem)]
         return [it for it in found if it.file.endswith(".antt")] or found
 
-    def definition(self, name: str, crate: Optional[str]) -> List[Item]:
-        """The same, where it stands in just one file."""
-        found = self.declared(name, crate)
-        return found if len({it.file for it in found}) == 1 else []
-
     # What rests on what.
 
     def rank(self, file: str) -> int:
@@ -388,18 +379,15 @@ class Repository:
                 if not items and module.startswith("Rattle."):
                     foreign.add((module, there))
         # (who names a trait means its contracts; what stands in it, or is written for it, no more than what its objects show)
-        found += [call for it in found for call in self.functions_of(it) if it is not item.inside and it.name != item.of_trait]
+        found += [call for it in found for call in self.of_heads.get(it, []) if it is not item.inside and it.name != item.of_trait]
         found += [item.inside] if item.inside else []
         if isinstance(item, Call) and item.contract is not item:
             found.append(item.contract)
         return [it for it in dict.fromkeys(found) if it is not item], foreign
 
-    def functions_of(self, item: Item) -> List[Call]:
-        """The functions of a trait whose head this is."""
-        return self.of_heads.get(item, [])
-
     @functools.cached_property
     def of_heads(self) -> Dict[Item, List[Call]]:
+        """The functions of each trait, by its head."""
         found: Dict[Item, List[Call]] = {}
         for it in self.calls:
             if it.inside and it.inside.name == it.owner and not it.of_trait:
