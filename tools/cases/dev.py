@@ -89,6 +89,7 @@ two
     "CHANGELOG.md": "# Changes\n",
     "dev/lint.txt": "names: 0\nwords: 105\n",
     "docs/claims.commands": "# Not run.\n\nit needs root:\n    sudo reboot\n",
+    "docs/SECURITY.md": "",
     README: """\
 # Small
 
@@ -172,6 +173,9 @@ CHANGES = [
     (EVEN, "rest n 2 ≡ 0", "rest n 2 ≡ 1", ["definition small::Even::IsEven has changed"]),
     (REST, "^other = 1", "other = 2", []),
     (EVEN, "nothing is left", "no rest is left", []),
+    (CODE, "Twice the", "Thrice the", ["docstring small::double has changed"]),
+    (AGREEMENT, "So it is by", "So it often is by", [f"sentence {AGREEMENT}: So it is by `doubles_are_even`. is gone",
+                                                     f"sentence {AGREEMENT}: So it often is by `doubles_are_even`. is new"]),
 ]
 RT = """\
 #!/bin/sh

@@ -20,6 +20,9 @@ ENDS = ("rt", "antt", "md", "py", "sh", "c", "h", "awk", "edit", "txt", "svg", "
 # Names in code, with commas between them.
 RUN = r"`[^`]*`(?:, `[^`]*`)*"
 
+# The end of a sentence or of a cell. (`..` stands for words left out)
+END = re.compile(r"(?<=[^.][.!?])[)*\"]*\s+(?=[A-Z0-9`*\[(\"])|(?<!\\)\|")
+
 Lines = List[Tuple[int, str]]
 Block = Tuple[int, str, List[str]]
 
@@ -42,12 +45,16 @@ def page_files() -> List[Path]:
 
 
 def parts_of(page: Path) -> Tuple[Lines, List[Block]]:
+    return parts_in(page.read_text())
+
+
+def parts_in(text: str) -> Tuple[Lines, List[Block]]:
     """The prose of a page, with its fenced blocks as empty lines, and these blocks: their line, their kind, their
     lines."""
     prose: Lines = []
     blocks: List[Block] = []
     block: Optional[Block] = None
-    for number, line in enumerate(page.read_text().splitlines(), 1):
+    for number, line in enumerate(text.splitlines(), 1):
         if block is None and line.startswith("```"):
             block = (number, line[3:].strip(), [])
         elif block and line.startswith("```"):
@@ -60,6 +67,12 @@ def parts_of(page: Path) -> Tuple[Lines, List[Block]]:
             continue
         prose.append((number, ""))
     return prose, blocks
+
+
+def sentences_in(text: str) -> Iterator[Tuple[int, str]]:
+    """The sentences of a page, with their lines: a line is a paragraph, an item of a list or a row of a table."""
+    for number, line in parts_in(text)[0]:
+        yield from ((number, it.strip()) for it in END.split(line) if it.strip() and not line.startswith("#"))
 
 
 def anchor_of(head: str) -> str:
