@@ -141,8 +141,6 @@ impl Steps for End {
 TABLES = {
     # One definition needs no other line.
     "alone": """\
-| File | Definitions | Lines | Sections |
-|---|---|---|---|
 | `low/specs/Base.antt` | 1 | 3 of 21 | RFC 3748 4, RFC 5433 9.1, 9.2 |
 | `high/specs/Top.antt` | 1 | 2 of 14 | – |
 
@@ -152,8 +150,6 @@ Names of the kit: 1, of `std.specs.Prelude`.
     # A form is read where it is used; a clause of a contract takes what it names, what is asked first, and the types of
     # what is handed over.
     "high::call: sums": """\
-| File | Definitions | Lines | Sections |
-|---|---|---|---|
 | `low/specs/Base.antt` | 2 | 7 of 21 | RFC 3748 4, 5, RFC 5433 9.1, 9.2 |
 | `low/src/kind.rt` | 1 | 7 of 16 | RFC 4137 4.4 |
 | `high/specs/Top.antt` | 2 | 4 of 14 | – |
@@ -164,8 +160,6 @@ Names of the kit: 2, of `std.specs.Prelude`.
 """,
     # The whole contract takes the record, through its module and an alias the shape, and the type of the sources in it.
     "high::call": """\
-| File | Definitions | Lines | Sections |
-|---|---|---|---|
 | `low/src/kind.rt` | 1 | 7 of 16 | RFC 4137 4.4 |
 | `low/specs/Base.antt` | 3 | 10 of 21 | RFC 3748 4, 5, RFC 5433 9.1, 9.2, RFC 4137 7 |
 | `high/specs/Top.antt` | 3 | 8 of 14 | – |
@@ -176,8 +170,6 @@ Names of the kit: 2, of `std.specs.Prelude`.
 """,
     # A crate, and a file of it, are all of their definitions.
     "low": """\
-| File | Definitions | Lines | Sections |
-|---|---|---|---|
 | `low/src/kind.rt` | 1 | 7 of 16 | RFC 4137 4.4 |
 | `low/specs/Base.antt` | 4 | 12 of 21 | RFC 3748 4, 5, RFC 5433 9.1, 9.2, RFC 4137 7 |
 
@@ -185,8 +177,6 @@ Files: 2; definitions: 5; lines: 19 of 37.
 Names of the kit: 2, of `std.specs.Prelude`.
 """,
     "high::Top": """\
-| File | Definitions | Lines | Sections |
-|---|---|---|---|
 | `low/src/kind.rt` | 1 | 7 of 16 | RFC 4137 4.4 |
 | `low/specs/Base.antt` | 3 | 10 of 21 | RFC 3748 4, 5, RFC 5433 9.1, 9.2, RFC 4137 7 |
 | `high/specs/Top.antt` | 3 | 8 of 14 | – |
@@ -195,8 +185,6 @@ Files: 3; definitions: 7; lines: 25 of 51.
 Names of the kit: 2, of `std.specs.Prelude`.
 """,
     "--sections high::call": """\
-| Section | Definitions |
-|---|---|
 | RFC 3748 5 | `◌<+>◌` in `low/specs/Base.antt` |
 | RFC 4137 4.4 | `Kind` in `low/src/kind.rt` |
 | RFC 4137 7 | 1 definition in `low/specs/Base.antt` |
@@ -206,8 +194,6 @@ Names of the kit: 2, of `std.specs.Prelude`.
 }
 TABLES_OF_ENDS = {
     "high::End::step: goes": """\
-| File | Definitions | Lines | Sections |
-|---|---|---|---|
 | `low/src/kind.rt` | 1 | 7 of 16 | RFC 4137 4.4 |
 | `low/specs/Base.antt` | 3 | 8 of 21 | RFC 3748 4, RFC 5433 9.1, 9.2, RFC 4137 7 |
 | `low/src/steps.rt` | 2 | 7 of 15 | – |
@@ -217,8 +203,6 @@ Files: 4; definitions: 9; lines: 29 of 80.
 Names of the kit: 2, of `std.specs.Prelude`.
 """,
     "low::Steps::step: ends": """\
-| File | Definitions | Lines | Sections |
-|---|---|---|---|
 | `low/src/kind.rt` | 1 | 7 of 16 | RFC 4137 4.4 |
 | `low/specs/Base.antt` | 1 | 3 of 21 | RFC 3748 4, RFC 4137 7 |
 | `low/src/steps.rt` | 2 | 7 of 15 | – |
@@ -227,6 +211,7 @@ Files: 3; definitions: 4; lines: 17 of 52.
 Names of the kit: 0, of .
 """,
 }
+HEAD, SECTIONS = "| File | Definitions | Lines | Sections |\n|---|---|---|---|\n", "| Section | Definitions |\n|---|---|\n"
 HEADLINE = ("world_laws/specs/Agreement", "gpsk_messages/specs/Message", "psk_messages/specs/Message", "eap_packet/specs/Packet",
             "peer_machine/specs/PeerTable", "server_machine/specs/ServerTable", "aes_block/specs/Cipher", "hmac_mac/specs/Hmac")
 
@@ -234,7 +219,7 @@ HEADLINE = ("world_laws/specs/Agreement", "gpsk_messages/specs/Message", "psk_me
 def told(small: Small, tables: dict[str, str]) -> Iterator[Optional[str]]:
     for asked, wanted in tables.items():
         words = ["--sections", asked.partition(" ")[2]] if asked.startswith("--") else [asked]
-        said = small.run("reading", *words)
+        said, wanted = small.run("reading", *words), (SECTIONS if asked.startswith("--") else HEAD) + wanted
         yield holds((said.status, said.lines) == (0, wanted.splitlines()), f"reading {asked} writes something else: {said}")
 
 

@@ -5,7 +5,6 @@ from __future__ import annotations
 import re
 from typing import Iterator, Optional
 
-from lib.crates import crates_of, text_here
 from lib.sources import Call, Repository
 
 LEAST, MOST = 5, 15
@@ -39,7 +38,7 @@ def used_by(caller: Call, calls: list[Call], types: set[str]) -> set[Call]:
 
 def caller_of(repository: Repository, crate: str) -> Optional[Call]:
     """A proved function of 5 to 15 lines that uses the crate: of those that use most of its calls the shortest."""
-    calls, above = calls_of(repository, crate), {it for it, below in crates_of(text_here()).items() if crate in below}
+    calls, above = calls_of(repository, crate), {it for it, below in repository.below.items() if crate in below}
     types = {it.owner for it in calls if it.owner}
     found = [(-len(made), it.code.count("\n"), it.place, it) for it in repository.calls
              if it.crate in above and LEAST <= it.code.count("\n") + 1 <= MOST and not it.is_empty
@@ -54,11 +53,10 @@ def undented(code: str) -> str:
 
 
 def page_of(repository: Repository, crate: str) -> Iterator[str]:
-    depends, source = crates_of(text_here()), repository.sources.get(f"crates/{crate}/src/lib.rt") or \
-        repository.sources[f"crates/{crate}/src/main.rt"]
-    above = [it for it, below in depends.items() if crate in below]
+    source = repository.sources.get(f"crates/{crate}/src/lib.rt") or repository.sources[f"crates/{crate}/src/main.rt"]
+    above = [it for it, below in repository.below.items() if crate in below]
     yield from (f"# {crate}", "", source.heading, "")
-    yield f"Built on: {', '.join(depends[crate]) or 'the kit alone'}. Used by: {', '.join(above) or 'none'}."
+    yield f"Built on: {', '.join(repository.below[crate]) or 'the kit alone'}. Used by: {', '.join(above) or 'none'}."
     caller = caller_of(repository, crate)
     if caller:
         yield from ("", f"## A caller: `{caller.place}`", "", "```rust", undented(caller.code), "```")

@@ -9,7 +9,7 @@ from typing import Callable, Dict, Iterable, Iterator, List, NamedTuple, Optiona
 
 from lib import rattle
 from lib.common import ROOT, Refused
-from lib.crates import files_of, names_of, text_here
+from lib.crates import crates_of, files_of, text_here
 
 NAME = r"[A-Za-z_][\w']*"
 # (within a module a definition is indented; so are the fields of a record, which have no other word than pub)
@@ -279,7 +279,8 @@ class Repository:
 
     def __init__(self, texts: Optional[Dict[str, str]] = None) -> None:
         """The crates as they stand here, or with these texts by their places."""
-        self.crates = list(names_of(texts["crates.txt"] if texts else text_here()))
+        self.below = crates_of(texts["crates.txt"] if texts else text_here())
+        self.crates = list(self.below)
         self.sources: Dict[str, Source] = {}
         self.of: Dict[Tuple[str, str], List[Item]] = {}
         for crate in self.crates:
