@@ -139,7 +139,7 @@ TURNS = [
     ("claims", README, r", 4, 0 \|", ", 5, 0 |", f"README.md:7: {LINES}: 29, 17, 4, 0 are counted"),
     ("claims", ASSURANCE, r"^.*tests in code.*\n", "", "tests in code: no page says how many there are"),
     ("claims", README, "1,234", "1,235", "README.md: bench/README.md doesn't have 1,235"),
-    ("claims", "wrong/refused.txt", "1 1", "9 9", "wrong/refused.txt: small: 9 of 9 edits refused, and 1 stand in wrong/small"),
+    ("wrong --texts", "wrong/refused.txt", "1 1", "9 9", "wrong/refused.txt: small: 9 of 9 edits refused, and 1 stand there"),
     ("dead", FACTS, "", "\nhere : (n : ℕ) → n ≡ n\nhere n = there n\n\nthere : (n : ℕ) → n ≡ n\nthere n = here n\n", f"{FACTS}:6: {REACHED} here"),
     ("dead", EVEN, "", "\nabbrev pub odd : ℕ\nodd = 0\n", f"{EVEN}:11: {REACHED} odd"),
     ("dead", FACTS, "", "\nmodule _ (m : ℕ) where\n  within : m ≡ m\n  within = refl\n", f"{FACTS}:7: {REACHED} within"),

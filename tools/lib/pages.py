@@ -7,7 +7,6 @@ import signal
 import subprocess
 import tempfile
 from pathlib import Path
-from types import ModuleType
 from typing import Dict, Iterator, List, Optional, Set, Tuple
 
 from lib.common import ROOT, this_python
@@ -146,28 +145,16 @@ def lines_of(part: str, crates: List[str]) -> int:
     return sum(len(it.read_text().splitlines()) for it in files)
 
 
-@functools.lru_cache(maxsize=None)
-def module_of(file: Path, text: bytes) -> ModuleType:
-    """A script with this text, which is read once."""
-    module = ModuleType(file.name)
-    module.__file__ = str(file)
-    exec(compile(text, file, "exec"), vars(module))
-    return module
-
-
 def cases() -> int:
-    """How many cases cases/run runs."""
-    file = ROOT / "cases/run"
-    run = module_of(file, file.read_bytes())
-    return sum(len(run.rows_of(it)) for it in sorted((ROOT / "cases").glob("*.cases")))
+    """How many cases cases/run runs: each `case` of a file, or each of its rows."""
+    files = [re.split(r"^case ", it.read_text("latin-1"), flags=re.M) for it in (ROOT / "cases").glob("*.cases")]
+    rows = lambda text: len(re.findall(r"^row\b", text, re.M))
+    return sum(max(1, rows(front) + rows(it)) for front, *own in files for it in own)
 
 
-def refused() -> List[Tuple[str, str, int, int]]:
-    """The rows of wrong/refused.txt: a crate, whether its edits of wrong/ were tried or all, how many, and how many were
-    refused."""
-    table = ROOT / "wrong/refused.txt"
-    rows = [it.split() for it in table.read_text().splitlines() if it and not it.startswith("#")] if table.exists() else []
-    return [(it[0], it[1], int(it[2]), int(it[3])) for it in rows]
+def refused() -> int:
+    """How many edits wrong/refused.txt says were refused."""
+    return sum(int(it.split()[3]) for it in (ROOT / "wrong/refused.txt").read_text().splitlines() if it and it[0] != "#")
 
 
 def counted(crates: List[str]) -> Dict[str, List[int]]:
@@ -180,7 +167,7 @@ def counted(crates: List[str]) -> Dict[str, List[int]]:
         "crates proved": [len(others)],
         "wrong bodies in the gate": [len(list(ROOT.glob("crates/*/must-fail/*.edit")))],
         "wrong bodies in `wrong/`": [len(list(ROOT.glob("wrong/*/*.edit")))],
-        "of all these refused, as `wrong/refused.txt` has it": [sum(it[3] for it in refused())],
+        "of all these refused, as `wrong/refused.txt` has it": [refused()],
         "cases of texts": [cases()],
         "tests in code": [sum(map(has_test, (ROOT / "crates").glob("*/src/**/*.rt")))],
         "stored outputs in `examples/`": [len([it for it in ROOT.glob("examples/*") if it.name.endswith(outputs)])],
@@ -214,15 +201,6 @@ def check_counts(check: Tally, crates: List[str]) -> None:
     costs = next(line for line in (ROOT / "README.md").read_text().splitlines() if "in instructions |" in line)
     for cost in re.findall(r"\d+,\d{3}", costs):
         check.holds(cost.replace(",", "") in measured, f"README.md: bench/README.md doesn't have {cost}")
-
-
-def check_refused(check: Tally) -> None:
-    """wrong/refused.txt records no more edits than there are: it may be older than some."""
-    for crate, which, tried, taken in refused():
-        folders = [f"wrong/{crate}", *[f"crates/{crate}/must-fail"] * (which == "all")]
-        there = sum(len(list((ROOT / it).glob("*.edit"))) for it in folders)
-        fault = f"wrong/refused.txt: {crate}: {taken} of {tried} edits refused, and {there} stand in {' and '.join(folders)}"
-        check.holds(taken <= tried <= there, fault)
 
 
 # Commands.
