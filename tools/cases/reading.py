@@ -74,10 +74,10 @@ summed = one <+> one
 
 ghost use Rattle.high.specs.Top.{alone, summed, Told};
 
-use low::Kind;
+use low::Other;
 
 /// Answers.
-pub fn call(kind: Kind) -> u8
+pub fn call(kind: low::Kind) -> u8
     requires { alone ≡ 1 }
     // as it is summed
     ensures sums { summed ≡ 2 }

@@ -379,6 +379,9 @@ class Repository:
                 found += items
                 if not items and module.startswith("Rattle."):
                     foreign.add((module, there))
+        # (a type of the sources that is named with its crate)
+        found += [it for crate, name in re.findall(r"\b(\w+)::(\w+)", item.text) if source.is_rust and crate in self.below
+                  for it in self.at(crate, name)]
         # (who names a trait means its contracts; what stands in it, or is written for it, no more than what its objects show)
         found += [call for it in found for call in self.of_heads.get(it, []) if it is not item.inside and it.name != item.of_trait]
         found += [item.inside] if item.inside else []
