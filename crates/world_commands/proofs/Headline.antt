@@ -10,6 +10,7 @@ use Rattle.world_laws.proofs.Few.{few_tags}
 use Rattle.world_laws.proofs.HonestOfEither.{honest_of_either}
 use Rattle.world_laws.proofs.HonestRuns.{honest_ends_agree}
 use Rattle.world_laws.proofs.Passing.{pass_carries, pass_is_alone}
+use Rattle.world_laws.proofs.PresentUnderKey.{ends_agree_under, one_end_implies_under}
 use Rattle.world_laws.proofs.PskReflected.{reflected_ends_agree}
 use Rattle.world_laws.proofs.SingleSteps.{steps_are_lawful}
 use Rattle.world_laws.proofs.UnderKey.{conversations_match_under}
@@ -86,6 +87,8 @@ headline octets setup is =
       tells = one_end_implies setup events whole;
       matching = conversations_match setup events whole;
       under_key = λ kind. conversations_match_under setup events kind whole;
+      agrees_under_key = λ kind. ends_agree_under setup events kind whole;
+      tells_under_key = λ kind. one_end_implies_under setup events kind whole;
       all = conversations_are_all setup events whole;
       pass = pass_is_alone setup events;
       carries = pass_carries setup events;

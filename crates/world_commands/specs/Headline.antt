@@ -13,6 +13,7 @@ use Rattle.tag_book.specs.declared.book.TagsVerdict.TheVariants.{Honest}
 use Rattle.world_laws.specs.EachConversation.{peer_conversations, server_conversations}
 use Rattle.world_laws.specs.Matching.{AreAll, Match}
 use Rattle.world_laws.specs.Passing.{Carries, IsAlone}
+use Rattle.world_laws.specs.PresentUnderKey.{AgreesUnder, ImpliedUnder}
 use Rattle.world_laws.specs.PskReflected.{AgreesReflected}
 use Rattle.world_laws.specs.SingleSteps.{IsLawful}
 use Rattle.world_laws.specs.UnderKey.{MatchUnder}
@@ -33,9 +34,11 @@ pub record PreservesAgreed (setup : Setup) (events : List Event) (w : WorldNow) 
   pub agrees : AgreesWhereHonest w
   pub theirs : TheirsWhereHonest setup w
   pub reflected : AgreesReflected setup w
-  pub tells : ImpliedByOne setup w
+  pub tells : ImpliedByOne setup w (peer_conversations setup events) (server_conversations setup events)
   pub matching : Match w (peer_conversations setup events) (server_conversations setup events)
   pub under_key : (kind : ℕ) → MatchUnder setup kind w (peer_conversations setup events) (server_conversations setup events)
+  pub agrees_under_key : (kind : ℕ) → AgreesUnder setup kind w
+  pub tells_under_key : (kind : ℕ) → ImpliedUnder setup kind w (peer_conversations setup events) (server_conversations setup events)
   pub all : AreAll setup w (peer_conversations setup events) (server_conversations setup events)
   pub pass : setup.mode ≡ Through → IsAlone setup events
   pub carries : setup.mode ≡ Through → Carries setup events

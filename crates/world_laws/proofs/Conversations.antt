@@ -1,38 +1,42 @@
 -- The conversations of every run match, and the success of one end tells of the other.
-use Rattle.std.proofs.Common.{◌≡◌, ℕ, true, List, [], ◌∷◌, length, None, refl, sym, ap, subst, ◌∙◌}
+use Rattle.std.proofs.Common.{◌≡◌, ℕ, Some, true, List, [], ◌∷◌, length, None, refl, sym, ap, subst, ◌∙◌}
 use Rattle.login_setup.specs.declared.event.Event.{Event}
+use Rattle.octet_lists.specs.Among.{psk_kind}
 use Rattle.login_setup.specs.declared.setup.PeerSetup.{PeerSetup}
 use Rattle.login_setup.specs.declared.setup.ServerSetup.{ServerSetup}
 use Rattle.login_setup.specs.declared.setup.Setup.{Setup}
 use Rattle.peer_machine.specs.PeerTable as peers
+use Rattle.peer_machine.specs.PeerTable.{PeerNow}
 use Rattle.server_machine.specs.ServerTable as servers
-use Rattle.server_machine.specs.ServerTable.{server_reports}
+use Rattle.server_machine.specs.ServerTable.{ServerNow, server_reports}
 use Rattle.eap_world.specs.Run.{run_of}
 use Rattle.world_laws.specs.Agreement.{IsWhole}
-use Rattle.world_laws.specs.Alone.{OneEndImplies}
+use Rattle.world_laws.specs.Alone.{ImpliedByOne, OneEndImplies}
 use Rattle.world_laws.specs.ByMethod.{peer_login}
 use Rattle.world_laws.specs.EachConversation.{IsOneOf, OfPeer, OfServer, nonces_of, peer_at, peer_conversations, peer_nonce, server_at, server_conversations, server_nonce}
 use Rattle.world_laws.specs.Matching.{AreAll, ConversationsAreAll, ConversationsMatch, Match, RestsOn}
 use Rattle.world_laws.specs.PeerInvariant.{PeerInvariant}
 use Rattle.world_laws.specs.Records.{tags_by}
 use Rattle.world_laws.specs.ServerInvariant.{ServerInvariant}
-use Rattle.world_laws.proofs.Alone.{heard, hears, knows}
+use Rattle.world_laws.proofs.Alone.{knows, peer_tells, server_tells}
 use Rattle.world_laws.proofs.Conversing.{BothConverse, run_converses, start_converses, starts_so}
 use Rattle.world_laws.proofs.EachOf.{Told, walk}
 use Rattle.world_laws.proofs.EachTurn.{PeerWell, ServerWell, converses_on, grow, peer_nonce_of, peer_turns, peer_used, server_nonce_of, server_turns, server_used}
 use Rattle.world_laws.proofs.EndInvariants.{every_run_so_far, invariant_first}
+use Rattle.world_laws.proofs.HonestOfEither.{none_if_honest}
+use Rattle.world_laws.proofs.HonestOther.{honest_other}
 use Rattle.world_laws.proofs.Matching.{AllKnown, PeerKnown, ServerKnown}
 use Rattle.world_laws.proofs.Matching as matching
 use Rattle.world_laws.proofs.PeerPreserves.{peer_few}
 use Rattle.world_laws.proofs.PskMatching as psk
-use Rattle.world_laws.proofs.PskReflected.{received_psk}
 use Rattle.world_laws.proofs.Resting.{same_report}
 use Rattle.world_laws.proofs.ServerPreserves.{server_few}
-use Rattle.tag_book.specs.Book.{tags_verdict}
+use Rattle.tag_book.specs.Book.{first_broken, tags_verdict}
 use Rattle.eap_world.specs.Judgement.{is_success}
 use Rattle.eap_world.specs.World.{WorldNow, initial_world, world_start}
 use Rattle.tag_book.specs.declared.book.End.TheVariants as end
 use Rattle.tag_book.specs.declared.book.Entry.{Entry}
+use Rattle.tag_book.specs.declared.book.RecordOwner.TheVariants.{Other}
 use Rattle.tag_book.specs.declared.book.TagsVerdict.TheVariants.{Honest}
 use Rattle.tag_book.specs.declared.book.Use.TheVariants.{Accepted, Made}
 
@@ -165,13 +169,30 @@ conversations_match = run_matches
 pub conversations_are_all : ConversationsAreAll
 conversations_are_all = all_are
 
+module _ (setup : Setup) (events : List Event) (whole : IsWhole setup) where
+  abbrev now : WorldNow
+  now = run_of setup events
+
+  abbrev IsSuccessOfPeer : PeerNow → Type 0
+  IsSuccessOfPeer p = is_success p.vars.state ≡ true
+
+  abbrev IsSuccessOfServer : ServerNow → Type 0
+  IsSuccessOfServer s = is_success s.vars.state ≡ true
+
+  implied : ImpliedByOne setup now (peer_conversations setup events) (server_conversations setup events)
+  implied =
+      let all = run_known setup events whole in
+      record {
+        by_peer = λ honest fresh p_in.
+            peer_tells setup now _ _ all IsSuccessOfPeer (λ p is its again. matching.peers_match setup now _ _ all honest fresh p is its) p_in p_in;
+        by_psk_peer = λ honest fresh. peer_tells setup now _ _ all (λ (p : PeerNow). p.vars.selected ≡ Some psk_kind) (psk.psk_peers_match setup now _ _ all honest fresh);
+        by_server = λ honest s_in.
+            server_tells setup now _ _ all IsSuccessOfServer (λ s is its again. matching.servers_rest setup now _ _ all honest s is its) s_in s_in;
+        by_server_once = λ honest two s_in.
+            (let none = none_if_honest (first_broken Other [] now.book) honest in
+            knows setup whole now (invariant_first setup now (every_run_so_far setup events) two)
+            (honest_other end.Server now.book none) (honest_other end.Peer now.book none) s_in);
+      }
+
 pub one_end_implies : OneEndImplies
-one_end_implies setup events whole =
-    let w = run_of setup events in
-    let h = run_converses setup events whole in
-    record {
-      by_peer = heard setup w h;
-      by_psk_peer = received_psk setup w h;
-      by_server = hears setup w h;
-      by_server_once = λ honest two s_in. knows setup whole w (invariant_first setup w (every_run_so_far setup events) two) honest s_in;
-    }
+one_end_implies = implied

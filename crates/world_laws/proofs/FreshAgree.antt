@@ -11,7 +11,7 @@ use Rattle.server_machine.specs.ServerTable as servers
 use Rattle.eap_world.specs.Run.{run_of}
 use Rattle.world_laws.specs.Agreement.{IsWhole, AgreeAnew}
 use Rattle.world_laws.specs.Records.{IsIn, tags_by}
-use Rattle.world_laws.specs.TagOwners.{NotByServer, PeerTagOwner}
+use Rattle.world_laws.specs.TagOwners.{NotByServer, PeerTagOwner, ServerTagOwner}
 use Rattle.world_laws.proofs.Asks.{AsksServer}
 use Rattle.world_laws.proofs.AsksByMethod.{peer_asks, server_asks}
 use Rattle.world_laws.proofs.Conversing.{BothConverse, run_converses}
@@ -51,14 +51,17 @@ server_won setup w h s_in =
     let stands = h.server.now.stands in
     server_succeeds (servers.setup_with_nonce setup.server h.server_nonce) w.parties.server h.server.accepted h.server.made stands.tags (stands.sure s_in)
 
--- both ends agree, where the server's tag that the peer asks is the server's, and each one that the server asks is the peer's
+-- both ends agree, where the server's tag that the peer asks is the server's, and those that the server's present conversation asks, and its
+-- past ones under the same key, are the peer's
 pub agree_anew : (setup : Setup) (w : WorldNow) (h : BothConverse setup w) → w.conversations.fresh ≡ true
     → is_success w.parties.peer.vars.state ≡ true → is_success w.parties.server.vars.state ≡ true
     → (p_asks : AsksServer h.peer_nonce h.peer.accepted) → IsIn p_asks.tag (tags_by end.Server Made w.book)
-    → ((t : TagRecord) → IsIn t (tags_by end.Server Accepted w.book) → NotByServer setup.server t → IsIn t (tags_by end.Peer Made w.book))
+    → ((t : TagRecord) → IsIn t h.server.accepted → IsIn t (tags_by end.Server Accepted w.book) → NotByServer setup.server t → IsIn t (tags_by end.Peer Made w.book))
+    → ((t : TagRecord) → IsIn t (tags_by end.Server Accepted w.book) → t.psk ≡ p_asks.tag.psk → NotByServer setup.server t
+    → IsIn t (tags_by end.Peer Made w.book))
     → AgreeAnew setup w
 unfolding verdict_of
-agree_anew setup w h fresh p_in s_in p_asks p_made server_honest =
+agree_anew setup w h fresh p_in s_in p_asks p_made present_honest server_honest =
     let p = w.parties.peer in
     let s = w.parties.server in
     let peer_setup = peers.setup_with_nonce setup.peer h.peer_nonce in
@@ -70,8 +73,10 @@ agree_anew setup w h fresh p_in s_in p_asks p_made server_honest =
     let holds = server_knows_nonce server_setup s _ _ s_won in
     let s_held : h.server.held ≡ Some holds.foreign = sym h.server.now.held_is ∙ holds.is in
     let s_asks = server_asks setup.server h.server_nonce holds.foreign h.server.size h.server.held h.server.accepted h.server.made h.server.told s_held in
+    let s_is = first_is_in s_asks.tag s_asks.rest h.server.accepted s_asks.first in
+    let s_made = present_honest s_asks.tag s_is (accepted_now (ServerTagOwner setup.server) _ _ _ _ h.server s_asks.tag s_is) s_asks.alien in
     let one = in_one setup.peer setup.server _ _ _ _ _ _ _ _ h.peer h.server refl refl refl refl fresh fresh
-    server_honest holds.foreign s_held s_asks p_asks p_made in
+    p_asks.tag.psk server_honest holds.foreign s_held s_asks s_made p_asks refl p_made in
     let of_peer : FirstIn h.peer.accepted h.server.made = first_in h.peer.accepted h.server.made p_asks.tag p_asks.rest p_asks.first one.peer_tag in
     let succeed = both_succeed peer_setup server_setup p s h.peer.size h.server.size _ _ _ _ p_won s_won (λ _. of_peer)
     (first_in h.server.accepted h.peer.made s_asks.tag s_asks.rest s_asks.first one.server_tag) in
@@ -103,4 +108,4 @@ fresh_ends_agree setup events whole honest fresh p_in s_in =
     agree_anew setup w h fresh p_in s_in p_asks
     (honest_other end.Peer w.book none p_asks.tag
     (accepted_now (PeerTagOwner setup.peer) _ _ _ _ h.peer p_asks.tag (first_is_in p_asks.tag p_asks.rest h.peer.accepted p_asks.first)))
-    (λ t is alien. honest_other end.Server w.book none t is)
+    (λ t now is alien. honest_other end.Server w.book none t is) (λ t is same alien. honest_other end.Server w.book none t is)

@@ -7,6 +7,7 @@ use Rattle.login_setup.specs.declared.setup.Setup.{Setup}
 use Rattle.tag_book.specs.Book.{first_broken, tags_verdict, tags_verdict_either}
 use Rattle.tag_book.specs.declared.book.RecordOwner.TheVariants.{Either}
 use Rattle.tag_book.specs.declared.book.TagsVerdict.TheVariants.{Honest}
+use Rattle.tag_book.specs.declared.book.Use.TheVariants.{Accepted, Made}
 use Rattle.eap_world.specs.Judgement.{verdict_of, is_success}
 use Rattle.eap_world.specs.declared.verdict.Verdict.{Verdict}
 use Rattle.eap_world.specs.declared.verdict.Verdict.TheVariants.{Agree, Apart, Unfinished}
@@ -14,26 +15,29 @@ use Rattle.eap_world.specs.World.{WorldNow}
 use Rattle.tag_book.specs.declared.book.End.TheVariants as end
 use Rattle.eap_world.specs.Run.{run_of}
 use Rattle.world_laws.specs.Agreement.{AreApart, HonestEndsAgree, IsWhole}
+use Rattle.world_laws.specs.PresentUnderKey.{AgreeOnTheirs}
+use Rattle.world_laws.specs.Records.{AreInEither, tags_by}
 use Rattle.world_laws.proofs.EndInvariants.{BothInvariantFirst, every_run_so_far, invariant_first}
-use Rattle.world_laws.proofs.FreshAgree.{fresh_ends_agree}
+use Rattle.world_laws.proofs.FreshAgree.{agree_if, fresh_ends_agree}
 use Rattle.world_laws.proofs.HonestOfEither.{honest_of_either, none_if_honest}
-use Rattle.world_laws.proofs.SucceedingEnds.{both_agree, ends_succeed}
+use Rattle.world_laws.proofs.SucceedingEnds.{both_agree, both_theirs, ends_succeed}
 use Rattle.world_laws.proofs.TagsOfEnds.{honest_tags}
 
-agree_if : (one other same : Bool) → one ≡ true → other ≡ true → same ≡ true
-    → (let verdict : Verdict = if one && other then (if same then Agree else Apart) else Unfinished in verdict) ≡ Agree
-agree_if one other same a b c = rw (a, b, c) refl
-
--- a world whose ends stand so, whose book is honest of either end and whose ends both succeed, agrees
-invariant_agree : (setup : Setup) → IsWhole setup → (w : WorldNow) → BothInvariantFirst setup w.parties w.book
-    → tags_verdict_either w.book ≡ Honest → is_success w.parties.peer.vars.state ≡ true → is_success w.parties.server.vars.state ≡ true → verdict_of w ≡ Agree
+-- two ends that stand so, each of whose accepted tags either end made, and which both succeed, agree on what is their own
+pub once_agree : (setup : Setup) → IsWhole setup → (w : WorldNow) → BothInvariantFirst setup w.parties w.book
+    → AreInEither (tags_by end.Peer Accepted w.book) (tags_by end.Server Made w.book) (tags_by end.Peer Made w.book)
+    → AreInEither (tags_by end.Server Accepted w.book) (tags_by end.Peer Made w.book) (tags_by end.Server Made w.book)
+    → is_success w.parties.peer.vars.state ≡ true → is_success w.parties.server.vars.state ≡ true → AgreeOnTheirs setup w
 unfolding verdict_of
-invariant_agree setup whole w both honest p_in s_in =
-    let none = none_if_honest (first_broken Either [] w.book) honest in
+once_agree setup whole w both of_peer of_server p_in s_in =
     let succeed = ends_succeed setup.peer setup.server w.parties.peer w.parties.server _ _ _ _ whole.peer_nonce whole.server_nonce both.peer_invariant both.server_invariant
-    (honest_tags end.Peer w.book none) (honest_tags end.Server w.book none) p_in s_in in
+    of_peer of_server p_in s_in in
     let same = both_agree setup.peer setup.server w.parties.peer w.parties.server whole.peer_nonce whole.server_nonce succeed in
-    agree_if (is_success w.parties.peer.vars.state) (is_success w.parties.server.vars.state) _ p_in s_in (rw (both.peer_invariant.own, both.server_invariant.own) same)
+    record {
+      agree = agree_if (is_success w.parties.peer.vars.state) (is_success w.parties.server.vars.state) _ p_in s_in
+          (rw (both.peer_invariant.own, both.server_invariant.own) same);
+      theirs = both_theirs setup w succeed;
+    }
 
 -- ---- the verdict
 
@@ -56,27 +60,31 @@ not_both : (verdict : Verdict) → verdict ≡ Agree → verdict ≡ Apart → �
 not_both verdict agrees apart = cc
 
 -- two ends that agree wherever they both succeed are never told apart
-not_apart : (w : WorldNow)
+pub not_apart : (w : WorldNow)
     → (is_success w.parties.peer.vars.state ≡ true → is_success w.parties.server.vars.state ≡ true → verdict_of w ≡ Agree) → verdict_of w ≡ Apart → ⊥
 not_apart w agree apart = let both = both_in w Apart apart (λ e. cc e) in not_both (verdict_of w) (agree both.one_in both.other_in) apart
 
 -- ---- every run
 
 module _ (setup : Setup) (events : List Event) (whole : IsWhole setup) where
-  reflected_agrees : (let w = run_of setup events in tags_verdict_either w.book ≡ Honest → length w.conversations.begun ≡ 2
-      → is_success w.parties.peer.vars.state ≡ true → is_success w.parties.server.vars.state ≡ true → verdict_of w ≡ Agree)
-  reflected_agrees honest two = invariant_agree setup whole _ (invariant_first setup _ (every_run_so_far setup events) two) honest
+  -- each accepted tag was made by either end, and no end has begun a second conversation
+  pub reflected : (let w = run_of setup events in tags_verdict_either w.book ≡ Honest → length w.conversations.begun ≡ 2
+      → is_success w.parties.peer.vars.state ≡ true → is_success w.parties.server.vars.state ≡ true → AgreeOnTheirs setup w)
+  reflected honest two =
+      let w = run_of setup events in
+      let none = none_if_honest (first_broken Either [] w.book) honest in
+      once_agree setup whole w (invariant_first setup w (every_run_so_far setup events) two) (honest_tags end.Peer w.book none) (honest_tags end.Server w.book none)
 
   honest_agrees : (let w = run_of setup events in tags_verdict w.book ≡ Honest → AreApart w.conversations
       → is_success w.parties.peer.vars.state ≡ true → is_success w.parties.server.vars.state ≡ true → verdict_of w ≡ Agree)
-  honest_agrees honest (inl two) = reflected_agrees (honest_of_either _ honest) two
+  honest_agrees honest (inl two) = λ p_in s_in. (reflected (honest_of_either _ honest) two p_in s_in).agree
   honest_agrees honest (inr fresh) = λ p_in s_in. (fresh_ends_agree setup events whole honest fresh p_in s_in).agree
 
 pub honest_ends_agree : HonestEndsAgree
 honest_ends_agree setup events whole = record {
   agrees = honest_agrees setup events whole;
   never_apart = λ honest apart. not_apart (run_of setup events) (honest_agrees setup events whole honest apart);
-  reflected_agrees = reflected_agrees setup events whole;
-  reflected_never_apart = λ honest two. not_apart (run_of setup events) (reflected_agrees setup events whole honest two);
+  reflected_agrees = λ honest two p_in s_in. (reflected setup events whole honest two p_in s_in).agree;
+  reflected_never_apart = λ honest two. not_apart (run_of setup events) (λ p_in s_in. (reflected setup events whole honest two p_in s_in).agree);
   hold = λ honest fresh p_in s_in. (fresh_ends_agree setup events whole honest fresh p_in s_in).hold;
 }

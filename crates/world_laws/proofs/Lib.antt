@@ -155,8 +155,14 @@ mod WorkedExpanded
 mod WorkedFreshness
 -- The conversations of both ends, on what they rest, and whether they are fresh, computed from the definitions alone.
 mod WorkedMatching
+-- The tags of one conversation are under one key.
+pub mod OneKey
+-- What the honesty of the tags under a key says of them in the whole book.
+pub mod KeyedTags
 -- Matching conversations of one user of the server.
 pub mod UnderKey
+-- Two present ends in SUCCESS agree, and one end's success tells of the other, if the tags under the peer's key are honest.
+pub mod PresentUnderKey
 -- A book that is honest is honest under each key.
 pub mod HonestUnder
 -- Each tag that a conversation accepted or made is the right MAC of its octets, under a key that the conversation derives.

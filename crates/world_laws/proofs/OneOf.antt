@@ -1,8 +1,8 @@
 -- Conversations among others, and their tags among all.
-use Rattle.std.proofs.Common.{◌≡◌, List, [], ◌∷◌, refl, sym, subst, inl, inr}
+use Rattle.std.proofs.Common.{◌≡◌, List, [], ◌∷◌, None, Some, refl, sym, subst, inl, inr}
 use Rattle.std.specs.Prelude.{◌⊎◌}
 use Rattle.eap_method.specs.declared.tags.TagRecord.{TagRecord}
-use Rattle.world_laws.specs.EachConversation.{AreTwoOf, Conversation, IsOneOf, all_accepted, all_produced, behind, first, here, later}
+use Rattle.world_laws.specs.EachConversation.{AreTwoOf, Conversation, IsOneOf, all_accepted, all_produced, behind, first, here, last_now, later}
 use Rattle.world_laws.specs.Records.{IsIn}
 use Rattle.world_laws.proofs.PastConversations.{in_after, in_either}
 use Rattle.world_laws.proofs.TagsOfEnds.{is_in_front}
@@ -63,3 +63,26 @@ pub accepted_in : {N : Type 0} (t : TagRecord) (k : Conversation N) (all : List 
 unfolding all_accepted
 accepted_in t k _ (here rest) is = is_in_front t k.accepted (all_accepted rest) is
 accepted_in t k _ (later other rest is_one) is = in_after t other.accepted (all_accepted rest) (accepted_in t k rest is_one is)
+
+-- and what it made among all that they made
+pub produced_in : {N : Type 0} (t : TagRecord) (k : Conversation N) (all : List (Conversation N)) → IsOneOf k all → IsIn t k.made
+    → IsIn t (all_produced all)
+unfolding all_produced
+produced_in t k _ (here rest) is = is_in_front t k.made (all_produced rest) is
+produced_in t k _ (later other rest is_one) is = in_after t other.made (all_produced rest) (produced_in t k rest is_one is)
+
+-- what holds of each of them holds of the last
+now_is : {N : Type 0} (one other : N) → Some one ≡ Some other → one ≡ other
+now_is one other e = cc
+
+from_first : {N : Type 0} (k : Conversation N) (rest : List (Conversation N)) (now : N) → last_now (Some k.now) rest ≡ Some now → (P : N → Type 0)
+    → ((j : Conversation N) → IsOneOf j (k ∷ rest) → P j.now) → P now
+unfolding last_now
+from_first k [] now e P each = subst P (now_is k.now now e) (each k (here []))
+from_first k (j ∷ rest) now e P each = from_first j rest now e P (λ i is. each i (later k (j ∷ rest) is))
+
+pub of_last : {N : Type 0} (all : List (Conversation N)) (now : N) → last_now None all ≡ Some now → (P : N → Type 0)
+    → ((k : Conversation N) → IsOneOf k all → P k.now) → P now
+unfolding last_now
+of_last [] now e P each = absurd cc
+of_last (k ∷ rest) now e P each = from_first k rest now e P each

@@ -154,7 +154,7 @@ module _ (setup : Setup) (last : WorldNow) (ps : List OfPeer) (ss : List OfServe
 
   -- ---- by EAP-PSK a tag that came back to the peer is none of its own
 
-  not_peers : last.conversations.fresh ≡ true → (p : OfPeer) → IsOneOf p ps → (asked : AsksAnother setup.peer (peer_nonce p) p.accepted p.made)
+  pub not_peers : last.conversations.fresh ≡ true → (p : OfPeer) → IsOneOf p ps → (asked : AsksAnother setup.peer (peer_nonce p) p.accepted p.made)
       → IsIn asked.asks.tag (tags_by end.Peer Made last.book) → ⊥
   not_peers fresh p is_one asked is =
       let m = made_in asked.asks.tag ps (subst (λ (l : List TagRecord). IsIn asked.asks.tag l) all.are.initial_peer is) in

@@ -14,13 +14,11 @@ use Rattle.tag_book.specs.Book.{first_broken, tags_verdict_either}
 use Rattle.eap_world.specs.Conversations.{front}
 use Rattle.eap_world.specs.Judgement.{is_success}
 use Rattle.world_laws.specs.Agreement.{AgreeAnew}
-use Rattle.world_laws.specs.Alone.{PeerIsAccepted}
 use Rattle.world_laws.specs.ByMethod.{PeerTags}
 use Rattle.world_laws.specs.PskPeerInvariant.{PskPeerTags, psk_unset, psk_fresh, psk_waits, psk_over, PskStarted, psk2_record}
 use Rattle.world_laws.specs.PskReflected.{ReflectedEndsAgree}
 use Rattle.world_laws.specs.Records.{IsIn, tags_by}
-use Rattle.world_laws.specs.TagOwners.{OnlyByServer, PeerTagOwner, ServerTagOwner}
-use Rattle.world_laws.proofs.Alone.{delivered_by}
+use Rattle.world_laws.specs.TagOwners.{OnlyByServer, PeerTagOwner}
 use Rattle.world_laws.proofs.Among.{among_one, among_two}
 use Rattle.world_laws.proofs.Asks.{AsksServer}
 use Rattle.world_laws.proofs.Conversing.{BothConverse, run_converses}
@@ -29,7 +27,7 @@ use Rattle.world_laws.proofs.FreshAgree.{agree_anew, peer_won}
 use Rattle.world_laws.proofs.HonestOfEither.{none_if_honest}
 use Rattle.world_laws.proofs.OneLogin.{first_is_in}
 use Rattle.world_laws.proofs.OneMethod.{apart}
-use Rattle.world_laws.proofs.PastConversations.{accepted_now, made_in, where_created}
+use Rattle.world_laws.proofs.PastConversations.{accepted_now, where_created}
 use Rattle.world_laws.proofs.PeerByMethod.{created_by_psk}
 use Rattle.world_laws.proofs.PskAgrees as psk_agrees
 use Rattle.world_laws.proofs.PskFields.{front_size}
@@ -42,7 +40,7 @@ use Rattle.eap_world.specs.World.{WorldNow}
 use Rattle.tag_book.specs.declared.book.End.TheVariants as end
 use Rattle.tag_book.specs.declared.book.RecordOwner.TheVariants.{Either}
 use Rattle.tag_book.specs.declared.book.TagsVerdict.TheVariants.{Honest}
-use Rattle.tag_book.specs.declared.book.Use.TheVariants.{Made}
+use Rattle.tag_book.specs.declared.book.Use.TheVariants.{Accepted, Made}
 
 -- ---- MAC_S among the tags of a conversation of the peer
 
@@ -110,7 +108,7 @@ asks_another setup nonce now _ _ size (with_gpsk login list pd is_selected in_gp
 -- ---- whose the tags are
 
 module _ (setup : Setup) (w : WorldNow) (h : BothConverse setup w) where
-  not_peers : w.conversations.fresh ≡ true → (asked : AsksAnother setup.peer h.peer_nonce h.peer.accepted h.peer.made)
+  pub not_peers : w.conversations.fresh ≡ true → (asked : AsksAnother setup.peer h.peer_nonce h.peer.accepted h.peer.made)
       → IsIn asked.asks.tag (tags_by end.Peer Made w.book) → ⊥
   not_peers fresh asked is =
       elim (where_created (PeerTagOwner setup.peer) _ _ _ _ h.peer asked.asks.tag is) [
@@ -120,13 +118,10 @@ module _ (setup : Setup) (w : WorldNow) (h : BothConverse setup w) where
             past.is_made)
       ]
 
-  -- the tag that a peer in SUCCESS by EAP-PSK asks is the server's
-  pub of_server : tags_verdict_either w.book ≡ Honest → w.conversations.fresh ≡ true → (asked : AsksAnother setup.peer h.peer_nonce h.peer.accepted h.peer.made)
-      → IsIn asked.asks.tag (tags_by end.Server Made w.book)
-  of_server honest fresh asked =
-      one_of ((honest_tags end.Peer w.book (none_if_honest (first_broken Either [] w.book) honest)).each asked.asks.tag
-      (accepted_now (PeerTagOwner setup.peer) _ _ _ _ h.peer asked.asks.tag (first_is_in asked.asks.tag asked.asks.rest h.peer.accepted asked.asks.first)))
-      (not_peers fresh asked)
+  -- the tag that a peer in SUCCESS by EAP-PSK asks is one that it accepted
+  pub asks_listed : (asked : AsksAnother setup.peer h.peer_nonce h.peer.accepted h.peer.made) → IsIn asked.asks.tag (tags_by end.Peer Accepted w.book)
+  asks_listed asked =
+      accepted_now (PeerTagOwner setup.peer) _ _ _ _ h.peer asked.asks.tag (first_is_in asked.asks.tag asked.asks.rest h.peer.accepted asked.asks.first)
 
   pub asks_present : is_success w.parties.peer.vars.state ≡ true → w.parties.peer.vars.selected ≡ Some psk_kind
       → AsksAnother setup.peer h.peer_nonce h.peer.accepted h.peer.made
@@ -140,18 +135,12 @@ reflected : (setup : Setup) (w : WorldNow) → BothConverse setup w → tags_ver
     → w.parties.peer.vars.selected ≡ Some psk_kind → AgreeAnew setup w
 reflected setup w h honest fresh p_in s_in by_psk =
     let asked = asks_present setup w h p_in by_psk in
-    agree_anew setup w h fresh p_in s_in asked.asks (of_server setup w h honest fresh asked) (of_peer setup w h honest)
+    let all = honest_tags end.Peer w.book (none_if_honest (first_broken Either [] w.book) honest) in
+    agree_anew setup w h fresh p_in s_in asked.asks
+    (one_of (all.each asked.asks.tag (asks_listed setup w h asked)) (not_peers setup w h fresh asked))
+    (λ t now is alien. of_peer setup w h honest t is alien) (λ t is same alien. of_peer setup w h honest t is alien)
 
 pub reflected_ends_agree : ReflectedEndsAgree
 reflected_ends_agree setup events whole = record {
   agrees = λ honest fresh p_in s_in by_psk. reflected setup (run_of setup events) (run_converses setup events whole) honest fresh p_in s_in by_psk;
 }
-
--- ---- the peer alone
-
-pub received_psk : (setup : Setup) (w : WorldNow) → BothConverse setup w → tags_verdict_either w.book ≡ Honest → w.conversations.fresh ≡ true
-    → is_success w.parties.peer.vars.state ≡ true → w.parties.peer.vars.selected ≡ Some psk_kind → PeerIsAccepted setup w
-received_psk setup w h honest fresh p_in by_psk =
-    let asked = asks_present setup w h p_in by_psk in
-    delivered_by setup w h (of_peer setup w h honest) fresh p_in asked.asks
-    (made_in (ServerTagOwner setup.server) _ _ _ _ h.server asked.asks.tag (of_server setup w h honest fresh asked))

@@ -17,7 +17,7 @@ use Rattle.world_laws.proofs.SucceedingEnds.{one_of}
 use Rattle.world_laws.proofs.TagsOfEnds.{honest_tags}
 
 module _ (setup : Setup) (w : WorldNow) (h : BothConverse setup w) where
-  not_servers : (t : TagRecord) → NotByServer setup.server t → IsIn t (tags_by end.Server Made w.book) → ⊥
+  pub not_servers : (t : TagRecord) → NotByServer setup.server t → IsIn t (tags_by end.Server Made w.book) → ⊥
   not_servers t alien is =
       elim (where_created (ServerTagOwner setup.server) _ _ _ _ h.server t is) [
         | inl now ↦ alien.none h.server_nonce h.server.held h.server.accepted h.server.made h.server.size h.server.told now

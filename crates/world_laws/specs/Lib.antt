@@ -18,6 +18,7 @@ pub mod PskReflected
 pub mod EachConversation
 pub mod Matching
 pub mod UnderKey
+pub mod PresentUnderKey
 pub mod Passing
 pub mod Forgery
 pub mod Downgrade

@@ -8,7 +8,7 @@ use Rattle.login_setup.specs.declared.event.Event.{Event}
 use Rattle.login_setup.specs.Users.{user_of}
 use Rattle.eap_method.specs.declared.values.Report.{Report}
 use Rattle.eap_method.specs.Peer.{key_for}
-use Rattle.server_machine.specs.ServerTable.{server_reports}
+use Rattle.server_machine.specs.ServerTable.{ServerNow, server_reports}
 use Rattle.tag_book.specs.declared.book.Entry.{Entry}
 use Rattle.tag_book.specs.declared.book.TagsVerdict.TheVariants.{Honest}
 use Rattle.tag_book.specs.Book.{tags_verdict, tags_verdict_either}
@@ -24,10 +24,10 @@ unfoldable pub under : List ℕ → List Entry → List Entry
 under key [] = []
 under key (e ∷ rest) = if bytes_eq e.tag.psk key then e ∷ under key rest else under key rest
 
--- what a conversation of the server reports is of a user of this key
-pub record IsOfKey (setup : Setup) (key : List ℕ) (s : OfServer) : Type 0 where
+-- what the server reports is of a user of this key
+pub record IsOfKey (setup : Setup) (key : List ℕ) (now : ServerNow) : Type 0 where
   pub report : Report
-  pub holds : server_reports s.now ≡ Some report
+  pub holds : server_reports now ≡ Some report
   pub user : User
   pub known : user_of setup.server.users report.id_p report.method ≡ Some user
   pub is_key : user.psk ≡ key
@@ -37,7 +37,7 @@ pub record MatchUnder (setup : Setup) (kind : ℕ) (w : WorldNow) (peers : List 
   pub peers_match : tags_verdict (under (key_for setup.peer kind) w.book) ≡ Honest → w.conversations.fresh ≡ true
       → (p : OfPeer) → IsOneOf p peers → is_success p.now.vars.state ≡ true → p.now.vars.selected ≡ Some kind → PeerMatches peers servers p
   pub servers_match : tags_verdict_either (under (key_for setup.peer kind) w.book) ≡ Honest → w.conversations.fresh ≡ true
-      → (s : OfServer) → IsOneOf s servers → is_success s.now.vars.state ≡ true → IsOfKey setup (key_for setup.peer kind) s → ServerMatches peers servers s
+      → (s : OfServer) → IsOneOf s servers → is_success s.now.vars.state ≡ true → IsOfKey setup (key_for setup.peer kind) s.now → ServerMatches peers servers s
   pub both_agree : tags_verdict (under (key_for setup.peer kind) w.book) ≡ Honest → w.conversations.fresh ≡ true
       → (p : OfPeer) → IsOneOf p peers → is_success p.now.vars.state ≡ true → p.now.vars.selected ≡ Some kind
       → (s : OfServer) → IsOneOf s servers → is_success s.now.vars.state ≡ true

@@ -9,6 +9,7 @@ ghost use Rattle.world_laws.specs.Fresh.{FreshnessIsExact};
 ghost use Rattle.world_laws.specs.Laws.{DiscardsChangeNothing, ReportsAreTraced, SkipsChangeNothing};
 ghost use Rattle.world_laws.specs.Matching.{ConversationsAreAll, ConversationsMatch};
 ghost use Rattle.world_laws.specs.Passing.{PassCarries, PassIsAlone, PassIsDelivered, PassLearnsNothing};
+ghost use Rattle.world_laws.specs.PresentUnderKey.{EndsAgreeUnder, OneEndImpliesUnder};
 ghost use Rattle.world_laws.specs.PskReflected.{ReflectedEndsAgree};
 ghost use Rattle.world_laws.specs.SingleSteps.{StepsAreLawful};
 ghost use Rattle.world_laws.specs.UnderKey.{ConversationsMatchUnder, HonestUnder};
@@ -74,7 +75,8 @@ pub fn honest_names_are_theirs()
 /// joined, as MAC_P covers them (RFC 4764 section 5.2). If the other end made each accepted tag, and no end has
 /// begun a second conversation, to the same ones by either method.
 ///
-/// By EAP-GPSK they have all 32 octets of each other's nonces, by EAP-PSK the 16 that are all it has of them.
+/// By EAP-GPSK they have all 32 octets of each other's nonces, by EAP-PSK the 16 that are all it has of them. The other end's
+/// conversation is one of those of [`conversations_are_all`].
 ///
 /// It doesn't say that the other end has succeeded too, or will.
 pub fn one_end_implies()
@@ -116,6 +118,22 @@ pub fn conversations_match()
 /// asked of those under the key that the peer has for a method, and of no other.
 pub fn conversations_match_under_a_key()
     ensures { ConversationsMatchUnder }
+{}
+
+/// What [`honest_ends_agree`] and [`honest_names_are_theirs`] say, whatever the server's other users do: of the tags it is asked only that
+/// each accepted one under the key which the peer has for its method was made earlier by the other end. Two ends in SUCCESS then agree, on
+/// names, key and suite that are their own, if the server's success is of a user of that key, and no end has begun a second conversation
+/// or nonces are fresh; with fresh nonces each has the other's nonce. As long as no end has begun a second conversation, the server's
+/// success *is* of a user of that key, and reflected tags do no harm if it is; by EAP-PSK they do none with fresh nonces either.
+pub fn ends_agree_under_a_key()
+    ensures { EndsAgreeUnder }
+{}
+
+/// What [`one_end_implies`] says, whatever the server's other users do: of the tags under the peer's key for a method alone it is asked that
+/// the other end made each accepted one, or either end. It speaks of a peer that has succeeded by that method, and of a server whose
+/// success is of a user of that key.
+pub fn one_end_implies_under_a_key()
+    ensures { OneEndImpliesUnder }
 {}
 
 /// What [`conversations_match_under_a_key`] asks of tags follows from what [`conversations_match`] asks.
