@@ -163,6 +163,8 @@ pub mod KeyedTags
 pub mod UnderKey
 -- Two present ends in SUCCESS agree, and one end's success tells of the other, if the tags under the peer's key are honest.
 pub mod PresentUnderKey
+-- Both ends of one login make one Session-Id, and no two logins of the peer with fresh nonces do.
+pub mod SessionIds
 -- A book that is honest is honest under each key.
 pub mod HonestUnder
 -- Each tag that a conversation accepted or made is the right MAC of its octets, under a key that the conversation derives.

@@ -19,6 +19,7 @@ pub mod EachConversation
 pub mod Matching
 pub mod UnderKey
 pub mod PresentUnderKey
+pub mod SessionIds
 pub mod Passing
 pub mod Forgery
 pub mod Downgrade

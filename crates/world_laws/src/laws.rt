@@ -11,6 +11,7 @@ ghost use Rattle.world_laws.specs.Matching.{ConversationsAreAll, ConversationsMa
 ghost use Rattle.world_laws.specs.Passing.{PassCarries, PassIsAlone, PassIsDelivered, PassLearnsNothing};
 ghost use Rattle.world_laws.specs.PresentUnderKey.{EndsAgreeUnder, OneEndImpliesUnder};
 ghost use Rattle.world_laws.specs.PskReflected.{ReflectedEndsAgree};
+ghost use Rattle.world_laws.specs.SessionIds.{SessionIdsMatch};
 ghost use Rattle.world_laws.specs.SingleSteps.{StepsAreLawful};
 ghost use Rattle.world_laws.specs.UnderKey.{ConversationsMatchUnder, HonestUnder};
 
@@ -147,6 +148,14 @@ pub fn honest_under_a_key()
 /// are at most two each.
 pub fn conversations_are_all()
     ensures { ConversationsAreAll }
+{}
+
+/// The Session-Id of a login (RFC 5247 section 1.4). Two conversations in SUCCESS that rest on each other, as [`conversations_match`] finds
+/// them, make it of the same report and the same nonces, so that it is equal, whichever key EAP-GPSK's KDF is given. Any two conversations
+/// of the peer whose methods have succeeded make it of others, if nonces are fresh: by EAP-PSK the two Session-Ids differ, by EAP-GPSK
+/// what the KDF derives them from does (RFC 5433 section 4). That its 16 octets differ then isn't proved of any KDF.
+pub fn session_ids_match()
+    ensures { SessionIdsMatch }
 {}
 
 /// An end whose settings have no later nonces begins no second conversation: then both ends have begun one each in every run.
