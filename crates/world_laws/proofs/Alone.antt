@@ -1,7 +1,6 @@
 -- What one end's success tells by itself of the other end.
-use Rattle.std.proofs.Common.{Option, ◌≡◌, List, [], true, Some, sym, ap, subst, ◌∙◌}
+use Rattle.std.proofs.Common.{Option, ◌≡◌, List, true, Some, sym, ap, subst, ◌∙◌}
 use Rattle.login_setup.specs.declared.setup.Setup.{Setup}
-use Rattle.octet_lists.specs.Among.{psk_kind}
 use Rattle.eap_method.specs.declared.tags.TagRecord.{TagRecord}
 use Rattle.eap_method.specs.declared.values.Report.{Report}
 use Rattle.peer_machine.specs.PeerTable as peers

@@ -19,7 +19,7 @@ use Rattle.world_laws.specs.PeerInvariant.{PeerInvariant}
 use Rattle.world_laws.specs.Records.{tags_by}
 use Rattle.world_laws.specs.ServerInvariant.{ServerInvariant}
 use Rattle.world_laws.proofs.Alone.{knows, peer_tells, server_tells}
-use Rattle.world_laws.proofs.Conversing.{BothConverse, run_converses, start_converses, starts_so}
+use Rattle.world_laws.proofs.Conversing.{BothConverse, start_converses, starts_so}
 use Rattle.world_laws.proofs.EachOf.{Told, walk}
 use Rattle.world_laws.proofs.EachTurn.{PeerWell, ServerWell, converses_on, grow, peer_nonce_of, peer_turns, peer_used, server_nonce_of, server_turns, server_used}
 use Rattle.world_laws.proofs.EndInvariants.{every_run_so_far, invariant_first}

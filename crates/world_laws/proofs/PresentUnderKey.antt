@@ -13,15 +13,14 @@ use Rattle.tag_book.specs.Book.{tags_verdict, tags_verdict_either}
 use Rattle.tag_book.specs.declared.book.End.TheVariants as end
 use Rattle.tag_book.specs.declared.book.TagsVerdict.TheVariants.{Honest}
 use Rattle.tag_book.specs.declared.book.Use.TheVariants.{Accepted, Made}
-use Rattle.eap_world.specs.Judgement.{is_success, verdict_of}
-use Rattle.eap_world.specs.declared.verdict.Verdict.TheVariants.{Apart}
+use Rattle.eap_world.specs.Judgement.{is_success}
 use Rattle.eap_world.specs.Run.{run_of}
 use Rattle.eap_world.specs.World.{WorldNow}
 use Rattle.world_laws.specs.Agreement.{AgreeAnew, AreApart, IsWhole}
 use Rattle.world_laws.specs.Alone.{PeerKnows}
-use Rattle.world_laws.specs.EachConversation.{IsOneOf, OfPeer, OfServer, peer_conversations, peer_nonce, server_conversations}
-use Rattle.world_laws.specs.Matching.{PeerMatches, RestsOn, ServerRests}
-use Rattle.world_laws.specs.PresentUnderKey.{AgreeOnTheirs, AgreesUnder, EndsAgreeUnder, ImpliedUnder, OneEndImpliesUnder, SucceedBy}
+use Rattle.world_laws.specs.EachConversation.{IsOneOf, OfPeer, OfServer, peer_nonce}
+use Rattle.world_laws.specs.Matching.{PeerMatches, ServerRests}
+use Rattle.world_laws.specs.PresentUnderKey.{AgreeOnTheirs, EndsAgreeUnder, OneEndImpliesUnder, SucceedBy}
 use Rattle.world_laws.specs.Records.{IsIn, tags_by}
 use Rattle.world_laws.specs.TagOwners.{NotByServer, PeerTagOwner}
 use Rattle.world_laws.specs.UnderKey.{IsOfKey, under}

@@ -1,7 +1,6 @@
 -- Both ends of one login make one Session-Id, and no two logins of the peer with fresh nonces do.
-use Rattle.std.proofs.Common.{◌≡◌, ℕ, ◌≤◌, List, ◌∷◌, ◌++◌, length, true, false, Option, Some, refl, sym, ap, subst, ◌∙◌, arith}
+use Rattle.std.proofs.Common.{◌≡◌, ℕ, List, ◌∷◌, length, true, false, Option, Some, refl, sym, ap, subst, ◌∙◌, arith}
 use Rattle.std.specs.Prelude.{codes}
-use Rattle.login_setup.specs.declared.event.Event.{Event}
 use Rattle.login_setup.specs.declared.setup.PeerSetup.{PeerSetup}
 use Rattle.login_setup.specs.declared.setup.ServerSetup.{ServerSetup}
 use Rattle.login_setup.specs.declared.setup.Setup.{Setup}
@@ -11,7 +10,6 @@ use Rattle.octet_lists.specs.declared.suite.Suite.{Suite}
 use Rattle.eap_method.specs.declared.tags.TagRecord.{TagRecord}
 use Rattle.eap_method.specs.declared.values.Report.{Report}
 use Rattle.eap_method.specs.GpskPeer as gpsk_peer
-use Rattle.eap_method.specs.Peer.{PeerViews}
 use Rattle.eap_method.specs.PskPeer as psk_peer
 use Rattle.eap_method.specs.PskTags.{rand_of}
 use Rattle.peer_machine.specs.PeerTable as peers
@@ -27,7 +25,7 @@ use Rattle.world_laws.specs.EachConversation.{AreTwoOf, IsOneOf, OfPeer, OfServe
 use Rattle.world_laws.specs.GpskPeerInvariant as gpsk_stands
 use Rattle.world_laws.specs.Matching.{RestsOn}
 use Rattle.world_laws.specs.PskPeerInvariant as psk_stands
-use Rattle.world_laws.specs.SessionIds.{AreOfTwo, HaveOneSession, HaveSessions, SessionIdsMatch, SessionOf, gpsk_peer_session, gpsk_server_session, method_id_input, peer_session, peer_session_of, psk_peer_session, psk_server_session, psk_session_id, server_session, server_session_of, session_id}
+use Rattle.world_laws.specs.SessionIds.{AreOfTwo, HaveOneSession, SessionIdsMatch, SessionOf, gpsk_peer_session, gpsk_server_session, method_id_input, peer_session, peer_session_of, psk_peer_session, psk_server_session, psk_session_id, server_session, server_session_of, session_id}
 use Rattle.world_laws.proofs.Conversations.{run_known}
 use Rattle.world_laws.proofs.Fields.{fronts}
 use Rattle.world_laws.proofs.GpskAgrees as gpsk
