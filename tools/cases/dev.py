@@ -159,7 +159,7 @@ TURNS = [
     ("wrong --texts", A, "", FRONT, f"{A}: it changes nothing"),
     ("wrong --texts", A, "", f"{FRONT}old: n + n\n", f"{A}: its last old: text has no new: text"),
     ("wrong --texts", A, "", f"{FRONT}more\n", f"{A}: this line isn't of the form: more"),
-    ("wrong --texts", A, "", "file: specs/Even.antt\n", f"{A}: specs/Even.antt is no file of the crate's src/"),
+    ("wrong --texts", A, "", "file: proofs/Facts.antt\n", f"{A}: proofs/Facts.antt is no file of the crate's src/ or specs/"),
     ("wrong --texts", "wrong/small/double.edit", "", FRONT, "wrong/small/double.edit: its name isn't FUNCTION__what.edit"),
     ("wrong --texts", "wrong/none/a__b.edit", "", FRONT, "wrong/none/a__b.edit: it is no edit of a crate"),
     ("wrong --texts", "crates/small/must-fail/double__is_0.edit", "", TEXTS[EDIT], f"{EDIT}: an edit of this name stands in must-fail/ too"),
