@@ -73,13 +73,12 @@ impl PassThrough {
 
     /// INITIALIZE (RFC 4137 section 5.5): proposes Identity and writes its Request, with the first
     /// Identifier, into `packet`; it goes to the peer. The pass-through has not started.
-    #[tactic(auto, unfolding(crate::specs::PassTable::pass_restart))]
     pub fn start_step(&mut self, packet: &mut Packet) -> Step
         requires { is_started self.old.state ≡ false }
         ensures step { pass_start self.old ≡ answer (step_to Peer result packet.new) self.new }
         ensures own { packet.new ≡ identity_request self.old.first_id }
     {
-        self.restart_step(packet)
+        self.initialize(packet)
     }
 
     /// Restarts, in any state: its variables are as INITIALIZE sets them, and it asks for the identity
@@ -87,6 +86,15 @@ impl PassThrough {
     #[tactic(auto, unfolding(crate::specs::PassTable::pass_restart, crate::specs::PassTable::pass_start))]
     pub fn restart_step(&mut self, packet: &mut Packet) -> Step
         ensures step { pass_restart self.old ≡ answer (step_to Peer result packet.new) self.new }
+        ensures own { packet.new ≡ identity_request self.old.first_id }
+    {
+        self.initialize(packet)
+    }
+
+    /// INITIALIZE, and then the Identity Request.
+    #[tactic(auto, unfolding(crate::specs::PassTable::pass_start))]
+    fn initialize(&mut self, packet: &mut Packet) -> Step
+        ensures step { pass_start self.old ≡ answer (step_to Peer result packet.new) self.new }
         ensures own { packet.new ≡ identity_request self.old.first_id }
     {
         write_identity_request(packet, self.vars.first_id);
@@ -199,7 +207,8 @@ impl PassThrough {
         ensures after { self.new ≡ (pass_start self.old).after }
     {
         let mut packet = Packet::new();
-        PassStep::to_peer(self.start_step(&mut packet), packet)
+        let step = self.start_step(&mut packet);
+        PassStep::to_peer(step, packet)
     }
 
     /// [`from_peer_step`](PassThrough::from_peer_step), with the packet in its answer.
@@ -208,7 +217,8 @@ impl PassThrough {
         ensures after { self.new ≡ (pass_from_peer self.old octets.now).after }
     {
         let mut packet = Packet::new();
-        PassStep::to_server(self.from_peer_step(octets, &mut packet), packet)
+        let step = self.from_peer_step(octets, &mut packet);
+        PassStep::to_server(step, packet)
     }
 
     /// [`from_backend_step`](PassThrough::from_backend_step), with the packet in its answer.
@@ -217,7 +227,8 @@ impl PassThrough {
         ensures after { self.new ≡ (pass_from_backend self.old octets.now).after }
     {
         let mut packet = Packet::new();
-        PassStep::to_peer(self.from_backend_step(octets, &mut packet), packet)
+        let step = self.from_backend_step(octets, &mut packet);
+        PassStep::to_peer(step, packet)
     }
 
     /// [`timeout_step`](PassThrough::timeout_step), with the packet in its answer.
@@ -227,7 +238,8 @@ impl PassThrough {
         ensures after { self.new ≡ (pass_timeout self.old).after }
     {
         let mut packet = Packet::new();
-        PassStep::to_peer(self.timeout_step(&mut packet), packet)
+        let step = self.timeout_step(&mut packet);
+        PassStep::to_peer(step, packet)
     }
 
     /// [`aaa_timeout_step`](PassThrough::aaa_timeout_step), with the packet in its answer.
@@ -236,7 +248,8 @@ impl PassThrough {
         ensures step { result ≡ plain_step (pass_aaa_timeout self.old).step }
         ensures after { self.new ≡ (pass_aaa_timeout self.old).after }
     {
-        PassStep::to_peer(self.aaa_timeout_step(), Packet::new())
+        let step = self.aaa_timeout_step();
+        PassStep::to_peer(step, Packet::new())
     }
 
     /// [`aaa_noreq_step`](PassThrough::aaa_noreq_step), with the packet in its answer.
@@ -245,7 +258,8 @@ impl PassThrough {
         ensures step { result ≡ plain_step (pass_aaa_noreq self.old).step }
         ensures after { self.new ≡ (pass_aaa_noreq self.old).after }
     {
-        PassStep::to_peer(self.aaa_noreq_step(), Packet::new())
+        let step = self.aaa_noreq_step();
+        PassStep::to_peer(step, Packet::new())
     }
 
     /// The pass-through's state.
