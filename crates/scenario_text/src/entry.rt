@@ -53,67 +53,35 @@ pub fn item_of(keyword: Keyword, line: &[u8], event: &mut Event) -> Entry
 {
     let first = word_in(line, 1);
     match keyword {
-        Keyword::Events => Entry::Events,
-        Keyword::End => Entry::End,
-        Keyword::Deliver => {
-            *event = Event::Deliver {
-                number: number(first),
-            };
-            Entry::Happens
-        }
-        Keyword::Alter => {
-            *event = Event::Alter {
-                number: number(first),
-                place: number(word_in(line, 2)) as u16,
-                mask: number(word_in(line, 3)) as u8,
-            };
-            Entry::Happens
-        }
-        Keyword::Cut => {
-            *event = Event::Cut {
-                number: number(first),
-                keep: number(word_in(line, 2)) as u16,
-            };
-            Entry::Happens
-        }
-        Keyword::Timeout => {
-            *event = Event::Timeout {
-                party: party_of(first),
-            };
-            Entry::Happens
-        }
-        Keyword::AaaTimeout => {
-            *event = Event::AaaTimeout;
-            Entry::Happens
-        }
-        Keyword::AaaNoReq => {
-            *event = Event::AaaNoReq;
-            Entry::Happens
-        }
-        Keyword::Idle => {
-            *event = Event::Idle;
-            Entry::Happens
-        }
-        Keyword::AltAccept => {
-            *event = Event::AltAccept;
-            Entry::Happens
-        }
-        Keyword::AltReject => {
-            *event = Event::AltReject;
-            Entry::Happens
-        }
-        Keyword::Restart => {
-            *event = Event::Restart {
-                party: party_of(first),
-            };
-            Entry::Happens
-        }
-        Keyword::Inject => {
-            inject(line, event);
-            Entry::Happens
-        }
-        _ => set_by(keyword, line),
+        Keyword::Events => return Entry::Events,
+        Keyword::End => return Entry::End,
+        Keyword::Deliver => *event = Event::Deliver {
+            number: number(first),
+        },
+        Keyword::Alter => *event = Event::Alter {
+            number: number(first),
+            place: number(word_in(line, 2)) as u16,
+            mask: number(word_in(line, 3)) as u8,
+        },
+        Keyword::Cut => *event = Event::Cut {
+            number: number(first),
+            keep: number(word_in(line, 2)) as u16,
+        },
+        Keyword::Timeout => *event = Event::Timeout {
+            party: party_of(first),
+        },
+        Keyword::AaaTimeout => *event = Event::AaaTimeout,
+        Keyword::AaaNoReq => *event = Event::AaaNoReq,
+        Keyword::Idle => *event = Event::Idle,
+        Keyword::AltAccept => *event = Event::AltAccept,
+        Keyword::AltReject => *event = Event::AltReject,
+        Keyword::Restart => *event = Event::Restart {
+            party: party_of(first),
+        },
+        Keyword::Inject => inject(line, event),
+        _ => return set_by(keyword, line),
     }
+    Entry::Happens
 }
 
 /// Writes the injection that a line gives. (By itself, so that no other line makes room for its octets.)
