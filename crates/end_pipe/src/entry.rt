@@ -22,30 +22,16 @@ pub fn entry_of(word: EndWord, line: &[u8], input: &mut EndInput) -> Entry
     ensures { entry_of word (words line.now) ≡ entry_with result input.new }
 {
     match word {
-        EndWord::Setting(keyword) => setting_entry(keyword, line),
-        EndWord::Events => Entry::Events,
-        EndWord::Packet => {
-            *input = EndInput::Octets(octets(word_in(line, 1)));
-            Entry::Happens
-        }
-        EndWord::Timeout => {
-            *input = EndInput::Timeout;
-            Entry::Happens
-        }
-        EndWord::Idle => {
-            *input = EndInput::Idle;
-            Entry::Happens
-        }
-        EndWord::AltAccept => {
-            *input = EndInput::AltAccept;
-            Entry::Happens
-        }
-        EndWord::AltReject => {
-            *input = EndInput::AltReject;
-            Entry::Happens
-        }
-        EndWord::End => Entry::End,
+        EndWord::Setting(keyword) => return setting_entry(keyword, line),
+        EndWord::Events => return Entry::Events,
+        EndWord::End => return Entry::End,
+        EndWord::Packet => *input = EndInput::Octets(octets(word_in(line, 1))),
+        EndWord::Timeout => *input = EndInput::Timeout,
+        EndWord::Idle => *input = EndInput::Idle,
+        EndWord::AltAccept => *input = EndInput::AltAccept,
+        EndWord::AltReject => *input = EndInput::AltReject,
     }
+    Entry::Happens
 }
 
 /// What a setting says with the words of its line. (By itself, so that no other line makes room for an event.)
