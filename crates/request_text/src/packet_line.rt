@@ -19,8 +19,5 @@ pub fn read_packet_line(line: &[u8]) -> Result<Option<Octets<2000>>, LineFault>
     if word_count(line) != 1 {
         return Err(LineFault::BadCount);
     }
-    match read_hex(line) {
-        Ok(octets) => Ok(Some(octets)),
-        Err(fault) => Err(fault),
-    }
+    Ok(Some(read_hex(line)?))
 }
