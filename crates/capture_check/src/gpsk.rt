@@ -33,12 +33,9 @@ fn is_astray(to_peer: bool, view: &GpskMessage) -> bool
     ensures { result ≡ is_gpsk_astray to_peer (message_of view.now) }
 {
     match view {
-        GpskMessage::M1(_) => !to_peer,
-        GpskMessage::M2(_) => to_peer,
-        GpskMessage::M3(_) => !to_peer,
-        GpskMessage::M4(_) => to_peer,
-        GpskMessage::Fail { .. } => false,
-        GpskMessage::ProtectedFail { .. } => false,
+        GpskMessage::M1(_) | GpskMessage::M3(_) => !to_peer,
+        GpskMessage::M2(_) | GpskMessage::M4(_) => to_peer,
+        GpskMessage::Fail { .. } | GpskMessage::ProtectedFail { .. } => false,
     }
 }
 
@@ -71,18 +68,13 @@ fn login_in(users: &Users, gpsk2: &Gpsk2) -> Option<GpskLogin>
         suite,
         ..
     } = gpsk2;
-    match users.find(id_p, GPSK_KIND) {
-        None => None,
-        Some(user) => {
-            let suite = *suite;
-            let keys = gpsk_keys(suite, user.psk.as_slice(), rand_p, id_p, rand_s, id_s);
-            Some(GpskLogin {
-                name: user.name.copy(),
-                suite,
-                sk: keys.sk,
-            })
-        }
-    }
+    let user = users.find(id_p, GPSK_KIND)?;
+    let keys = gpsk_keys(*suite, user.psk.as_slice(), rand_p, id_p, rand_s, id_s);
+    Some(GpskLogin {
+        name: user.name.copy(),
+        suite: *suite,
+        sk: keys.sk,
+    })
 }
 
 /// The finding of a GPSK-2 of this login, which is kept if the MAC is right.
@@ -111,13 +103,8 @@ fn follow(login: &Option<GpskLogin>, view: &GpskMessage, body: &[u8]) -> Finding
 {
     match login {
         None => Finding::NoContext,
-        Some(login) => {
-            if is_tagged(login, view, body) {
-                Finding::TagGood(login.name.copy())
-            } else {
-                Finding::TagBad
-            }
-        }
+        Some(login) if is_tagged(login, view, body) => Finding::TagGood(login.name.copy()),
+        Some(_) => Finding::TagBad,
     }
 }
 
@@ -159,12 +146,7 @@ pub fn judge_body(
 {
     match read_gpsk_message(body, None) {
         Err(cause) => Finding::Malformed(cause),
-        Ok(view) => {
-            if is_astray(to_peer, &view) {
-                Finding::Malformed(Cause::WrongOp)
-            } else {
-                judge(login, users, &view, body)
-            }
-        }
+        Ok(view) if is_astray(to_peer, &view) => Finding::Malformed(Cause::WrongOp),
+        Ok(view) => judge(login, users, &view, body),
     }
 }

@@ -48,10 +48,8 @@ fn is_astray(to_peer: bool, view: &PskMessage) -> bool
     ensures { result ≡ is_psk_astray to_peer (message_of view.now) }
 {
     match view {
-        PskMessage::P1(_) => !to_peer,
-        PskMessage::P2(_) => to_peer,
-        PskMessage::P3(_) => !to_peer,
-        PskMessage::P4(_) => to_peer,
+        PskMessage::P1(_) | PskMessage::P3(_) => !to_peer,
+        PskMessage::P2(_) | PskMessage::P4(_) => to_peer,
     }
 }
 
@@ -106,16 +104,13 @@ fn begin(users: &Users, psk1: &Option<StoredPsk1>, psk2: &Psk2) -> Result<PskLog
         psk2.now.rand_s psk2.now.rand_p psk2.now.mac psk2.now.id_p.now }
 {
     match psk1 {
-        None => Err(Finding::NoContext),
-        Some(psk1) => {
-            if psk2.rand_s.as_slice() != psk1.rand_s.as_slice() {
-                return Err(Finding::NoContext);
-            }
+        Some(psk1) if psk2.rand_s.as_slice() == psk1.rand_s.as_slice() => {
             match users.find(psk2.id_p, PSK_KIND) {
                 None => Err(Finding::NoKey),
                 Some(user) => start_psk_login(user, psk1, psk2),
             }
         }
+        _ => Err(Finding::NoContext),
     }
 }
 
@@ -227,12 +222,7 @@ pub fn judge_body(
 {
     match read_psk_message(body) {
         Err(cause) => Finding::Malformed(cause),
-        Ok(view) => {
-            if is_astray(to_peer, &view) {
-                Finding::Malformed(Cause::WrongOp)
-            } else {
-                judge(kept, users, header_of(octets), &view)
-            }
-        }
+        Ok(view) if is_astray(to_peer, &view) => Finding::Malformed(Cause::WrongOp),
+        Ok(view) => judge(kept, users, header_of(octets), &view),
     }
 }
