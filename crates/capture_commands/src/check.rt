@@ -24,11 +24,7 @@ pub struct Check {
 pub fn is_counted(finding: &Finding) -> bool
     ensures { result ≡ is_counted finding.now }
 {
-    match finding {
-        Finding::Malformed(_) => true,
-        Finding::TagBad => true,
-        _ => false,
-    }
+    matches!(finding, Finding::Malformed(_) | Finding::TagBad)
 }
 
 impl Check {
@@ -77,15 +73,11 @@ impl Check {
     fn end<W: Sink>(&self, sink: &mut W) -> Result<Close, Failed>
         ensures { AnswersEnd W.shown result sink.old sink.new (check_end self.now.packets self.now.findings (Ok tt)) }
     {
-        match write_finding_counts(sink, self.packets, self.findings) {
-            Ok(()) => {
-                if self.findings == 0 {
-                    Ok(Close::Ends(Status::Done))
-                } else {
-                    Ok(Close::Ends(Status::Findings))
-                }
-            }
-            Err(fault) => Err(fault),
+        write_finding_counts(sink, self.packets, self.findings)?;
+        if self.findings == 0 {
+            Ok(Close::Ends(Status::Done))
+        } else {
+            Ok(Close::Ends(Status::Findings))
         }
     }
 }

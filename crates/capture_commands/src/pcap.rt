@@ -31,14 +31,8 @@ pub fn read_pcap(words: &Vec<String>, users: &mut Users) -> bool
     ensures { read_as result users.new ≡ pcap_users (map string_bytes words.now.items) }
 {
     match words.as_slice() {
-        [word, rest @ ..] => {
-            if word.as_str() == "pcap" {
-                read_users(rest, users)
-            } else {
-                false
-            }
-        }
-        [] => false,
+        [word, rest @ ..] if word.as_str() == "pcap" => read_users(rest, users),
+        _ => false,
     }
 }
 

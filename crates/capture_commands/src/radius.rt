@@ -1,6 +1,6 @@
 //! The command `radius`: writes RADIUS packets that carry EAP, reads them and judges them.
 
-ghost use Rattle.std.specs.Prelude.{◌≡◌, ◌≢◌, ◌≤◌, false, length, Some};
+ghost use Rattle.std.specs.Prelude.{◌≡◌, ◌≢◌, ◌≤◌, false, length};
 ghost use Rattle.radius_carry.specs.Packet as packets;
 ghost use Rattle.radius_carry.specs.Packet.{IsRadius};
 ghost use Rattle.radius_carry.specs.Fault.{value_of};
@@ -77,32 +77,7 @@ fn judgement_word(judgement: Judgement) -> &'static [u8]
 }
 
 /// Writes the kind of a packet, its Identifier, its EAP packet and what is found of it, in one line.
-#[tactic(auto, unfolding(crate::specs::Radius::read_text))]
-fn write_read<'a, W: Sink>(
-    sink: &mut W,
-    kind: &'a [u8],
-    id: u8,
-    eap: &'a [u8],
-    found: &'a [u8],
-) -> Result<(), Failed>
-    ensures { Appends W.shown result sink.old sink.new (read_text kind.now id eap.now found.now) }
-{
-    write_pieces(
-        sink,
-        &[
-            Text(b"read "),
-            Text(kind),
-            Number(b" id ", u64::from(id)),
-            Hex(b" eap ", eap),
-            Text(b" "),
-            Text(found),
-            Text(b"\n"),
-        ],
-    )
-}
-
-/// Writes what a packet is, in one line.
-#[tactic(auto, unfolding(radius_carry::specs::Fault::value_of))]
+#[tactic(auto, unfolding(crate::specs::Radius::read_text, radius_carry::specs::Fault::value_of))]
 fn write_packet<W: Sink>(
     sink: &mut W,
     view: &RadiusView,
@@ -112,12 +87,17 @@ fn write_packet<W: Sink>(
     ensures { Appends W.shown result sink.old sink.new (packet_line (value_of view.now) judgement) }
 {
     let eap = eap_of(view);
-    write_read(
+    write_pieces(
         sink,
-        kind_word(view.kind),
-        view.id,
-        eap.as_slice(),
-        judgement_word(judgement),
+        &[
+            Text(b"read "),
+            Text(kind_word(view.kind)),
+            Number(b" id ", u64::from(view.id)),
+            Hex(b" eap ", eap.as_slice()),
+            Text(b" "),
+            Text(judgement_word(judgement)),
+            Text(b"\n"),
+        ],
     )
 }
 
@@ -144,29 +124,18 @@ fn good_or_bad(is_good: bool) -> Judgement
     }
 }
 
-/// What a reply is to the request that is kept.
-#[tactic(auto, unfolding(radius_carry::specs::Fault::value_of))]
-fn judged_for(secret: &[u8], asked: &PendingRequest, view: &RadiusView) -> Judgement
-    requires secret { length secret.now ≤ 64 }
-    requires radius { IsRadius (value_of view.now) view.now.whole.now }
-    ensures { result ≡ reply_judged secret.now (Some asked.now) (value_of view.now) }
-{
-    if asked.id == view.id {
-        good_or_bad(reply_good(secret, &asked.authenticator, view))
-    } else {
-        Judgement::NoRequest
-    }
-}
-
 /// What a reply is, under the secret and after the request that is kept.
+#[tactic(auto, unfolding(radius_carry::specs::Fault::value_of))]
 fn judged_reply(secret: &[u8], asked: &Option<PendingRequest>, view: &RadiusView) -> Judgement
     requires secret { length secret.now ≤ 64 }
     requires radius { IsRadius (value_of view.now) view.now.whole.now }
     ensures { result ≡ reply_judged secret.now asked.now (value_of view.now) }
 {
     match asked {
-        Some(asked) => judged_for(secret, asked, view),
-        None => Judgement::NoRequest,
+        Some(asked) if asked.id == view.id => {
+            good_or_bad(reply_good(secret, &asked.authenticator, view))
+        }
+        _ => Judgement::NoRequest,
     }
 }
 
