@@ -22,10 +22,7 @@ pub struct Decode {
 fn starts_with_none(octets: &[u8]) -> bool
     ensures { result ≡ is_malformed octets.now }
 {
-    match decode(octets) {
-        Ok(_) => false,
-        Err(_) => true,
-    }
+    decode(octets).is_err()
 }
 
 impl Decode {
@@ -88,10 +85,8 @@ impl Command for Decode {
 
     #[tactic(auto, unfolding(crate::specs::Decode::decode_closing, answer_text::specs::Writes::Appends))]
     fn close<W: Sink>(&self, sink: &mut W) -> Result<Close, Failed> {
-        match write_packet_counts(sink, self.packets, self.malformed) {
-            Ok(()) => Ok(Close::Ends(Status::Done)),
-            Err(fault) => Err(fault),
-        }
+        write_packet_counts(sink, self.packets, self.malformed)?;
+        Ok(Close::Ends(Status::Done))
     }
 }
 
