@@ -141,7 +141,8 @@ fn write_party<W: Sink>(
     send(sink, &mut line)
 }
 
-/// Writes the line of the packet that was sent, if there was one.
+/// Writes the line of the packet that was sent, if there was one: its number and port, then its Code,
+/// Identifier, Type and length in octets. A Success and a Failure have no Type (RFC 3748 section 4.2).
 fn write_sent<W: Sink>(
     sink: &mut W,
     event: u32,
@@ -150,22 +151,9 @@ fn write_sent<W: Sink>(
 ) -> Result<(), Failed>
     ensures { Appends W.shown result sink.old sink.new (sent_text event octets.now sent.now) }
 {
-    match sent {
-        None => write_nothing(sink),
-        Some(packet) => write_packet_line(sink, event, octets, packet),
-    }
-}
-
-/// Writes the line of a packet: its number and port, then its Code, Identifier, Type and length in
-/// octets. A Success and a Failure have no Type (RFC 3748 section 4.2).
-fn write_packet_line<W: Sink>(
-    sink: &mut W,
-    event: u32,
-    octets: &[u8],
-    sent: &SentNumber,
-) -> Result<(), Failed>
-    ensures { Appends W.shown result sink.old sink.new (sent_text event octets.now (Some sent.now)) }
-{
+    let Some(sent) = sent else {
+        return write_nothing(sink);
+    };
     let code = octet_at(octets, 0);
     let has_type = code <= 2;
     let kind = octet_at(octets, 4);
