@@ -135,13 +135,10 @@ impl<M, E: CanStart<M>> End<M, E> {
           closed = ends Status.Done;
         }) }
     {
-        match &self.pipe {
-            None => Ok(Close::Ends(Status::Done)),
-            Some(pipe) => match write_last(sink, pipe.state()) {
-                Ok(()) => Ok(Close::Ends(Status::Done)),
-                Err(fault) => Err(fault),
-            },
+        if let Some(pipe) = &self.pipe {
+            write_last(sink, pipe.state())?;
         }
+        Ok(Close::Ends(Status::Done))
     }
 }
 
