@@ -38,12 +38,8 @@ pub fn bulk_of(words: &Vec<String>) -> Option<Bulk>
     ensures few { IfSome result (λ bulk. bulk.count ≤ max_count) }
 {
     match words.as_slice() {
-        [word, number, count] => {
-            if word.as_str() == "bulk" {
-                read_bulk(number.as_bytes(), count.as_bytes())
-            } else {
-                None
-            }
+        [word, number, count] if word.as_str() == "bulk" => {
+            read_bulk(number.as_bytes(), count.as_bytes())
         }
         _ => None,
     }
@@ -53,13 +49,9 @@ fn read_bulk(number: &[u8], count: &[u8]) -> Option<Bulk>
     ensures value { result ≡ bulk_encoded number.now count.now }
     ensures few { IfSome result (λ bulk. bulk.count ≤ max_count) }
 {
-    match read_number(number, 0, MAX_NUMBER) {
-        Err(_) => None,
-        Ok(number) => match read_number(count, 1, MAX_COUNT) {
-            Err(_) => None,
-            Ok(count) => Some(Bulk { number, count }),
-        },
-    }
+    let number = read_number(number, 0, MAX_NUMBER).ok()?;
+    let count = read_number(count, 1, MAX_COUNT).ok()?;
+    Some(Bulk { number, count })
 }
 
 /// Runs the conversations and writes their summary. It answers `Memory` for want of memory alone, and has

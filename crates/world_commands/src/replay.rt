@@ -106,13 +106,10 @@ impl<P: PeerMethod, S: ServerMethod> Replay<P, S> {
         ensures { AnswersEnd W.shown result sink.old sink.new
             (record { text = end_of (seen_of P.peer_shown S.server_shown self.now).world; closed = ends Status.Done }) }
     {
-        match &self.world {
-            None => Ok(Close::Ends(Status::Done)),
-            Some(world) => match write_end(sink, world) {
-                Ok(()) => Ok(Close::Ends(Status::Done)),
-                Err(fault) => Err(fault),
-            },
+        if let Some(world) = &self.world {
+            write_end(sink, world)?;
         }
+        Ok(Close::Ends(Status::Done))
     }
 
     /// An event.
