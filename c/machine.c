@@ -4,15 +4,36 @@
 #include <string.h>
 #include "tuvaddri.h"
 
+#ifdef __x86_64__	/* (__builtin_cpu_supports would link 4 KB) */
+#include <cpuid.h>
+
+/* ecx of leaf 1, or ebx of leaf 7. */
+static unsigned features(unsigned leaf)
+{
+	unsigned eax, ebx = 0, ecx = 0, edx;
+
+	__get_cpuid_count(leaf, 0, &eax, &ebx, &ecx, &edx);
+	return leaf == 1 ? ecx : ebx;
+}
+
+/* Whether the system saves all of these parts of the registers (XCR0). */
+static bool saves(unsigned parts)
+{
+	unsigned eax = 0, edx;
+
+	if (features(1) & bit_OSXSAVE)
+		__asm__ volatile("xgetbv" : "=a"(eax), "=d"(edx) : "c"(0));
+	return (eax & parts) == parts;
+}
+#endif
+
 /* (x86-64-v2: below it AES would look up in memory by octets of keys.) */
 bool tuv_processor_serves(void)
 {
 #ifdef __x86_64__
-	__builtin_cpu_init();
-	return __builtin_cpu_supports("ssse3") &&
-		__builtin_cpu_supports("sse4.1") &&
-		__builtin_cpu_supports("sse4.2") &&
-		__builtin_cpu_supports("popcnt");
+	const unsigned wants = bit_SSSE3 | bit_SSE4_1 | bit_SSE4_2 | bit_POPCNT;
+
+	return (features(1) & wants) == wants;
 #else
 	return true;
 #endif
@@ -25,11 +46,11 @@ bool tuv_processor_serves(void)
 __attribute__((noinline)) static void clear_registers(void)
 {
 #if defined(__x86_64__)
-	if (__builtin_cpu_supports("avx512f"))
+	if (saves(0xe6) && features(7) & bit_AVX512F)
 		__asm__ volatile(".irp r,16,17,18,19,20,21,22,23,24,25,26,27,28,29,30,31\n\t"
 				 "vpxorq %zmm\\r, %zmm\\r, %zmm\\r\n\t"
 				 ".endr");
-	if (__builtin_cpu_supports("avx"))
+	if (saves(6) && features(1) & bit_AVX)
 		__asm__ volatile("vzeroall");
 	else
 		__asm__ volatile(".irp r,0,1,2,3,4,5,6,7,8,9,10,11,12,13,14,15\n\t"
@@ -51,8 +72,5 @@ __attribute__((noinline)) void tuv_clear_stack(void)
 	uint8_t room[TUV_STACK_MAX];
 
 	explicit_bzero(room, sizeof(room));
-#ifdef __x86_64__
-	__builtin_cpu_init();
-#endif
 	clear_registers();
 }
