@@ -1,0 +1,62 @@
+/* A peer, or with METHOD its method alone, as a small program has it: all that it
+ * calls of the library, and with EMPTY nothing.  For library_size.sh. */
+#define _DEFAULT_SOURCE
+#include <stdlib.h>
+#include <string.h>
+#include <unistd.h>
+#include "tuvaddri.h"
+
+#if defined(METHOD)
+#define BEGIN tuv_peer_method_begin
+#define HANDLE tuv_peer_method_handle
+#define REPORT tuv_end_report
+#define DONE(turn) ((turn).state == TUV_METHOD_DONE)
+typedef struct tuv_method_turn turn_t;
+#elif defined(PEER)
+#define BEGIN tuv_peer_begin
+#define HANDLE tuv_end_deliver
+#define REPORT tuv_end_report
+#define DONE(turn) ((turn).state != TUV_STATE_IDLE)
+typedef struct tuv_turn turn_t;
+#endif
+
+int main(void)
+{
+	uint8_t packet[TUV_PACKET_MAX], nonce[TUV_NONCE_LEN];
+	void *block = malloc(1);
+	ssize_t len;
+
+	if (!block || read(3, nonce, sizeof(nonce)) != sizeof(nonce))
+		return 1;
+#ifdef BEGIN
+	struct tuv_settings told = { .size = sizeof(told) };
+	struct tuv_report report = { .size = sizeof(report) };
+	struct tuv_end end;
+
+	told.name = told.psk_key = (struct tuv_octets) { nonce, 16 };
+	told.gpsk_key = (struct tuv_octets) { nonce, 32 };
+	if (!tuv_end_new(&end.at) || BEGIN(&end, &told, nonce) != TUV_BEGUN)
+		return 1;
+#endif
+	while ((len = read(0, packet, sizeof(packet))) > 0) {
+#ifdef BEGIN
+		turn_t turn = HANDLE(&end, packet, (size_t) len);
+
+		len = (ssize_t) tuv_end_packet(&end, packet, sizeof(packet));
+		if (DONE(turn) && REPORT(&end, &report))
+			break;
+#endif
+		if (write(1, packet, (size_t) len) != len)
+			return 1;
+	}
+#ifdef BEGIN
+	len = write(4, report.msk, sizeof(report.msk));
+	tuv_end_close(&end);
+	explicit_bzero(end.at, tuv_end_size());
+	free(end.at);
+	tuv_clear_stack();
+#endif
+	explicit_bzero(packet, sizeof(packet));
+	free(block);
+	return len < 0;
+}
