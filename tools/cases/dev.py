@@ -270,7 +270,7 @@ def case_tries(run: Run) -> Iterator[Optional[str]]:
             for kind in ("by_name", "by_limit", "is_bad", "is_untried", "is_proved"):
                 small.write(f"wrong/small/double__{kind}.edit", TEXTS[EDIT])
             yield from tells(small, 1, "wrong", "wrong: 1 passed, 5 failed")
-            for it in ("dev/wrong", "dev/lib/common.py", "dev/lib/crates.py"):
+            for it in ("dev/wrong", "tools/lib/common.py", "tools/lib/crates.py"):
                 small.write(it, Path(it).read_text())
             os.environ.update(TMPDIR=rooms, SLEEPS="yes")
             working = subprocess.Popen([sys.executable, "-B", small.root / "dev/wrong"], stdin=subprocess.DEVNULL,
