@@ -77,7 +77,32 @@ fn judgement_word(judgement: Judgement) -> &'static [u8]
 }
 
 /// Writes the kind of a packet, its Identifier, its EAP packet and what is found of it, in one line.
-#[tactic(auto, unfolding(crate::specs::Radius::read_text, radius_carry::specs::Fault::value_of))]
+#[tactic(auto, unfolding(crate::specs::Radius::read_text))]
+fn write_read<'a, W: Sink>(
+    sink: &mut W,
+    kind: &'a [u8],
+    id: u8,
+    eap: &'a [u8],
+    found: &'a [u8],
+) -> Result<(), Failed>
+    ensures { Appends W.shown result sink.old sink.new (read_text kind.now id eap.now found.now) }
+{
+    write_pieces(
+        sink,
+        &[
+            Text(b"read "),
+            Text(kind),
+            Number(b" id ", u64::from(id)),
+            Hex(b" eap ", eap),
+            Text(b" "),
+            Text(found),
+            Text(b"\n"),
+        ],
+    )
+}
+
+/// Writes what a packet is, in one line.
+#[tactic(auto, unfolding(radius_carry::specs::Fault::value_of))]
 fn write_packet<W: Sink>(
     sink: &mut W,
     view: &RadiusView,
@@ -87,17 +112,12 @@ fn write_packet<W: Sink>(
     ensures { Appends W.shown result sink.old sink.new (packet_line (value_of view.now) judgement) }
 {
     let eap = eap_of(view);
-    write_pieces(
+    write_read(
         sink,
-        &[
-            Text(b"read "),
-            Text(kind_word(view.kind)),
-            Number(b" id ", u64::from(view.id)),
-            Hex(b" eap ", eap.as_slice()),
-            Text(b" "),
-            Text(judgement_word(judgement)),
-            Text(b"\n"),
-        ],
+        kind_word(view.kind),
+        view.id,
+        eap.as_slice(),
+        judgement_word(judgement),
     )
 }
 
