@@ -30,8 +30,9 @@ def filter_of(interface: str, ports: Sequence[int]) -> str:
 
 
 def records_of(interface: str, ports: Sequence[int]) -> Iterator[Optional[frames.Record]]:
-    """The records of tcpdump as they come, and None where none came for a moment."""
-    words = ["tcpdump", "-i", interface, "-n", "-U", "-s", "0", "-w", "-", filter_of(interface, ports)]
+    """The records of tcpdump as they come, and None where none came for a moment. A signal ends tcpdump, whose last records
+    come then."""
+    words = ["tcpdump", "-i", interface, "-n", "-U", "--immediate-mode", "-s", "0", "-w", "-", filter_of(interface, ports)]
     try:
         begun = subprocess.Popen(words, stdout=subprocess.PIPE, stderr=subprocess.PIPE, env={**os.environ, "PATH": PATH})
     except OSError as fault:
@@ -40,6 +41,7 @@ def records_of(interface: str, ports: Sequence[int]) -> Iterator[Optional[frames
     said: list[str] = []
     reader = threading.Thread(target=read, args=(begun, found, said), daemon=True)
     reader.start()
+    before = {it: signal.signal(it, lambda *_: begun.terminate()) for it in (signal.SIGINT, signal.SIGTERM)}
     try:
         while reader.is_alive() or not found.empty():
             try:
@@ -49,6 +51,8 @@ def records_of(interface: str, ports: Sequence[int]) -> Iterator[Optional[frames
     finally:
         begun.terminate()
         begun.wait()
+        for it, handler in before.items():
+            signal.signal(it, handler)
     if begun.returncode > 0:
         text = (begun.stderr.read() if begun.stderr else b"").decode("utf-8", "replace")
         lines = [it for it in text.splitlines() if it.startswith("tcpdump: ") and "listening on" not in it]
@@ -75,23 +79,19 @@ def is_over(it: Capture, last: float, now: float) -> bool:
 def logins(interface: str, ports: Sequence[int]) -> Iterator[Capture]:
     """What each station did, when it is over, until the capturing ends; at the last also what isn't."""
     kept: list[frames.Record] = []
-    signal.signal(signal.SIGTERM, signal.default_int_handler)
     print(f"why: capturing at {interface} by tcpdump, and waiting for a login over EAPOL or RADIUS; Ctrl-C ends it", file=sys.stderr,
           flush=True)
-    try:
-        for record in records_of(interface, ports):
-            if record is not None:
-                kept.append(record._replace(number=kept[-1].number + 1 if kept else record.number))
-                continue
-            kept = [it for it in kept if kept[-1].at - it.at < MOST_SECONDS]
-            times = {it.number: it.at for it in kept}
-            found = captures.of_records(kept, ports)[0] if kept else []
-            for it in found:
-                if is_over(it, times[it.numbers[-1]], time.time()):
-                    gone = {*it.numbers, *found[0].again}
-                    kept = [its for its in kept if its.number not in gone]
-                    it.until = time.time()
-                    yield it
-    except KeyboardInterrupt:
-        pass
+    for record in records_of(interface, ports):
+        if record is not None:
+            kept.append(record._replace(number=kept[-1].number + 1 if kept else record.number))
+            continue
+        kept = [it for it in kept if kept[-1].at - it.at < MOST_SECONDS]
+        times = {it.number: it.at for it in kept}
+        found = captures.of_records(kept, ports)[0] if kept else []
+        for it in found:
+            if is_over(it, times[it.numbers[-1]], time.time()):
+                gone = {*it.numbers, *found[0].again}
+                kept = [its for its in kept if its.number not in gone]
+                it.until = time.time()
+                yield it
     yield from captures.of_records(kept, ports)[0] if kept else []
