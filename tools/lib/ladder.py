@@ -194,30 +194,29 @@ def captured(replay: Replay, passed: list[Row]) -> Capture:
 
 OF_PEER, OF_SERVER = ("GPSK-2", "GPSK-4", "PSK-2", "PSK-4"), ("GPSK-1", "GPSK-3", "PSK-1", "PSK-3")
 FIRST, SECOND, THIRD, LAST = ("GPSK-1", "PSK-1"), ("GPSK-2", "PSK-2"), ("GPSK-3", "PSK-3"), ("GPSK-4", "PSK-4")
-GOES_ON = {*OF_PEER, *OF_SERVER} - {*FIRST}
+OF_METHODS = {*OF_PEER, *OF_SERVER, "Nak"}
+GOES_ON = OF_METHODS - {*FIRST, "Nak"}
 
 
 def logins_of(octets: Sequence[bytes]) -> Iterator[range]:
     """The places of each login. One begins with an Identity after an end, or after a message of a method that isn't gone on
     with; or with a first message of a method after an end of one."""
     messages = [packets.read(it).message for it in octets]
-    # (what the next message of a method behind each Identity is)
-    ahead, behind = {}, ""
+    # (whether the next message of a method behind each packet goes on with one)
+    goes_on, is_ahead = bytearray(len(messages)), False
     for at in range(len(messages) - 1, -1, -1):
-        message = messages[at]
-        if message == "Identity":
-            ahead[at] = behind
-        elif message in OF_PEER or message in OF_SERVER or message == "Nak":
-            behind = message
+        goes_on[at] = is_ahead
+        if messages[at] in OF_METHODS:
+            is_ahead = messages[at] in GOES_ON
     begin, has_end, has_method = 0, False, False
     for at, message in enumerate(messages):
-        if message == "Identity" and (has_end or has_method and ahead[at] not in GOES_ON) or (
+        if message == "Identity" and (has_end or has_method and not goes_on[at]) or (
                 message in FIRST and has_end and has_method):
             if at > begin:
                 yield range(begin, at)
             begin, has_method = at, False
         has_end = message in ("Success", "Failure")
-        has_method = has_method or message in OF_PEER or message in OF_SERVER or message == "Nak"
+        has_method = has_method or message in OF_METHODS
     if messages:
         yield range(begin, len(messages))
 
