@@ -166,7 +166,7 @@ class Reading:
     def take(self, record: frames.Record, ports: Sequence[int]) -> None:
         octets, interface = record.frame, record.interface
         if interface < 0 and (known := self.known.get(octets)):
-            self.put(record, *known)
+            self.put(record, known[0], known[1])
             return
         if octets[12:14] == EAPOL and record.link == frames.ETHERNET and interface < 0:
             self.take_eapol(record, octets[:12], octets[14:])

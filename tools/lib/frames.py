@@ -102,14 +102,17 @@ def taken(file: BinaryIO, size: int, number: int) -> bytes:
 
 def of_pcap(file: BinaryIO, order: str, parts: int, link: int) -> Iterator[Record]:
     """The records behind the header; one that is cut ends them with a refusal."""
-    number, read, unpack = 0, file.read, struct.Struct(order + "IIII").unpack
+    number, read, unpack, new = 0, file.read, struct.Struct(order + "IIII").unpack, tuple.__new__
     while header := read(16):
         number += 1
         if len(header) < 16:
             raise Refused(f"it ends within record {number}")
         seconds, part, size, wire = unpack(header)
         frame = read(size) if size <= MOST_FRAME else b""
-        yield Record(number, seconds, part, frame if len(frame) == size else taken(file, size, number), wire, link, parts)
+        if len(frame) != size:
+            frame = taken(file, size, number)
+        # (as Record(..) makes it, in half the time)
+        yield new(Record, (number, seconds, part, frame, wire, link, parts, -1))
 
 
 def of_snoop(file: BinaryIO, head: bytes) -> Iterator[Record]:

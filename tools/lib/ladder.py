@@ -201,7 +201,8 @@ GOES_ON = OF_METHODS - {*FIRST, "Nak"}
 def logins_of(octets: Sequence[bytes]) -> Iterator[range]:
     """The places of each login. One begins with an Identity after an end, or after a message of a method that isn't gone on
     with; or with a first message of a method after an end of one."""
-    messages = [packets.read(it).message for it in octets]
+    named = {it: packets.read(it).message for it in {*octets}}
+    messages = [named[it] for it in octets]
     # (whether the next message of a method behind each packet goes on with one)
     goes_on, is_ahead = bytearray(len(messages)), False
     for at in range(len(messages) - 1, -1, -1):
