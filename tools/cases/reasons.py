@@ -184,6 +184,8 @@ def files() -> Iterator[tuple[str, bytes, str, str]]:
     yield "RADIUS at another server", wire.pcap(framed(asked, 3.0, (asked[0], asked[1][:19] + b"\3" + asked[1][20:]))), "radius silent", key
     odd = (asked[0], asked[1][:-17] + b"\x20" + asked[1][-16:])
     yield "RADIUS, an attribute that is too long", wire.pcap(framed(odd)), "odd radius, radius silent, ended", key + " --secret x"
+    yield "RADIUS in a UDP packet that is too short", wire.pcap(framed((asked[0], asked[1][:24] + b"\0\x0a" + asked[1][26:]), *BAD.front)), (
+        "no gpsk2, ended"), key
     yield "RADIUS is down", wire.pcap(framed(asked, 3.0, asked)), "radius silent", key
     yield "RADIUS, one request", wire.pcap(framed(asked)), "radius silent, ended", key
     first, answer, *_ = wire.by_radius([GOOD.named, GOOD.gpsk1])

@@ -319,10 +319,11 @@ def udp_of(frame: Frame) -> Optional[tuple[bytes, bytes, bytes]]:
 def radius_of(frame: Frame, more: Sequence[int] = ()) -> Optional[Radius]:
     """The RADIUS packet of a frame, where it has one, at its ports or at others that are named."""
     found = udp_of(frame)
-    if found is None or len(found[2]) < 28:
+    if found is None or len(found[2]) < 8:
         return None
     one, other, udp = found
     ports = struct.unpack(">HH", udp[:4])
     if not set(ports) & {*RADIUS_PORTS, *more}:
         return None
-    return Radius((one, ports[0]), (other, ports[1]), udp[8 : int.from_bytes(udp[4:6], "big") or None])
+    octets = udp[8 : int.from_bytes(udp[4:6], "big") or None]
+    return Radius((one, ports[0]), (other, ports[1]), octets) if len(octets) >= 20 else None

@@ -387,13 +387,14 @@ def failure(login: Login, at: int) -> str:
     outer = login.outer(at)
     if here.message in SECOND and outer and outer != here.identity:
         login.tries.append("let the station give one name, or the server take the name inside (FreeRADIUS: `inner_identity = yes`)")
-        return f"{ended}, whose name isn't the Identity's, `{outer}`: it may refuse that, have another key or no such user, or bar it, or the name was altered"
+        return (f"{ended}, whose name isn't the Identity's, `{outer}`: it may refuse that, have another key or no such user, or bar "
+                "it, or the name was altered")
     if here.message in SECOND and login.rows[last].word == "tag-good":
         login.tries.append("give the key that the server has: a wrong MAC under it says that the peer's is another")
         return (f"{ended}, whose MAC is right under the key given: the server itself has another key for this user, or no such "
-                "user, or bars it, or got another packet than this one")
+                "user, or bars it, or what it sent or got is other than what is here")
     if here.message in SECOND:
-        return f"{ended}: it has another key, or no such user, or bars it, or got another packet than the peer sent"
+        return f"{ended}: it has another key, or no such user, or bars it, or what it sent or got is other than what is here"
     if here.message in LAST:
         login.tries.append("look whether the server bars this user: EAP-PSK says so under encryption alone")
         found = ", or it got another packet than this one" if login.rows[last].word == "tag-good" else ", or it found its MAC wrong"

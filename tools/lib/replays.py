@@ -82,7 +82,7 @@ def tell(event: Event, words: list[str]) -> None:
 
 def ended(lines: list[list[str]]) -> dict[str, str]:
     """The last lines of a trace, or of one end."""
-    found = {" ".join(words[:-1]): words[-1] for words in lines if not words[0].isdigit() and len(words) > 1}
+    found = {" ".join(words[:-1]): words[-1] for words in lines if not words[0].isdecimal() and len(words) > 1}
     if "tags broken" in found:
         found["tags"] = "broken"
     return found
@@ -117,7 +117,7 @@ def of_scenario(octets: bytes) -> Replay:
     settings, lines = parts_of(octets)
     events = [Event(at, words) for at, words in enumerate([["start"], *lines])]
     for words in trace:
-        if words[0].isdigit():
+        if words[0].isdecimal():
             tell(events[int(words[0])], words[1:])
     sent: dict[int, Sent] = {}
     for event in events:
@@ -170,7 +170,7 @@ def of_trace(octets: bytes) -> Replay:
     lines = [words for _, words in lines_of(octets)][1:]
     events: dict[int, Event] = {}
     for words in lines:
-        if words[0].isdigit() and len(words) > 1:
+        if words[0].isdecimal() and len(words) > 1:
             number = int(words[0])
             try:
                 tell(events.setdefault(number, Event(number, ["start" if number == 0 else "event"])), words[1:])
@@ -178,7 +178,9 @@ def of_trace(octets: bytes) -> Replay:
                 raise Refused(f"a line of the trace isn't whole: {' '.join(words)[:60]!a}")
     acting = {party for event in events.values() for party, states in event.acts if states}
     ports = {it.port for event in events.values() for it in event.sent}
-    if not acting or acting - PARTIES or ports - PORTS or any(not it for event in events.values() for _, it in event.acts):
-        raise Refused("the trace has no event, or one of no party")
     parties = ["peer", "pass", "server"] if "pass" in acting else ["peer", "server"]
-    return Replay(parties, [events[at] for at in sorted(events)], ended(lines), has_losses=False)
+    found = Replay(parties, [events[at] for at in sorted(events)], ended(lines), has_losses=False)
+    others = (acting - PARTIES) | (ports - PORTS) | (found.states().keys() - {*parties})
+    if not acting or others or any(not it for event in events.values() for _, it in event.acts):
+        raise Refused("the trace has no event, or one of no party")
+    return found
