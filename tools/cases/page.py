@@ -189,6 +189,8 @@ def case_verdicts(run: Run) -> Iterator[Optional[str]]:
 def case_times(run: Run) -> Iterator[Optional[str]]:
     """A row of a file has its time from the first on, and opens to when it was captured; a scenario has none. What is to be typed
     is an element of its own."""
+    status, out, _ = run(["page", "-"], wire.pcapng([(0, 1e13, wire.framed(wire.Login().asked))]))
+    yield None if status == 0 and "9999-12-31" in out else "a time past the year 9999"
     _, out, _ = run(["page", "-", "alice", "51", wire.KEY.hex()], wire.pcap(wire.frames_of([*wire.Login().front, 2.5, wire.Login().gpsk2])))
     yield None if re.findall(r"dim\">([0-9.]+ s)<", out) == ["0.000 s", "0.010 s", "0.020 s", "2.530 s"] else "other times"
     yield None if "Captured 1970-01-01 00:01:40.010000 (UTC)." in out else "no date"

@@ -54,9 +54,9 @@ class Row:
     def reading(self) -> packets.Reading:
         return packets.read(self.octets or b"")
 
-    @property
+    @cached_property
     def word(self) -> str:
-        """The word of the finding."""
+        """The word of the finding, which is there before it is asked."""
         return self.finding.split(" ")[0]
 
     @property

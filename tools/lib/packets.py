@@ -68,7 +68,7 @@ class Reading:
         listed = [it.note for it in self.fields if it.name == "Vendor-Type"][1:]
         return ", ".join(listed) or self.note("Type-Data").replace("desired: ", "") or "no method"
 
-    @property
+    @cached_property
     def called(self) -> str:
         """The message with what it names: `GPSK-2 of alice`, `Nak, desired: EAP-PSK`."""
         if self.message == "Nak":
@@ -77,7 +77,7 @@ class Reading:
             return f"{self.name}, {self.note('Failure-Code')}"
         return f"{self.name} of {self.identity}" if self.identity else self.name
 
-    @property
+    @cached_property
     def label(self) -> str:
         """The same behind the Code and the Identifier: `Response 1, GPSK-2 of alice`."""
         code, identifier = self.note("Code"), self.number.get("Identifier")
