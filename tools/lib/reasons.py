@@ -244,7 +244,7 @@ def wrong_tag(login: Login, at: int) -> str:
         return "its MAC is wrong beside the last message that it can rest on, which isn't sure to be that of its own login"
     if login.has_good(*SECOND):
         return (f"its MAC is wrong, and another {message} of this login has a right one under the key given: it was changed on "
-                "its way, or is forged")
+                "its way, is forged, or was made under another key")
     after = login.first(*THIRD, "Failure", after=at)
     said = f"its MAC is wrong under the key given for {named(login.read[at].identity)}"
     others = {it.octets for it, its in zip(login.rows, login.messages) if its in SECOND}
@@ -338,27 +338,41 @@ def code_said(login: Login, at: int, code: int) -> str:
     return said if login.rows[at].word == "tag-good" else f"it says that {said}; its MAC isn't known to be right"
 
 
+def is_old(login: Login, at: int, end: int) -> bool:
+    """Whether a packet stood just before a Success or a Failure, too."""
+    return any(it.octets == login.rows[at].octets for it in login.rows[max(0, end - 8) : end])
+
+
+def next_of_server(login: Login, at: int) -> Optional[int]:
+    """Where the server goes on after a Success or a Failure, but for what crossed that."""
+    found = login.first(*OF_SERVER, *["Success"] * (login.messages[at] == "Failure"), after=at)
+    if found is None:
+        return None
+    on, was = login.rows[found].at, login.rows[at].at
+    return None if is_old(login, found, at) and on is not None and was is not None and on - was < AT_ONCE_SECONDS else found
+
+
+def outcome(login: Login) -> str:
+    """The last Success or Failure with which the server didn't go on."""
+    ends = sorted([*login.places.get("Success", ()), *login.places.get("Failure", ())], reverse=True)
+    return next((login.messages[at] for at in ends if next_of_server(login, at) is None), "")
+
+
 def early_end(login: Login, at: int) -> str:
     """A Success or a Failure after which the login goes on: the server by what it hadn't sent just before."""
-    message, row = login.messages[at], login.rows[at]
-    others = ("Success",) if message == "Failure" else ()
-    goes_on = login.first(*OF_SERVER, *others, after=at)
+    message, goes_on = login.messages[at], next_of_server(login, at)
     later = login.first(*OF_PEER, after=at)
     if goes_on is None:
         return "" if later is None else (f"the peer went on with {login.called(later)}, after it: it didn't take the {message}, or had "
                                          "sent that before it came")
-    on = login.rows[goes_on]
-    is_old = any(it.octets == on.octets for it in login.rows[max(0, at - 8) : at])
-    if is_old and on.at is not None and row.at is not None and on.at - row.at < AT_ONCE_SECONDS:
+    if not login.is_whole:
         return ""
     before = login.last(*OF_SERVER, "Identity", before=at)
-    follows = is_old or before is not None and (login.read[before].number.get("Identifier", -2) + 1) % 256 == login.read[goes_on].number.get("Identifier")
+    follows = is_old(login, goes_on, at) or before is not None and (login.read[before].number.get("Identifier", -2) + 1) % 256 == login.read[goes_on].number.get("Identifier")
     said = f"a {message} in the middle of the login, and the server went on with {login.called(goes_on)}: "
     said += ("the server didn't send it" if follows or login.messages[goes_on] == "Success" else
              "the server didn't send it, or what came between isn't in the capture")
     said += f". Nothing authenticates a {message}, so anybody can send one"
-    if not login.is_whole:
-        return ""
     is_silent = login.messages[goes_on] != "Success" and login.first(*OF_PEER, after=goes_on) is None
     return said + ("; the peer may have believed it, for no more answer of it is here" if is_silent else "")
 
@@ -468,7 +482,7 @@ def of_others(login: Login) -> Iterator[Reason]:
         verdict = row.carrier.partition(", ")[2]
         if verdict == "tag-bad":
             yield Reason(row, f"the authenticator of the {row.carrier.split(',')[0]} around it is wrong under the secret "
-                              "given: client and server have different secrets, or it was altered")
+                              "given: its sender has another secret, or it was altered")
         elif verdict not in ("", "good", "no-request"):
             yield Reason(row, f"the RADIUS packet around it isn't well-formed ({verdict}): {words.cause_said(verdict)}")
 
@@ -527,9 +541,9 @@ def story_of_login(login: Login, nonces: Nonces) -> Story:
     twice = list(nonces.repeated(login))
     user, kind = login.user, login.kind
     front = (f"the login of {user}" if user else "a login") + (f" by {words.METHODS[kind]}" if kind else "") + f", {login.range}"
-    has_success = login.messages[-1] == "Success" or "Success" in login.messages and login.end is None
+    end = outcome(login)
     is_bad = any(it.word in ("tag-bad", "malformed") and it.was is None for it in login.rows)
-    if has_success:
+    if end == "Success":
         judged = [it for it in login.rows if it.word in ("tag-good", "tag-bad")]
         said = "each MAC that was judged is right" if judged else "no MAC was judged"
         if is_bad:
@@ -537,7 +551,7 @@ def story_of_login(login: Login, nonces: Nonces) -> Story:
         elif any(it.word == "tag-bad" for it in login.rows):
             said = "what was altered came again with a right MAC"
         story = Story("open" if is_bad or not judged or success(login, 0) else "good", f"{front}: it ended with Success, and {said}")
-    elif "Failure" in login.messages or login.has_code:
+    elif end or login.has_code:
         story = Story("bad", f"{front}: it failed")
     else:
         story = Story("bad" if is_bad else "open", f"{front}: it has no end here")
