@@ -6,10 +6,8 @@ from __future__ import annotations
 import ast
 import os
 import re
-import signal
 import struct
 import tempfile
-import threading
 from pathlib import Path
 from typing import Iterator, Optional
 
@@ -275,9 +273,11 @@ case " $* " in *" nowhere "*) echo "tcpdump: nowhere: No such device exists" >&2
 cat "${0%/*}/file"
 case " $* " in *" any "*) exec sleep 1 ;; esac
 """
-# One that writes what it has when it is stopped.
+# One that has its caller stopped, and writes what it has when it is stopped.
 SLOW = """#!/bin/sh
 trap 'cat "${0%/*}/file"; exit 0' TERM
+sleep 0.5
+kill -s SIGNAL "$PPID"
 while sleep 0.1; do :; done
 """
 
@@ -297,11 +297,10 @@ def case_interface(run: Run) -> Iterator[Optional[str]]:
             Path(f"{folder}/file").write_bytes(wire.pcapng(at_two([*WRONG])))
             status, out, errors = run(["why", "-i", "any", "alice", "51", KEY.hex()])
             yield holds(status == 0 and found_in(out) == {*REFUSED.split(", "), "interfaces"} and out.count("it failed") == 1, f"of any: {out}{errors}")
-            for signal_sent in (signal.SIGINT, signal.SIGTERM):
-                Path(f"{folder}/tcpdump").write_text(SLOW)
-                threading.Timer(0.5, os.kill, (os.getpid(), signal_sent)).start()
+            for name in ("INT", "TERM"):
+                Path(f"{folder}/tcpdump").write_text(SLOW.replace("SIGNAL", name))
                 status, out, errors = run(["why", "-i", "eth0", "alice", "51", KEY.hex()])
-                yield holds(status == 0 and out.count("it failed") == 1, f"stopped by {signal_sent!r} it ends with {status}: {out}{errors}")
+                yield holds(status == 0 and out.count("it failed") == 1, f"stopped by {name} it ends with {status}: {out}{errors}")
             Path(f"{folder}/tcpdump").write_text(TCPDUMP)
             status, out, errors = run(["why", "-i", "nowhere", "alice", "51", KEY.hex()])
             yield holds(status == 2 and not out and "tcpdump can't capture at nowhere: nowhere: No such" in errors, f"it says {errors}")
