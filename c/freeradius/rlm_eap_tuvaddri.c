@@ -278,7 +278,7 @@ static eap_handler_t *oldest(rlm_eap_t *eap)
 {
 	eap_handler_t *it = eap->session_head;
 
-	for (int looked = 0; it && looked < 64; looked++, it = it->next)
+	for (int looked = 0; it && looked < 1024; looked++, it = it->next)
 		if ((int) it->type == TUV_KIND_PSK || (int) it->type == TUV_KIND_GPSK) return it;
 	return NULL;
 }
