@@ -49,6 +49,7 @@ ida	{two_keys("GPSK")}, {two_keys("PSK")}
 jan	{two_keys("GPSK")}, Tuvaddri-GPSK-Key += 0x{ERNAS_KEY}
 kai	Tuvaddri-GPSK-Key := "{KEYS["GPSK"]}", Tuvaddri-PSK-Key := "{KEYS["PSK"]}"
 lea	Tuvaddri-GPSK-Key := "{KEYS["GPSK"]}", Tuvaddri-GPSK-Key += 0x{KEYS["GPSK"]}
+mia	Tuvaddri-GPSK-Key := 0x{KEYS["GPSK"]}, Tuvaddri-GPSK-Key += "{KEYS["GPSK"]}"
 """
 # The rows of SQL, beside those of load.
 ROWS = [(user, f"Tuvaddri-{method}-Key", ":=", f"0x{key}") for user in ("alice", "hugo") for method, key in KEYS.items()]
