@@ -181,6 +181,10 @@ static const uint8_t *fresh(enum handle h)
 	return copied(models[h].nonce, TUV_NONCE_LEN);
 }
 
+/* The call of any end, or that of the handle's role. */
+#define BY_ROLE(h, name) (any(2) ? tuv_end_##name \
+			  : (h) == PEER ? tuv_peer_##name : tuv_server_##name)
+
 /* A restart's nonce counts where it has its place. */
 static struct tuv_turn restarted(enum handle h)
 {
@@ -188,7 +192,7 @@ static struct tuv_turn restarted(enum handle h)
 	struct tuv_turn turn;
 
 	fill(nonce, sizeof(nonce));
-	turn = tuv_end_restart(&ends[h], copied(nonce, sizeof(nonce)));
+	turn = BY_ROLE(h, restart)(&ends[h], copied(nonce, sizeof(nonce)));
 	if (!turn.misplaced)
 		memcpy(models[h].nonce, nonce, sizeof(nonce));
 	return turn;
@@ -200,7 +204,7 @@ static struct turn call_of(enum handle h, enum call c, const uint8_t *at,
 	struct tuv_end *end = &ends[h];
 
 	switch (c) {
-	case DELIVER: return of(tuv_end_deliver(end, at, len));
+	case DELIVER: return of(BY_ROLE(h, deliver)(end, at, len));
 	case PEER_METHOD: return of_method(tuv_peer_method_handle(end, at, len));
 	case SERVER_METHOD:
 		return of_method(tuv_server_method_handle(end, at, len,
@@ -323,7 +327,7 @@ static void ask_otherwise(enum handle h)
 
 	memcpy(at, &size, sizeof(size));
 	remember(h);
-	if (tuv_end_report(&ends[h], (void *) at))
+	if (BY_ROLE(h, report)(&ends[h], (void *) at))
 		fail("a report of another size");
 	for (i = sizeof(size); i < room; i++)
 		if (at[i])
@@ -342,7 +346,9 @@ static bool report(enum handle h, struct tuv_report *r)
 	r->size = sizeof(*r);
 	at = (void *) copied(r, sizeof(*r));
 	remember(h);
-	has = tuv_end_report(&ends[h], at);
+	if ((h == PEER ? tuv_server_report : tuv_peer_report)(&ends[h], at))
+		fail("a report of the other role");
+	has = BY_ROLE(h, report)(&ends[h], at);
 	same(h, 0, "a report changes the end");
 	if (!has && memcmp(at, r, sizeof(*r)) != 0)
 		fail("a report is written where there is none");

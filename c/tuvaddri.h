@@ -283,6 +283,10 @@ size_t tuv_end_again(struct tuv_end *end, uint8_t *room, size_t room_len);
  * were there. */
 bool tuv_end_report(struct tuv_end *end, struct tuv_report *report);
 
+/* The same of a peer or a peer's method alone, and of any other end alone. */
+bool tuv_peer_report(struct tuv_end *end, struct tuv_report *report);
+bool tuv_server_report(struct tuv_end *end, struct tuv_report *report);
+
 /* The Session-Id (RFC 5247) of a method that has succeeded, and its length; 0,
  * with nothing written, before that and at any other end.  EAP-PSK's is 2f,
  * RAND_P, RAND_S: 33 octets.  EAP-GPSK's is 33 and the 16 octets of Method-ID of
@@ -302,6 +306,15 @@ struct tuv_failure tuv_end_failure(struct tuv_end *end);
 struct tuv_turn tuv_end_deliver(struct tuv_end *end, const uint8_t *octets,
 				size_t len);
 
+/* The same of a peer alone, and of a stand-alone server or a backend alone; at any
+ * other end they are misplaced.  A program that calls of tuv_.._deliver,
+ * tuv_.._restart and tuv_.._report those of one role, and is linked by
+ * -Wl,--gc-sections, has no code of the other. */
+struct tuv_turn tuv_peer_deliver(struct tuv_end *end, const uint8_t *octets,
+				 size_t len);
+struct tuv_turn tuv_server_deliver(struct tuv_end *end, const uint8_t *octets,
+				   size_t len);
+
 /* A new conversation begins, with the settings that the end has and this nonce,
  * which is fresh as at a begin: of a peer, a stand-alone server or a backend,
  * wherever it stands, also in the middle of a login, after its end, and before a
@@ -315,6 +328,12 @@ struct tuv_turn tuv_end_deliver(struct tuv_end *end, const uint8_t *octets,
  * packets of an old conversation may be taken for the new login. */
 struct tuv_turn tuv_end_restart(struct tuv_end *end,
 				const uint8_t nonce[TUV_NONCE_LEN]);
+
+/* The same of a peer alone, and of a stand-alone server or a backend alone. */
+struct tuv_turn tuv_peer_restart(struct tuv_end *end,
+				 const uint8_t nonce[TUV_NONCE_LEN]);
+struct tuv_turn tuv_server_restart(struct tuv_end *end,
+				   const uint8_t nonce[TUV_NONCE_LEN]);
 
 /* --- the peer (RFC 4137 section 4) --- */
 

@@ -80,7 +80,7 @@ static int begin_backend(struct ends *e, const uint8_t *packet, size_t len,
 	    memcmp(packet + 5, e->told_server.other.at, len - 5) != 0)
 		return 1;	/* no such user */
 	if (again)
-		return tuv_end_restart(&e->server, e->server_nonce).misplaced;
+		return tuv_server_restart(&e->server, e->server_nonce).misplaced;
 	return tuv_backend_begin(&e->server, &e->told_server, e->server_nonce);
 }
 
@@ -97,7 +97,7 @@ static int converse_through(struct ends *e, struct tuv_turn turn, int again)
 			return !begun;
 		len = tuv_end_packet(&e->pass, packet, sizeof(packet));
 		print("octets", packet, len);
-		turn = tuv_end_deliver(&e->peer, packet, len);
+		turn = tuv_peer_deliver(&e->peer, packet, len);
 		if (!turn.sends)
 			return !begun;
 		len = tuv_end_packet(&e->peer, packet, sizeof(packet));
@@ -109,7 +109,7 @@ static int converse_through(struct ends *e, struct tuv_turn turn, int again)
 		if (!begun && begin_backend(e, packet, len, again))
 			return 1;
 		begun = 1;
-		turn = tuv_end_deliver(&e->server, packet, len);
+		turn = tuv_server_deliver(&e->server, packet, len);
 		if (!turn.sends)
 			return 1;
 		len = tuv_end_packet(&e->server, packet, sizeof(packet));
@@ -136,11 +136,11 @@ static int log_in(struct ends *e, int through)
 /* One that follows: each end begins a new conversation, with what it was told. */
 static int log_in_again(struct ends *e, int through)
 {
-	if (tuv_end_restart(&e->peer, e->peer_nonce).misplaced)
+	if (tuv_peer_restart(&e->peer, e->peer_nonce).misplaced)
 		return 1;
 	if (through)
 		return converse_through(e, tuv_pass_restart(&e->pass), 1);
-	converse(e, tuv_end_restart(&e->server, e->server_nonce));
+	converse(e, tuv_server_restart(&e->server, e->server_nonce));
 	return 0;
 }
 
@@ -175,8 +175,8 @@ static int agree(struct ends *e)
 	memset(&peer, 0, sizeof(peer));
 	memset(&server, 0, sizeof(server));
 	peer.size = server.size = sizeof(peer);
-	if (tuv_end_report(&e->peer, &peer) &&
-	    tuv_end_report(&e->server, &server)) {
+	if (tuv_peer_report(&e->peer, &peer) &&
+	    tuv_server_report(&e->server, &server)) {
 		print_report("peer", &e->peer, &peer);
 		print_report("server", &e->server, &server);
 		same = memcmp(&peer, &server, sizeof(peer)) == 0;

@@ -426,9 +426,9 @@ impl End {
         self.told(turn)
     }
 
-    fn restart(&mut self, nonce: Nonce) -> Result<Turn, Error> {
+    fn restart(&mut self, restart: unsafe extern "C" fn(*mut sys::End, *const u8) -> sys::Turn, nonce: Nonce) -> Result<Turn, Error> {
         // SAFETY: the nonce has 32 octets.
-        let turn = self.ask(|end| unsafe { sys::tuv_end_restart(end, nonce.0.as_ptr()) });
+        let turn = self.ask(|end| unsafe { restart(end, nonce.0.as_ptr()) });
         self.told(turn)
     }
 
@@ -536,16 +536,16 @@ macro_rules! an_end {
 
 // What an end with a machine has, but the pass-through.
 macro_rules! a_machine {
-    ($($name:ident),*) => {$(
+    ($($name:ident: $deliver:ident, $restart:ident;)*) => {$(
         impl $name {
             /// Octets come, as one packet.
             pub fn deliver(&mut self, octets: &[u8]) -> Result<Turn, Error> {
-                self.0.hear(sys::tuv_end_deliver, octets)
+                self.0.hear(sys::$deliver, octets)
             }
 
             /// A new conversation begins, with the settings that the end has.
             pub fn restart(&mut self, nonce: Nonce) -> Result<Turn, Error> {
-                self.0.restart(nonce)
+                self.0.restart(sys::$restart, nonce)
             }
         }
     )*};
@@ -582,7 +582,11 @@ pub struct PeerMethod(End);
 pub struct ServerMethod(End);
 
 an_end!(Peer, Server, Backend, PassThrough, PeerMethod, ServerMethod);
-a_machine!(Peer, Server, Backend);
+a_machine! {
+    Peer: tuv_peer_deliver, tuv_peer_restart;
+    Server: tuv_server_deliver, tuv_server_restart;
+    Backend: tuv_server_deliver, tuv_server_restart;
+}
 steps!(Peer:
     /// The lower layer is idle.
     idle = tuv_peer_idle;

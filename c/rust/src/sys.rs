@@ -92,8 +92,10 @@ extern "C" {
     pub fn tuv_end_session_id(end: *mut End, room: *mut u8) -> usize;
     pub fn tuv_end_session_id_wpa(end: *mut End, room: *mut u8) -> usize;
     pub fn tuv_end_failure(end: *mut End) -> Failure;
-    pub fn tuv_end_deliver(end: *mut End, octets: *const u8, len: usize) -> Turn;
-    pub fn tuv_end_restart(end: *mut End, nonce: *const u8) -> Turn;
+    pub fn tuv_peer_deliver(end: *mut End, octets: *const u8, len: usize) -> Turn;
+    pub fn tuv_peer_restart(end: *mut End, nonce: *const u8) -> Turn;
+    pub fn tuv_server_deliver(end: *mut End, octets: *const u8, len: usize) -> Turn;
+    pub fn tuv_server_restart(end: *mut End, nonce: *const u8) -> Turn;
     pub fn tuv_peer_begin(end: *mut End, told: *const Settings, nonce: *const u8) -> u8;
     pub fn tuv_peer_idle(end: *mut End) -> Turn;
     pub fn tuv_peer_alt_accept(end: *mut End) -> Turn;

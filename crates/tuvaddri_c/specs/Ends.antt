@@ -53,6 +53,18 @@ AsPass e P = elim e [ ends.Pass m ↦ P m | _ ↦ ⊥ ]
 abbrev pub receives_octets : End → Bool
 receives_octets e = elim e [ ends.Peer m ↦ true | ends.Server m ↦ is_ready m.vars | ends.Backend m ↦ true | _ ↦ false ]
 
+-- whether Responses may come: to a backend, and to a server that has started
+abbrev pub receives_responses : End → Bool
+receives_responses e = elim e [ ends.Server m ↦ is_ready m.vars | ends.Backend m ↦ true | _ ↦ false ]
+
+-- whether the end is a peer
+abbrev pub is_peer : End → Bool
+is_peer e = elim e [ ends.Peer m ↦ true | _ ↦ false ]
+
+-- whether the end is a peer or a peer's method
+abbrev pub is_at_peer : End → Bool
+is_at_peer e = elim e [ ends.Peer m ↦ true | ends.PeerMethod object key ↦ true | _ ↦ false ]
+
 -- whether the lower layer may report to the peer: it has not ended
 abbrev pub is_running_peer : End → Bool
 is_running_peer e = elim e [ ends.Peer m ↦ not (is_end m.vars.state) | _ ↦ false ]
@@ -75,6 +87,13 @@ server_has_objects m = have_each (server_kinds (map server_object_shown m.method
 -- whether an end may begin a new conversation: a peer, a stand-alone server, also before its start, or a backend
 abbrev pub can_restart : End → Bool
 can_restart e = elim e [ ends.Peer m ↦ peer_has_objects m | ends.Server m ↦ server_has_objects m | ends.Backend m ↦ server_has_objects m | _ ↦ false ]
+
+-- the same of a peer alone; of a server alone
+abbrev pub can_restart_peer : End → Bool
+can_restart_peer e = elim e [ ends.Peer m ↦ peer_has_objects m | _ ↦ false ]
+
+abbrev pub can_restart_server : End → Bool
+can_restart_server e = elim e [ ends.Server m ↦ server_has_objects m | ends.Backend m ↦ server_has_objects m | _ ↦ false ]
 
 -- whether the end is a pass-through; one that may start; one whose retransmission timer runs; one that waits for the
 -- backend

@@ -1,11 +1,11 @@
 -- What is reported of a method that succeeded.
-use Rattle.std.specs.Prelude.{◌≡◌, ◌++◌, ℕ, length, drop, Option, Some, None}
+use Rattle.std.specs.Prelude.{◌≡◌, ◌++◌, ℕ, length, drop, Option, Some, None, if◌then◌else◌}
 use Rattle.eap_method.specs.Peer.{PeerShown, peer_report}
 use Rattle.eap_method.specs.Server.{ServerShown, server_report}
 use Rattle.eap_method.specs.declared.values.Report.{Report}
 use Rattle.end_objects.specs.Objects.{peer_object_shown, server_object_shown, peer_nonces, server_nonces}
 use Rattle.end_objects.specs.declared.objects.Nonces.{Nonces}
-use Rattle.tuvaddri_c.specs.Ends.{end_reports, end_nonces}
+use Rattle.tuvaddri_c.specs.Ends.{end_reports, end_nonces, is_at_peer}
 use Rattle.tuvaddri_c.specs.declared.held.Object.{Object}
 use Rattle.tuvaddri_c.specs.declared.held.Object.TheVariants as object
 use Rattle.tuvaddri_c.specs.declared.report.TuvReport.{TuvReport}
@@ -36,6 +36,13 @@ server_stored (Some shown) = both (server_report shown) (server_nonces shown)
 
 abbrev pub end_stored : End → Option EndReport
 end_stored e = both (end_reports e) (end_nonces e)
+
+-- what an end on the peer's side has, and any other end
+abbrev pub stored_at_peer : End → Option EndReport
+stored_at_peer e = if is_at_peer e then end_stored e else None
+
+abbrev pub stored_at_server : End → Option EndReport
+stored_at_server e = if is_at_peer e then None else end_stored e
 
 -- what an object has: its report, and its nonces
 abbrev pub object_reports : Object → Option Report

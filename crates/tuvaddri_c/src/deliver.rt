@@ -1,4 +1,5 @@
-//! Octets arrive at a peer, a stand-alone server or a backend.
+//! Octets arrive at a peer, a stand-alone server or a backend. What a peer alone does, and what a server alone, are calls
+//! of their own, so that a program that makes one of them alone links no other end.
 
 ghost use Rattle.std.specs.Prelude.{◌≡◌, true, false};
 ghost use Rattle.peer_machine.specs.Expanded.{peer_receives};
@@ -7,18 +8,87 @@ ghost use Rattle.server_machine.specs.Expanded.{server_receives};
 ghost use Rattle.server_machine.specs.ServerTable.{is_ready};
 ghost use Rattle.server_machine.specs.ServerTable as server;
 ghost use Rattle.end_objects.specs.Objects.{peer_object_shown, server_object_shown};
-ghost use Rattle.tuvaddri_c.specs.Ends.{IfPeer, AsPeer, IfServer, AsServer, IfBackend, AsBackend, receives_octets, can_restart};
+ghost use Rattle.tuvaddri_c.specs.Ends.{IfPeer, AsPeer, IfServer, AsServer, IfBackend, AsBackend, is_peer, receives_responses, receives_octets, can_restart};
 ghost use Rattle.tuvaddri_c.specs.Turns.{PeerDoes, ServerDoes, IsMisplaced};
 
 use crate::handle::TuvEnd;
-use crate::session::End;
+use crate::session::{End, Session};
 use crate::turn::TuvTurn;
 use eap_method::{NoRecords, Tags};
 use octet_lists::Packet;
 
+/// Octets arrive at a peer.
+#[tactic(auto, using(crate::proofs::Does::peer_does, crate::proofs::TwoRecords::peer_preserved))]
+#[inline(never)]
+fn deliver_to_peer(session: &mut Session, octets: &[u8]) -> TuvTurn
+    ensures peer { IfPeer session.old.end (λ m. AsPeer session.new.end (λ n.
+        PeerDoes (peer_receives (peer.now_of peer_object_shown m) octets.now) session.old.sent result session.new.sent n)) }
+    ensures misplaced { is_peer session.old.end ≡ false → IsMisplaced session.old result session.new }
+    ensures objects { can_restart session.old.end ≡ true → can_restart session.new.end ≡ true }
+{
+    match &mut session.end {
+        End::Peer(machine) => {
+            let mut packet = Packet::new();
+            let mut tags: Tags<NoRecords> = Tags::new();
+            let step = machine.deliver_step(octets, &mut packet, &mut tags);
+            TuvTurn::of(&step, &packet, machine.state(), &mut session.sent)
+        }
+        _ => TuvTurn::none(&mut session.sent),
+    }
+}
+
+/// Octets arrive at a stand-alone server that has started, or at a backend.
+#[tactic(auto, using(crate::proofs::Does::server_does, crate::proofs::TwoRecords::server_preserved))]
+#[inline(never)]
+fn deliver_to_server(session: &mut Session, octets: &[u8]) -> TuvTurn
+    ensures server { IfServer session.old.end (λ m. is_ready m.vars ≡ true → AsServer session.new.end (λ n.
+        ServerDoes (server_receives (server.now_of server_object_shown m) octets.now) session.old.sent result session.new.sent n)) }
+    ensures backend { IfBackend session.old.end (λ m. AsBackend session.new.end (λ n.
+        ServerDoes (server_receives (server.now_of server_object_shown m) octets.now) session.old.sent result session.new.sent n)) }
+    ensures misplaced { receives_responses session.old.end ≡ false → IsMisplaced session.old result session.new }
+    ensures objects { can_restart session.old.end ≡ true → can_restart session.new.end ≡ true }
+{
+    let mut packet = Packet::new();
+    let mut tags: Tags<NoRecords> = Tags::new();
+    match &mut session.end {
+        End::Server(machine) if machine.ready() => {
+            let step = machine.deliver_step(octets, &mut packet, &mut tags);
+            TuvTurn::of(&step, &packet, machine.state(), &mut session.sent)
+        }
+        End::Backend(machine) => {
+            let step = machine.deliver_step(octets, &mut packet, &mut tags);
+            TuvTurn::of(&step, &packet, machine.state(), &mut session.sent)
+        }
+        _ => TuvTurn::none(&mut session.sent),
+    }
+}
+
+/// Octets arrive at a peer.
+#[unsafe(no_mangle)]
+pub extern "C" fn tuv_peer_deliver(end: &mut TuvEnd, octets: &[u8]) -> TuvTurn
+    ensures peer { IfPeer end.old.value.end (λ m. AsPeer end.new.value.end (λ n.
+        PeerDoes (peer_receives (peer.now_of peer_object_shown m) octets.now) end.old.value.sent result end.new.value.sent n)) }
+    ensures misplaced { is_peer end.old.value.end ≡ false → IsMisplaced end.old.value result end.new.value }
+    ensures objects { can_restart end.old.value.end ≡ true → can_restart end.new.value.end ≡ true }
+{
+    deliver_to_peer(end.session(), octets)
+}
+
+/// Octets arrive at a stand-alone server that has started, or a backend.
+#[unsafe(no_mangle)]
+pub extern "C" fn tuv_server_deliver(end: &mut TuvEnd, octets: &[u8]) -> TuvTurn
+    ensures server { IfServer end.old.value.end (λ m. is_ready m.vars ≡ true → AsServer end.new.value.end (λ n.
+        ServerDoes (server_receives (server.now_of server_object_shown m) octets.now) end.old.value.sent result end.new.value.sent n)) }
+    ensures backend { IfBackend end.old.value.end (λ m. AsBackend end.new.value.end (λ n.
+        ServerDoes (server_receives (server.now_of server_object_shown m) octets.now) end.old.value.sent result end.new.value.sent n)) }
+    ensures misplaced { receives_responses end.old.value.end ≡ false → IsMisplaced end.old.value result end.new.value }
+    ensures objects { can_restart end.old.value.end ≡ true → can_restart end.new.value.end ≡ true }
+{
+    deliver_to_server(end.session(), octets)
+}
+
 /// Octets arrive at a peer, a stand-alone server that has started, or a backend.
 #[unsafe(no_mangle)]
-#[tactic(auto, using(crate::proofs::Does::peer_does, crate::proofs::Does::server_does, crate::proofs::TwoRecords::peer_preserved, crate::proofs::TwoRecords::server_preserved))]
 pub extern "C" fn tuv_end_deliver(end: &mut TuvEnd, octets: &[u8]) -> TuvTurn
     ensures peer { IfPeer end.old.value.end (λ m. AsPeer end.new.value.end (λ n.
         PeerDoes (peer_receives (peer.now_of peer_object_shown m) octets.now) end.old.value.sent result end.new.value.sent n)) }
@@ -30,21 +100,9 @@ pub extern "C" fn tuv_end_deliver(end: &mut TuvEnd, octets: &[u8]) -> TuvTurn
     ensures objects { can_restart end.old.value.end ≡ true → can_restart end.new.value.end ≡ true }
 {
     let session = end.session();
-    let mut packet = Packet::new();
-    let mut tags: Tags<NoRecords> = Tags::new();
-    match &mut session.end {
-        End::Peer(machine) => {
-            let step = machine.deliver_step(octets, &mut packet, &mut tags);
-            TuvTurn::of(&step, &packet, machine.state(), &mut session.sent)
-        }
-        End::Server(machine) if machine.ready() => {
-            let step = machine.deliver_step(octets, &mut packet, &mut tags);
-            TuvTurn::of(&step, &packet, machine.state(), &mut session.sent)
-        }
-        End::Backend(machine) => {
-            let step = machine.deliver_step(octets, &mut packet, &mut tags);
-            TuvTurn::of(&step, &packet, machine.state(), &mut session.sent)
-        }
-        _ => TuvTurn::none(&mut session.sent),
+    if session.end.is_peer() {
+        deliver_to_peer(session, octets)
+    } else {
+        deliver_to_server(session, octets)
     }
 }

@@ -2,7 +2,7 @@
 
 ghost use Rattle.std.specs.Prelude.{◌≡◌, option_map};
 ghost use Rattle.end_objects.specs.Objects.{peer_object_shown, server_object_shown};
-ghost use Rattle.tuvaddri_c.specs.Reports.{peer_stored, server_stored, end_stored, object_stored};
+ghost use Rattle.tuvaddri_c.specs.Reports.{peer_stored, server_stored, end_stored, stored_at_peer, stored_at_server, object_stored};
 
 use crate::session::End;
 use eap_method::{PeerMethod, Report, ServerMethod};
@@ -75,5 +75,28 @@ pub fn object_of<'a>(end: &'a End) -> Object<'a>
         End::Server(machine) => of_server(machine.current()),
         End::Backend(machine) => of_server(machine.current()),
         End::Pass(_) => Object::None,
+    }
+}
+
+/// The object that an end on the peer's side has.
+pub fn peer_object_of<'a>(end: &'a End) -> Option<&'a PeerObject>
+    ensures { peer_stored (option_map (λ o. peer_object_shown o.now) result) ≡ stored_at_peer end.now }
+{
+    match end {
+        End::PeerMethod(object, _) => Some(object),
+        End::Peer(machine) => machine.selected(),
+        _ => None,
+    }
+}
+
+/// The object that an end on the server's side has.
+pub fn server_object_of<'a>(end: &'a End) -> Option<&'a ServerObject>
+    ensures { server_stored (option_map (λ o. server_object_shown o.now) result) ≡ stored_at_server end.now }
+{
+    match end {
+        End::ServerMethod(object, _) => Some(object),
+        End::Server(machine) => machine.current(),
+        End::Backend(machine) => machine.current(),
+        _ => None,
     }
 }

@@ -1,11 +1,12 @@
 //! What is reported of a method that succeeded.
 
-ghost use Rattle.std.specs.Prelude.{◌≡◌, IsTrue, None, IfSome};
-ghost use Rattle.tuvaddri_c.specs.Reports.{report_size, both, end_stored, object_stored, IsReport};
+ghost use Rattle.std.specs.Prelude.{◌≡◌, ◌==◌, IsTrue, None, IfSome};
+ghost use Rattle.tuvaddri_c.specs.Reports.{report_size, both, end_stored, stored_at_peer, stored_at_server, IsReport};
 
 use crate::handle::TuvEnd;
-use crate::held::{Object, object_of};
+use crate::held::{peer_object_of, server_object_of};
 use crate::rooms::write_octets;
+use crate::session::End;
 use eap_method::{PeerMethod, Report, ServerMethod};
 use end_objects::Nonces;
 use octet_lists::MAX_NAME;
@@ -49,22 +50,65 @@ pub extern "C" fn tuv_end_report(end: &mut TuvEnd, report: &mut TuvReport) -> bo
     ensures none { end_stored end.old.value.end ≡ None → (IsTrue result → ⊥) × (report.new ≡ report.old) }
     ensures other_size { (report.old.size ≡ report_size → ⊥) → (IsTrue result → ⊥) × (report.new ≡ report.old) }
 {
-    if report.size == REPORT_SIZE {
-        write_object(object_of(&end.session().end), report)
+    if !is_known(report) {
+        return false;
+    }
+    let end = &end.session().end;
+    if end.is_at_peer() {
+        report_peer(end, report)
     } else {
-        false
+        report_server(end, report)
     }
 }
 
-/// Writes what the object has. (By its kind, so that no report is copied.)
-fn write_object(object: Object, report: &mut TuvReport) -> bool
-    ensures stored { IfSome (object_stored object.entry) (λ held. IsTrue result × IsReport held report.old report.new) }
-    ensures none { object_stored object.entry ≡ None → (IsTrue result → ⊥) × (report.new ≡ report.old) }
+/// `tuv_end_report` of a peer, or of a peer's method.
+#[unsafe(no_mangle)]
+pub extern "C" fn tuv_peer_report(end: &mut TuvEnd, report: &mut TuvReport) -> bool
+    ensures same { end.new.value ≡ end.old.value }
+    ensures stored { report.old.size ≡ report_size → IfSome (stored_at_peer end.old.value.end) (λ held. IsTrue result × IsReport held report.old report.new) }
+    ensures none { stored_at_peer end.old.value.end ≡ None → (IsTrue result → ⊥) × (report.new ≡ report.old) }
+    ensures other_size { (report.old.size ≡ report_size → ⊥) → (IsTrue result → ⊥) × (report.new ≡ report.old) }
 {
-    match object {
-        Object::None => false,
-        Object::Peer(object) => write_end_report(&object.report(), &object.nonces(), report),
-        Object::Server(object) => write_end_report(&object.report(), &object.nonces(), report),
+    is_known(report) && report_peer(&end.session().end, report)
+}
+
+/// `tuv_end_report` of a stand-alone server, of a backend, or of a server's method.
+#[unsafe(no_mangle)]
+pub extern "C" fn tuv_server_report(end: &mut TuvEnd, report: &mut TuvReport) -> bool
+    ensures same { end.new.value ≡ end.old.value }
+    ensures stored { report.old.size ≡ report_size → IfSome (stored_at_server end.old.value.end) (λ held. IsTrue result × IsReport held report.old report.new) }
+    ensures none { stored_at_server end.old.value.end ≡ None → (IsTrue result → ⊥) × (report.new ≡ report.old) }
+    ensures other_size { (report.old.size ≡ report_size → ⊥) → (IsTrue result → ⊥) × (report.new ≡ report.old) }
+{
+    is_known(report) && report_server(&end.session().end, report)
+}
+
+/// Whether the struct is the one that is known here.
+fn is_known(report: &TuvReport) -> bool
+    ensures { result ≡ (report.now.size == report_size) }
+{
+    report.size == REPORT_SIZE
+}
+
+/// Writes what a peer or its method has.
+fn report_peer(end: &End, report: &mut TuvReport) -> bool
+    ensures stored { IfSome (stored_at_peer end.now) (λ held. IsTrue result × IsReport held report.old report.new) }
+    ensures none { stored_at_peer end.now ≡ None → (IsTrue result → ⊥) × (report.new ≡ report.old) }
+{
+    match peer_object_of(end) {
+        None => false,
+        Some(object) => write_end_report(&object.report(), &object.nonces(), report),
+    }
+}
+
+/// Writes what a server or its method has.
+fn report_server(end: &End, report: &mut TuvReport) -> bool
+    ensures stored { IfSome (stored_at_server end.now) (λ held. IsTrue result × IsReport held report.old report.new) }
+    ensures none { stored_at_server end.now ≡ None → (IsTrue result → ⊥) × (report.new ≡ report.old) }
+{
+    match server_object_of(end) {
+        None => false,
+        Some(object) => write_end_report(&object.report(), &object.nonces(), report),
     }
 }
 

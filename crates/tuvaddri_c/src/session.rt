@@ -29,6 +29,31 @@ pub enum End {
     Pass(PassThrough),
 }
 
+impl End {
+    ghost use Rattle.std.specs.Prelude.{◌≡◌};
+    ghost use Rattle.tuvaddri_c.specs.Ends.{is_peer, is_at_peer};
+
+    /// Whether it is a peer's machine.
+    pub fn is_peer(&self) -> bool
+        ensures { result ≡ is_peer self.now }
+    {
+        match self {
+            End::Peer(_) => true,
+            _ => false,
+        }
+    }
+
+    /// Whether it is a peer's machine or a peer's method.
+    pub fn is_at_peer(&self) -> bool
+        ensures { result ≡ is_at_peer self.now }
+    {
+        match self {
+            End::Peer(_) | End::PeerMethod(_, _) => true,
+            _ => false,
+        }
+    }
+}
+
 /// Users whose keys fit their methods.
 #[derive(Drop)]
 pub struct CheckedUsers {
