@@ -9,13 +9,11 @@
 #if defined(METHOD)
 #define BEGIN tuv_peer_method_begin
 #define HANDLE tuv_peer_method_handle
-#define REPORT tuv_end_report
 #define DONE(turn) ((turn).state == TUV_METHOD_DONE)
 typedef struct tuv_method_turn turn_t;
 #elif defined(PEER)
 #define BEGIN tuv_peer_begin
-#define HANDLE tuv_end_deliver
-#define REPORT tuv_end_report
+#define HANDLE tuv_peer_deliver
 #define DONE(turn) ((turn).state != TUV_STATE_IDLE)
 typedef struct tuv_turn turn_t;
 #endif
@@ -43,7 +41,7 @@ int main(void)
 		turn_t turn = HANDLE(&end, packet, (size_t) len);
 
 		len = (ssize_t) tuv_end_packet(&end, packet, sizeof(packet));
-		if (DONE(turn) && REPORT(&end, &report))
+		if (DONE(turn) && tuv_peer_report(&end, &report))
 			break;
 #endif
 		if (write(1, packet, (size_t) len) != len)
