@@ -13,7 +13,7 @@ pub use refusals::{
     Refusal, peer_refusal, retry_refusal, server_refusal, stand_alone_refusal, user_refusal,
 };
 pub use settings::{
-    SETTINGS_SIZE, Settings, credential, first_kind, key_for, keyed_kinds, kinds_of, peer_setup,
-    server_alone, server_side, suites_of, user_of, users_of,
+    SETTINGS_SIZE, Settings, add_users, credential, first_kind, key_for, keyed_kinds, kinds_of,
+    peer_setup, server_alone, server_side, suites_of, user_of,
 };
 pub use soundness::{is_sound_peer, is_sound_server};

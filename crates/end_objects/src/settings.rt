@@ -225,7 +225,7 @@ fn add_keyed(users: &mut Users, settings: &Settings)
 
 /// Adds the users that the settings give, if there are none.
 #[tactic(auto, unfolding(crate::specs::Settings::users_of))]
-fn add_users(users: &mut Users, settings: &Settings)
+fn add_other(users: &mut Users, settings: &Settings)
     requires none { users.old ≡ [] }
     requires other { IsSoundOther (settings_of settings.now) }
     ensures { users.new ≡ users_of (settings_of settings.now) }
@@ -236,18 +236,17 @@ fn add_users(users: &mut Users, settings: &Settings)
     }
 }
 
-/// The users of a server: the other end, once for each method for which there is a key, that of EAP-GPSK first; none
-/// if the settings name no other end.
+/// Adds the users of a server to none: the other end, once for each method for which there is a key, that of EAP-GPSK
+/// first; none if the settings name no other end.
 #[tactic(auto, using(crate::proofs::Taken::users_have_kinds, crate::proofs::Taken::users_have_keys))]
-pub fn users_of(settings: &Settings) -> Users
+pub fn add_users(users: &mut Users, settings: &Settings)
+    requires none { users.old ≡ [] }
     requires other { IsSoundOther (settings_of settings.now) }
-    ensures computed { result ≡ users_of (settings_of settings.now) }
-    ensures kinds { All (λ user. IsTrue (is_kind user.kind)) result }
-    ensures keys { All (λ user. IsTrue (is_valid_for user.kind user.psk)) result }
+    ensures computed { users.new ≡ users_of (settings_of settings.now) }
+    ensures kinds { All (λ user. IsTrue (is_kind user.kind)) users.new }
+    ensures keys { All (λ user. IsTrue (is_valid_for user.kind user.psk)) users.new }
 {
-    let mut users = Users::new();
-    add_users(&mut users, settings);
-    users
+    add_other(users, settings);
 }
 
 /// The settings of a server, but for its users: none.

@@ -6,7 +6,7 @@ ghost use Rattle.eap_packet.specs.Fault.{packet_of};
 ghost use Rattle.eap_method.specs.Peer.{peer_kind, peer_step, IsRequest};
 ghost use Rattle.eap_method.specs.Server.{server_kind, server_step, server_first_step, IsResponse};
 ghost use Rattle.end_objects.specs.Objects.{peer_object_shown, server_object_shown};
-ghost use Rattle.end_objects.specs.Refusals.{peer_refusal, server_refusal};
+ghost use Rattle.end_objects.specs.Refusals.{IsSoundOther, peer_refusal, server_refusal};
 ghost use Rattle.end_objects.specs.Settings.{settings_of, first_kind, users_of, credential_of, side_of};
 ghost use Rattle.tuvaddri_c.specs.Answers.{begun, refusal_number};
 ghost use Rattle.tuvaddri_c.specs.ByMethod.{peer_fresh, server_fresh};
@@ -18,11 +18,12 @@ use crate::answers::{STARTED, number_of_refusal};
 use crate::handle::TuvEnd;
 use crate::method_turn::TuvMethodTurn;
 use crate::session::{CheckedUsers, End};
+use crate::users::put;
 use eap_method::{NoRecords, PeerMethod, ServerMethod, Tags};
 use eap_packet::{Cause, Code, decode};
 use end_objects::{
     PeerObject, ServerObject, Settings, credential, first_kind, peer_object, peer_refusal,
-    server_object, server_refusal, server_side, users_of,
+    server_object, server_refusal, server_side,
 };
 use login_setup::Users;
 use octet_lists::{Nonce, Packet, Secret};
@@ -107,11 +108,16 @@ pub extern "C" fn tuv_peer_method_handle(end: &mut TuvEnd, octets: &[u8]) -> Tuv
 }
 
 /// Makes the end this server's method. (By itself, since the compiler then builds it where it stays.)
-fn store_server(end: &mut End, object: ServerObject, users: Users)
-    requires { All (λ user. IsTrue (is_valid_for user.kind user.psk)) users }
-    ensures { AsServerMethod end.new (λ n known. (n ≡ object) × (known.users ≡ users)) }
+fn store_server(end: &mut End, object: ServerObject, settings: &Settings)
+    requires { IsSoundOther (settings_of settings.now) }
+    ensures { AsServerMethod end.new (λ n known. (n ≡ object) × (known.users ≡ users_of (settings_of settings.now))) }
 {
+    let users = Users::new();
     *end = End::ServerMethod(object, CheckedUsers { users });
+    match end {
+        End::ServerMethod(_, known) => put(known, settings),
+        _ => {}
+    }
 }
 
 /// Makes the end the first of the server's methods, alone, which has begun and written its first Request, with this
@@ -141,7 +147,7 @@ pub extern "C" fn tuv_server_method_begin(
     let session = end.session();
     object.first_into(id, &mut session.sent.packet);
     session.sent.fresh = true;
-    store_server(&mut session.end, object, users_of(settings));
+    store_server(&mut session.end, object, settings);
     STARTED
 }
 

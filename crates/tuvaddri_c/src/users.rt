@@ -1,11 +1,11 @@
 //! The users of a server: those that it is given one by one, and the one that is given while it runs.
 
-ghost use Rattle.std.specs.Prelude.{◌≡◌, [], ◌∷◌, ◌++◌, true, false, None, All, IsTrue, IfSome, if◌then◌else◌};
+ghost use Rattle.std.specs.Prelude.{◌≡◌, [], ◌∷◌, ◌++◌, true, false, None, IfSome, if◌then◌else◌};
 ghost use Rattle.octet_lists.specs.Among.{is_kind};
 ghost use Rattle.login_setup.specs.Setup.{is_valid_for};
 ghost use Rattle.login_setup.specs.Users.{HasCapacity};
 ghost use Rattle.server_machine.specs.ServerTable.{with_users};
-ghost use Rattle.end_objects.specs.Refusals.{user_refusal};
+ghost use Rattle.end_objects.specs.Refusals.{IsSoundOther, user_refusal};
 ghost use Rattle.end_objects.specs.Settings.{settings_of, users_of};
 ghost use Rattle.tuvaddri_c.specs.Answers.{begun, no_place, refusal_number};
 ghost use Rattle.tuvaddri_c.specs.Ends.{IfServer, AsServer, IfBackend, AsBackend, can_restart};
@@ -13,10 +13,11 @@ ghost use Rattle.tuvaddri_c.specs.Methods.{IfServerMethod, is_server_method};
 ghost use Rattle.tuvaddri_c.specs.Users.{has_users, AcceptsUser};
 
 use crate::answers::{BAD_KEY, NO_PLACE, STARTED, number_of_refusal};
+use crate::by_method::add_users;
 use crate::handle::TuvEnd;
 use crate::session::{CheckedUsers, End};
 use eap_method::ServerMethod;
-use end_objects::{ServerObject, Settings, keyed_kinds, user_refusal, users_of};
+use end_objects::{ServerObject, Settings, keyed_kinds, user_refusal};
 use login_setup::{User, Users};
 use octet_lists::is_among;
 use server_machine::{Backend, ServerMachine};
@@ -35,6 +36,10 @@ pub trait HasUsers {
         requires kind { is_kind user.kind ≡ true }
         requires key { is_valid_for user.kind user.psk ≡ true }
         ensures { seen self.new ≡ with_users (seen self.old) ((seen self.old).vars.setup.users ++ user ∷ []) };
+
+    /// It knows no user.
+    fn clear(&mut self)
+        ensures { seen self.new ≡ with_users (seen self.old) [] };
 }
 
 impl HasUsers for ServerMachine<ServerObject> {
@@ -43,6 +48,10 @@ impl HasUsers for ServerMachine<ServerObject> {
     #[inline(always)]
     fn add(&mut self, user: User) {
         self.add_user(user)
+    }
+
+    fn clear(&mut self) {
+        self.set_users(Users::new())
     }
 }
 
@@ -53,6 +62,19 @@ impl HasUsers for Backend<ServerObject> {
     fn add(&mut self, user: User) {
         self.add_user(user)
     }
+
+    fn clear(&mut self) {
+        self.set_users(Users::new())
+    }
+}
+
+/// The user of the settings takes the place of those before. (They are added where they stay: a list of them is 5 KB.)
+fn change_users<M: HasUsers>(machine: &mut M, settings: &Settings)
+    requires { IsSoundOther (settings_of settings.now) }
+    ensures { M.seen machine.new ≡ with_users (M.seen machine.old) (users_of (settings_of settings.now)) }
+{
+    machine.clear();
+    add_users(machine, settings);
 }
 
 /// Gives a stand-alone server or a backend its one user, the other end of the settings with its keys, in place of the
@@ -74,11 +96,11 @@ pub extern "C" fn tuv_server_user(end: &mut TuvEnd, settings: &Settings) -> u8
         Some(refusal) => number_of_refusal(refusal),
         None => match &mut end.session().end {
             End::Server(machine) => {
-                machine.set_users(users_of(settings));
+                change_users(machine, settings);
                 STARTED
             }
             End::Backend(machine) => {
-                machine.set_users(users_of(settings));
+                change_users(machine, settings);
                 STARTED
             }
             _ => NO_PLACE,
@@ -86,12 +108,13 @@ pub extern "C" fn tuv_server_user(end: &mut TuvEnd, settings: &Settings) -> u8
     }
 }
 
-/// These users take the place of those before.
-fn put(known: &mut CheckedUsers, users: Users)
-    requires { All (λ user. IsTrue (is_valid_for user.kind user.psk)) users }
-    ensures { known.new.users ≡ users }
+/// The user of the settings takes the place of those before.
+pub fn put(known: &mut CheckedUsers, settings: &Settings)
+    requires { IsSoundOther (settings_of settings.now) }
+    ensures { known.new.users ≡ users_of (settings_of settings.now) }
 {
-    *known = CheckedUsers { users };
+    known.users = Users::new();
+    end_objects::add_users(&mut known.users, settings);
 }
 
 /// Gives a server's method its one user, as `tuv_server_user`, and answers 0. If there is no key for its method it
@@ -110,7 +133,7 @@ pub extern "C" fn tuv_server_method_user(end: &mut TuvEnd, settings: &Settings) 
         None => match &mut end.session().end {
             End::ServerMethod(object, known) => {
                 if is_among(keyed_kinds(settings).as_slice(), object.kind()) {
-                    put(known, users_of(settings));
+                    put(known, settings);
                     STARTED
                 } else {
                     BAD_KEY
