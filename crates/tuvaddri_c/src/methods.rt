@@ -1,7 +1,6 @@
 //! The methods alone, for a program with machines of its own.
 
-ghost use Rattle.std.specs.Prelude.{◌≡◌, true, false, IsTrue, All, Ok, Err, None, IfSome, IfOk, IfErr};
-ghost use Rattle.login_setup.specs.Setup.{is_valid_for};
+ghost use Rattle.std.specs.Prelude.{◌≡◌, true, false, Ok, Err, None, IfSome, IfOk, IfErr};
 ghost use Rattle.eap_packet.specs.Fault.{packet_of};
 ghost use Rattle.eap_method.specs.Peer.{peer_kind, peer_step, IsRequest};
 ghost use Rattle.eap_method.specs.Server.{server_kind, server_step, server_first_step, IsResponse};
