@@ -9,6 +9,7 @@ use Rattle.login_setup.specs.declared.setup.PeerSetup.{PeerSetup}
 use Rattle.login_setup.specs.declared.setup.ServerSetup.{ServerSetup}
 use Rattle.login_setup.specs.declared.setup.Mode.TheVariants.{Alone}
 use Rattle.login_setup.specs.declared.users.User.{User}
+use Rattle.login_setup.specs.Plain.{plain_server}
 use Rattle.login_setup.specs.Setup.{no_later}
 use Rattle.login_setup.specs.Users.{HasCapacity}
 use Rattle.bulk_run.specs.Conversation.{login_methods, alice, srv, known_with, setup_at, setup_with, deliveries, chosen, with_event, chances}
@@ -22,7 +23,7 @@ setup_of peer server later = record { mode = Alone; first_id = 0; max_retrans = 
 
 abbrev server_of : List ℕ → List ℕ → List ℕ → List User → List ℕ → ServerSetup
 server_of name methods suites users nonce =
-    record { name = name; methods = methods; suites = suites; users = users; nonce = nonce; expanded = false }
+    record plain_server { name = name; methods = methods; suites = suites; users = users; nonce = nonce }
 
 -- no delivery and no turn yet
 pub none_delivered : (setup : Setup) (w : WorldNow) → w ≡ run_of setup [] → w ≡ run_of setup (deliveries 0)

@@ -2,15 +2,13 @@
 use Rattle.std.specs.Prelude.{ℕ, zero, suc, ◌+◌, ◌*◌, ◌%◌, ◌==◌, List, [], ◌∷◌, ◌++◌, length, false, if◌then◌else◌, Option, Some, None, codes}
 use Rattle.login_setup.specs.declared.event.Event.{Event}
 use Rattle.login_setup.specs.declared.event.Event.TheVariants.{Deliver, Alter, Timeout}
-use Rattle.login_setup.specs.declared.setup.Accepts.TheVariants.{One}
-use Rattle.login_setup.specs.declared.setup.Mode.TheVariants.{Alone}
 use Rattle.login_setup.specs.declared.setup.Party.TheVariants as party
 use Rattle.login_setup.specs.declared.setup.PeerSetup.{PeerSetup}
 use Rattle.login_setup.specs.declared.setup.ServerSetup.{ServerSetup}
 use Rattle.login_setup.specs.declared.setup.Setup.{Setup}
 use Rattle.login_setup.specs.declared.users.User.{User}
 use Rattle.octet_lists.specs.Among.{gpsk_kind}
-use Rattle.login_setup.specs.Setup.{no_later}
+use Rattle.login_setup.specs.Plain.{plain_peer, plain_server, plain_setup}
 use Rattle.eap_world.specs.Run.{run_of}
 use Rattle.eap_world.specs.Sent.{Sent, packet_numbered}
 use Rattle.eap_world.specs.World.{octets_of}
@@ -22,16 +20,7 @@ login_methods = gpsk_kind ∷ []
 
 -- alice logs in at the server srv by EAP-GPSK, with these nonces and this key (RFC 5433)
 abbrev pub alice : List ℕ → List ℕ → PeerSetup
-alice nonce key = record {
-  name = codes "alice";
-  accepts = One (codes "srv");
-  methods = login_methods;
-  suites = 1 ∷ 2 ∷ [];
-  psk47 = None;
-  psk51 = Some key;
-  nonce = nonce;
-  expanded = false;
-}
+alice nonce key = record plain_peer { methods = login_methods; psk51 = Some key; nonce = nonce }
 
 -- as the server knows her
 abbrev pub known_with : List ℕ → User
@@ -39,18 +28,10 @@ known_with key = record { name = codes "alice"; kind = gpsk_kind; psk = key; bar
 
 -- the server, which knows her alone
 abbrev pub srv : List ℕ → List ℕ → ServerSetup
-srv nonce key = record {
-  name = codes "srv";
-  methods = login_methods;
-  suites = 1 ∷ 2 ∷ [];
-  users = known_with key ∷ [];
-  nonce = nonce;
-  expanded = false;
-}
+srv nonce key = record plain_server { methods = login_methods; users = known_with key ∷ []; nonce = nonce }
 
 abbrev pub setup_with : List ℕ → List ℕ → List ℕ → Setup
-setup_with peer_nonce server_nonce key =
-    record { mode = Alone; first_id = 0; max_retrans = 4; peer = alice peer_nonce key; server = srv server_nonce key; later = no_later }
+setup_with peer_nonce server_nonce key = record plain_setup { peer = alice peer_nonce key; server = srv server_nonce key }
 
 -- the settings of the conversation that begins after a place: 32 octets for each nonce and 32 for the key
 unfoldable pub setup_at : ℕ → ℕ → Setup

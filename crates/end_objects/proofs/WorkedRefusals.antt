@@ -2,6 +2,7 @@
 use Rattle.std.proofs.Common.{◌≡◌, ℕ, List, [], ◌∷◌, Option, Some, None, replicate, true, false, refl}
 use Rattle.std.specs.Prelude.{codes}
 use Rattle.login_setup.specs.declared.setup.Accepts.TheVariants.{Any, One}
+use Rattle.login_setup.specs.Plain.{plain_peer, plain_server}
 use Rattle.end_objects.specs.Settings.{SettingsValue, keyed_kinds, named_kinds, kinds_of, first_kind, suites_of, users_of, peer_setup_of, server_setup_of, credential_of}
 use Rattle.end_objects.specs.Refusals.{peer_refusal, server_refusal, stand_alone_refusal, user_refusal, has_bad_methods, has_bad_suites, has_keys, has_key_of_user}
 use Rattle.end_objects.specs.declared.refusals.Refusal.{Refusal}
@@ -93,29 +94,18 @@ bad_key : PeerIs (end (key 17) (key 32) none) (Some refusal.BadKey) × PeerIs (e
 unfolding peer_refusal kinds_of named_kinds keyed_kinds suites_of has_bad_methods has_bad_suites has_keys
 bad_key = (refl, refl, refl, refl, refl)
 
-made : peer_setup_of (record both { suites = 2 ∷ 0 ∷ []; expanded = 1 }) (replicate 32 17) ≡ record {
+made : peer_setup_of (record both { suites = 2 ∷ 0 ∷ []; expanded = 1 }) (replicate 32 17) ≡ record plain_peer {
   name = codes "ann";
-  accepts = One (codes "srv");
   methods = 51 ∷ 47 ∷ [];
   suites = 2 ∷ [];
   psk47 = Some (key 16);
   psk51 = Some (key 32);
-  nonce = replicate 32 17;
   expanded = true;
 }
 unfolding peer_setup_of kinds_of named_kinds keyed_kinds suites_of
 made = refl
 
-one_key : peer_setup_of (record (end (key 16) [] none) { other = [] }) (replicate 32 17) ≡ record {
-  name = codes "ann";
-  accepts = Any;
-  methods = 47 ∷ [];
-  suites = 1 ∷ 2 ∷ [];
-  psk47 = Some (key 16);
-  psk51 = None;
-  nonce = replicate 32 17;
-  expanded = false;
-}
+one_key : peer_setup_of (record (end (key 16) [] none) { other = [] }) (replicate 32 17) ≡ record plain_peer { name = codes "ann"; accepts = Any; methods = 47 ∷ []; psk47 = Some (key 16) }
 unfolding peer_setup_of kinds_of named_kinds keyed_kinds suites_of
 one_key = refl
 
@@ -148,13 +138,10 @@ retries : (stand_alone_refusal both 10 ≡ None) × (stand_alone_refusal both 11
 unfolding stand_alone_refusal server_refusal kinds_of named_kinds keyed_kinds suites_of has_bad_methods has_bad_suites has_keys has_key_of_user
 retries = (refl, refl, refl)
 
-initial_server : server_setup_of (record both { barred = 1 }) (replicate 32 34) ≡ record {
+initial_server : server_setup_of (record both { barred = 1 }) (replicate 32 34) ≡ record plain_server {
   name = codes "ann";
   methods = 51 ∷ 47 ∷ [];
-  suites = 1 ∷ 2 ∷ [];
   users = record { name = codes "srv"; kind = 51; psk = key 32; barred = true } ∷ record { name = codes "srv"; kind = 47; psk = key 16; barred = true } ∷ [];
-  nonce = replicate 32 34;
-  expanded = false;
 }
 unfolding server_setup_of kinds_of named_kinds keyed_kinds suites_of users_of
 initial_server = refl

@@ -9,6 +9,7 @@ use Rattle.login_setup.specs.declared.setup.Accepts.TheVariants.{Any}
 use Rattle.login_setup.specs.declared.setup.PeerSetup.{PeerSetup}
 use Rattle.login_setup.specs.declared.setup.ServerSetup.{ServerSetup}
 use Rattle.login_setup.specs.declared.users.User.{User}
+use Rattle.login_setup.specs.Plain.{plain_peer, plain_server}
 
 -- what must be true isn't where it is computed to be false
 not_so : (b : Bool) → b ≡ false → IsTrue b → ⊥
@@ -23,16 +24,8 @@ abbrev key : ℕ → Option (List ℕ)
 key size = Some (replicate size 7)
 
 abbrev peer : List ℕ → List ℕ → Option (List ℕ) → Option (List ℕ) → PeerSetup
-peer methods suites psk47 psk51 = record {
-  name = codes "alice";
-  accepts = Any;
-  methods = methods;
-  suites = suites;
-  psk47 = psk47;
-  psk51 = psk51;
-  nonce = replicate 32 17;
-  expanded = false;
-}
+peer methods suites psk47 psk51 =
+    record plain_peer { accepts = Any; methods = methods; suites = suites; psk47 = psk47; psk51 = psk51 }
 
 abbrev IsConsumed : PeerSetup → Type 0
 IsConsumed setup = IsSoundPeer setup × HasKeys setup
@@ -103,14 +96,7 @@ abbrev users : ℕ → ℕ → ℕ → ℕ → List User
 users kind size other_kind other_size = user 97 kind size ∷ user 98 other_kind other_size ∷ []
 
 abbrev server : List ℕ → List ℕ → List User → ServerSetup
-server methods suites known = record {
-  name = codes "srv";
-  methods = methods;
-  suites = suites;
-  users = known;
-  nonce = replicate 32 34;
-  expanded = false;
-}
+server methods suites known = record plain_server { methods = methods; suites = suites; users = known }
 
 psk_and_gpsk : IsSoundServer (server (51 ∷ 47 ∷ []) both (users 47 16 51 64))
 psk_and_gpsk = record {

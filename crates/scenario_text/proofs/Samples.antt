@@ -9,6 +9,7 @@ use Rattle.login_setup.specs.declared.setup.Party.TheVariants as party
 use Rattle.login_setup.specs.declared.setup.Port.TheVariants as port
 use Rattle.login_setup.specs.declared.setup.Setup.{Setup}
 use Rattle.login_setup.specs.declared.event.Event.TheVariants as event
+use Rattle.login_setup.specs.Plain.{plain_peer, plain_server, plain_setup}
 use Rattle.text_tables.specs.Fields.{spells_number, spells_octets}
 use Rattle.text_tables.specs.Texts as texts
 use Rattle.text_tables.specs.Texts.{body_has, read_body}
@@ -89,21 +90,9 @@ abbrev sample : List (List ℕ)
 sample = codes "eap-scenario 1" ∷ (front ++ codes "events" ∷ codes "idle" ∷ codes "deliver 2" ∷ codes "end" ∷ codes "" ∷ [])
 
 abbrev setup : Later → Setup
-setup later = record {
-  mode = mode.Alone;
-  first_id = 0;
-  max_retrans = 4;
-  peer = record {
-    name = codes "alice";
-    accepts = Any;
-    methods = [];
-    suites = 1 ∷ 2 ∷ [];
-    psk47 = None;
-    psk51 = None;
-    nonce = replicate 32 0;
-    expanded = false;
-  };
-  server = record { name = codes "home"; methods = []; suites = 1 ∷ 2 ∷ []; users = []; nonce = replicate 32 0; expanded = false };
+setup later = record plain_setup {
+  peer = record plain_peer { accepts = Any; nonce = replicate 32 0 };
+  server = record plain_server { name = codes "home"; nonce = replicate 32 0 };
   later = later;
 }
 

@@ -10,6 +10,7 @@ use Rattle.login_setup.specs.declared.setup.Setup.{Setup}
 use Rattle.login_setup.specs.declared.users.User.{User}
 use Rattle.octet_lists.specs.Among.{is_kind}
 use Rattle.login_setup.specs.Setup.{is_valid_for, no_later}
+use Rattle.login_setup.specs.Plain.{plain_peer, plain_server, plain_setup}
 use Rattle.world_laws.specs.Agreement.{IsWhole}
 use Rattle.smooth_laws.specs.Smooth.{EndsCompatible, HasShortNames, event_bound, common_kind, deliveries}
 
@@ -18,29 +19,15 @@ user_of_kind kind key = record { name = codes "alice"; kind = kind; psk = key; b
 
 -- alice has a key of each method, and logs in at the server srv; each end has these methods in its order
 pub example_setup : Mode → List ℕ → List ℕ → Setup
-example_setup runs allowed order = record {
+example_setup runs allowed order = record plain_setup {
   mode = runs;
   first_id = 255;
-  max_retrans = 4;
-  peer = record {
-    name = codes "alice";
-    accepts = One (codes "srv");
-    methods = allowed;
-    suites = 1 ∷ 2 ∷ [];
-    psk47 = Some (replicate 16 71);
-    psk51 = Some (replicate 32 81);
-    nonce = replicate 32 17;
-    expanded = false;
-  };
-  server = record {
-    name = codes "srv";
+  peer = record plain_peer { methods = allowed; psk47 = Some (replicate 16 71); psk51 = Some (replicate 32 81) };
+  server = record plain_server {
     methods = order;
     suites = 2 ∷ 1 ∷ [];
     users = user_of_kind 51 (replicate 32 81) ∷ user_of_kind 47 (replicate 16 71) ∷ [];
-    nonce = replicate 32 17;
-    expanded = false;
   };
-  later = no_later;
 }
 
 pub both : List ℕ

@@ -9,6 +9,7 @@ use Rattle.login_setup.specs.declared.setup.Party.TheVariants as party
 use Rattle.login_setup.specs.declared.setup.Port.TheVariants as port
 use Rattle.login_setup.specs.declared.event.Event.{Event}
 use Rattle.login_setup.specs.declared.event.Event.TheVariants.{Deliver}
+use Rattle.login_setup.specs.Plain.{plain_setup}
 use Rattle.eap_packet.specs.declared.state.State.TheVariants as state
 use Rattle.eap_packet.specs.Packet.{spelled}
 use Rattle.eap_packet.specs.Fault.{fault, packet_of}
@@ -32,23 +33,7 @@ use Rattle.eap_world.specs.World.{initial_world, world_start, act, conversed_by,
 
 -- alice logs in at the server srv, which sends a Request again four times; no end has a method
 example_setup : Setup
-example_setup = record {
-  mode = mode.Alone;
-  first_id = 0;
-  max_retrans = 4;
-  peer = record {
-    name = codes "alice";
-    accepts = One (codes "srv");
-    methods = [];
-    suites = 1 ∷ 2 ∷ [];
-    psk47 = None;
-    psk51 = None;
-    nonce = replicate 32 17;
-    expanded = false;
-  };
-  server = record { name = codes "srv"; methods = []; suites = 1 ∷ 2 ∷ []; users = []; nonce = replicate 32 34; expanded = false };
-  later = no_later;
-}
+example_setup = plain_setup
 
 three : List Event
 three = Deliver 1 ∷ Deliver 2 ∷ Deliver 3 ∷ []

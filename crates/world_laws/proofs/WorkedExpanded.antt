@@ -7,6 +7,7 @@ use Rattle.login_setup.specs.declared.setup.Mode.TheVariants as mode
 use Rattle.login_setup.specs.declared.setup.Accepts.TheVariants.{One}
 use Rattle.login_setup.specs.declared.event.Event.{Event}
 use Rattle.login_setup.specs.declared.event.Event.TheVariants.{Deliver}
+use Rattle.login_setup.specs.Plain.{plain_peer, plain_server, plain_setup}
 use Rattle.eap_packet.specs.Expanded.{are_expanded}
 use Rattle.eap_packet.specs.Packet as packets
 use Rattle.eap_packet.specs.Fault.{fault, packet_of}
@@ -25,23 +26,8 @@ use Rattle.eap_world.specs.World.{initial_world, world_start, act, conversed_by,
 
 -- alice, who has no method, and the server srv, which proposes EAP-PSK
 refusing_setup : Setup
-refusing_setup = record {
-  mode = mode.Alone;
-  first_id = 0;
-  max_retrans = 4;
-  peer = record {
-    name = codes "alice";
-    accepts = One (codes "srv");
-    methods = [];
-    suites = 1 ∷ 2 ∷ [];
-    psk47 = None;
-    psk51 = None;
-    nonce = replicate 32 17;
-    expanded = true;
-  };
-  server = record { name = codes "srv"; methods = 47 ∷ []; suites = 1 ∷ 2 ∷ []; users = []; nonce = replicate 32 34; expanded = true };
-  later = no_later;
-}
+refusing_setup =
+    record plain_setup { peer = record plain_peer { expanded = true }; server = record plain_server { methods = 47 ∷ []; expanded = true } }
 
 four_deliveries : List Event
 four_deliveries = Deliver 1 ∷ Deliver 2 ∷ Deliver 3 ∷ Deliver 4 ∷ []

@@ -8,6 +8,7 @@ use Rattle.login_setup.specs.declared.setup.Mode.TheVariants as mode
 use Rattle.login_setup.specs.declared.setup.Party.TheVariants as party
 use Rattle.login_setup.specs.declared.setup.Port.TheVariants as port
 use Rattle.login_setup.specs.declared.setup.Setup.{Setup}
+use Rattle.login_setup.specs.Plain.{plain_setup}
 use Rattle.eap_packet.specs.Fault.{fault, packet_of}
 use Rattle.peer_machine.specs.PeerTable.{peer_restart}
 use Rattle.server_machine.specs.ServerTable.{server_deliver, server_restart, server_start}
@@ -45,23 +46,7 @@ since_its_last = refl
 
 -- alice and srv, without methods, each with a second nonce, that of the server this one
 setup_with : List ℕ → Setup
-setup_with second = record {
-  mode = mode.Alone;
-  first_id = 0;
-  max_retrans = 4;
-  peer = record {
-    name = codes "alice";
-    accepts = One (codes "srv");
-    methods = [];
-    suites = 1 ∷ 2 ∷ [];
-    psk47 = None;
-    psk51 = None;
-    nonce = replicate 32 17;
-    expanded = false;
-  };
-  server = record { name = codes "srv"; methods = []; suites = 1 ∷ 2 ∷ []; users = []; nonce = replicate 32 34; expanded = false };
-  later = record { version = 2; peer = replicate 32 51 ∷ []; server = second ∷ [] };
-}
+setup_with second = record plain_setup { later = record { version = 2; peer = replicate 32 51 ∷ []; server = second ∷ [] } }
 
 both_start : List Event
 both_start = Restart party.Peer ∷ Restart party.Server ∷ []

@@ -8,6 +8,7 @@ use Rattle.login_setup.specs.declared.setup.Accepts.TheVariants.{One}
 use Rattle.login_setup.specs.declared.setup.Mode.TheVariants as mode
 use Rattle.login_setup.specs.declared.setup.Party.TheVariants as party
 use Rattle.login_setup.specs.declared.setup.Setup.{Setup}
+use Rattle.login_setup.specs.Plain.{plain_setup}
 use Rattle.eap_packet.specs.declared.state.State.TheVariants as state
 use Rattle.eap_method.specs.declared.tags.Label.TheVariants.{Sk}
 use Rattle.eap_method.specs.declared.tags.TagRecord.{TagRecord}
@@ -29,23 +30,7 @@ use Rattle.world_laws.proofs.SucceedingEnds.{first_in}
 
 -- alice and srv, each with three nonces
 abbrev setup : Setup
-setup = record {
-  mode = mode.Alone;
-  first_id = 0;
-  max_retrans = 4;
-  peer = record {
-    name = codes "alice";
-    accepts = One (codes "srv");
-    methods = [];
-    suites = 1 ∷ 2 ∷ [];
-    psk47 = None;
-    psk51 = None;
-    nonce = replicate 32 17;
-    expanded = false;
-  };
-  server = record { name = codes "srv"; methods = []; suites = 1 ∷ 2 ∷ []; users = []; nonce = replicate 32 34; expanded = false };
-  later = record { version = 2; peer = replicate 32 51 ∷ replicate 32 85 ∷ []; server = replicate 32 68 ∷ replicate 32 102 ∷ [] };
-}
+setup = record plain_setup { later = record { version = 2; peer = replicate 32 51 ∷ replicate 32 85 ∷ []; server = replicate 32 68 ∷ replicate 32 102 ∷ [] } }
 
 -- a tag by its number
 abbrev tag : ℕ → TagRecord
