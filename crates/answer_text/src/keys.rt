@@ -9,7 +9,7 @@ use crate::pieces::Piece::{Hex, Text};
 use crate::pieces::write_pieces;
 use eax_mode::eax_seal;
 use octet_io::{Failed, Sink};
-use octet_lists::Octets;
+use octet_lists::Injected;
 
 /// Writes a ciphertext and its tag.
 #[tactic(auto, unfolding(crate::specs::Keys::sealed_text))]
@@ -45,9 +45,9 @@ fn write_sealed<W: Sink>(
 pub fn write_eax<W: Sink>(
     sink: &mut W,
     key: &[u8; 16],
-    nonce: &Octets<2000>,
-    header: &Octets<2000>,
-    text: &Octets<2000>,
+    nonce: &Injected,
+    header: &Injected,
+    text: &Injected,
 ) -> Result<(), Failed>
     ensures { Appends W.shown result sink.old sink.new (sealed_text (eax_sealed key.now nonce.now header.now text.now)) }
 {

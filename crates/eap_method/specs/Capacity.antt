@@ -1,6 +1,7 @@
 -- A packet that has room for an Expanded Type (RFC 3748 section 5.7).
 use Rattle.std.specs.Prelude.{◌≤◌, ℕ, List, length, Bool, true, false, ⊤}
 use Rattle.eap_packet.specs.Fault.{length_of}
+use Rattle.eap_packet.specs.Expanded.{max_wrapped}
 use Rattle.eap_method.specs.declared.turn.PeerAnswer as brief_peer
 use Rattle.eap_method.specs.declared.turn.PeerAnswer.TheVariants as peer
 use Rattle.eap_method.specs.declared.turn.ServerAnswer as brief_server
@@ -14,7 +15,7 @@ use Rattle.eap_method.specs.declared.turn.ServerTurn.TheVariants as server_turn
 pub record HasCapacity (octets : List ℕ) : Type 0 where
   pub typed : 5 ≤ length_of octets
   pub whole : length_of octets ≤ length octets
-  pub fits : length_of octets ≤ 1493
+  pub fits : length_of octets ≤ max_wrapped
 
 -- whether a turn sends a packet
 abbrev pub replies : brief_peer.PeerAnswer → Bool

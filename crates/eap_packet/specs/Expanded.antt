@@ -6,6 +6,10 @@ use Rattle.eap_packet.specs.declared.expanded.Expanded.{Expanded}
 use Rattle.eap_packet.specs.Packet.{PacketValue, request, response, success, failure, two_octets}
 use Rattle.eap_packet.specs.Fault.{length_of}
 
+-- the octets of a packet that leaves room for the seven more of an Expanded Type
+abbrev pub max_wrapped : ℕ
+max_wrapped = 1493
+
 -- the Vendor-Id in three octets and the Vendor-Type in four, the most significant octet first
 abbrev pub vendor_of : List ℕ → ℕ
 vendor_of body = 65536 * slice_index body 0 + 256 * slice_index body 1 + slice_index body 2

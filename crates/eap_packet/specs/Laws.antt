@@ -3,7 +3,7 @@ use Rattle.std.specs.Prelude.{◌≡◌, ◌↔◌, ◌≤◌, ◌<◌, ℕ, Lis
 use Rattle.octet_lists.specs.Among.{nak_kind}
 use Rattle.eap_packet.specs.Packet.{PacketValue, request, response, success, failure, spelled, IsPacket, IsOctets}
 use Rattle.eap_packet.specs.Fault.{fault, packet_of}
-use Rattle.eap_packet.specs.Expanded.{vendor_of, vendor_type_of, is_ietf, is_nak_body, inner_kind, has_plain, has_plain_form, plain, wrap, expanded_form}
+use Rattle.eap_packet.specs.Expanded.{max_wrapped, vendor_of, vendor_type_of, is_ietf, is_nak_body, inner_kind, has_plain, has_plain_form, plain, wrap, expanded_form}
 
 -- the octets are the packet's encoding with some octets behind it
 pub record IsPrefixed (octets : List ℕ) (packet : PacketValue) : Type 0 where
@@ -80,4 +80,4 @@ PlainIsPacket = (packet : PacketValue) → IsPacket packet → IsPacket (plain p
 
 -- so is a wrapped packet, if the seven octets more fit
 abbrev pub WrapIsPacket : Type 0
-WrapIsPacket = (packet : PacketValue) → IsPacket packet → length (spelled packet) ≤ 1493 → IsPacket (wrap packet)
+WrapIsPacket = (packet : PacketValue) → IsPacket packet → length (spelled packet) ≤ max_wrapped → IsPacket (wrap packet)

@@ -6,7 +6,7 @@ ghost use Rattle.octet_lists.specs.Sizes.{max_packet};
 ghost use Rattle.octet_lists.specs.Among.{expanded_kind, ietf};
 ghost use Rattle.eap_packet.specs.Packet.{spelled, value_of, two_octets, max_type_data};
 ghost use Rattle.eap_packet.specs.Fault.{length_of};
-ghost use Rattle.eap_packet.specs.Expanded.{expanded_value, expanded_of, is_ietf, has_plain, is_wrapped, has_plain_form, plain, expanded_form, are_expanded, are_entries, is_bad_body, is_bad_expanded};
+ghost use Rattle.eap_packet.specs.Expanded.{max_wrapped, expanded_value, expanded_of, is_ietf, has_plain, is_wrapped, has_plain_form, plain, expanded_form, are_expanded, are_entries, is_bad_body, is_bad_expanded};
 
 use crate::packet::{Code, PacketView, init_into, length_field};
 use byteorder::{BigEndian, ByteOrder};
@@ -161,7 +161,7 @@ pub fn plain(view: &PacketView) -> Option<Packet>
 pub fn wrap_in_place(packet: &mut Packet)
     requires typed { 5 ≤ length_of packet.old }
     requires whole { length_of packet.old ≤ length packet.old }
-    requires bounded { length_of packet.old ≤ 1493 }
+    requires bounded { length_of packet.old ≤ max_wrapped }
     ensures { packet.new ≡ expanded_form packet.old }
 {
     let plain = packet.copy();
@@ -175,7 +175,7 @@ pub fn wrap_in_place(packet: &mut Packet)
 pub fn wrap(packet: &Packet) -> Packet
     requires typed { 5 ≤ length_of packet.now }
     requires whole { length_of packet.now ≤ length packet.now }
-    requires bounded { length_of packet.now ≤ 1493 }
+    requires bounded { length_of packet.now ≤ max_wrapped }
     ensures { result ≡ expanded_form packet.now }
 {
     let mut wrapped = packet.copy();

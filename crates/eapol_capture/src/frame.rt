@@ -3,7 +3,7 @@
 ghost use Rattle.std.specs.Prelude.{◌≡◌, ◌≤◌, length, nat_lt};
 ghost use Rattle.eapol_capture.specs.Frames.{contents_of, finding_value, whole_value, size_of, body_of, type_of, body_length};
 
-use octet_lists::{Octets, array_of};
+use octet_lists::{Injected, Octets, array_of};
 
 /// What a frame carries.
 #[derive(Clone, Copy)]
@@ -24,7 +24,7 @@ pub enum FrameFinding {
     /// EAPOL without its whole header, or an EAP packet without all its octets or of more than 2,000.
     Cut,
     /// An EAP packet.
-    Eap(Octets<2000>),
+    Eap(Injected),
 }
 
 /// The octets of a frame's two addresses and its type.

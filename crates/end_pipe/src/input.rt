@@ -3,14 +3,14 @@
 ghost use Rattle.std.specs.Prelude.{◌≡◌};
 ghost use Rattle.end_pipe.specs.Inputs.{is_octets};
 
-use octet_lists::Octets;
+use octet_lists::{Injected, Octets};
 
 /// The inputs of an end. Octets come to both, the end of the retransmission timer to the server (RFC 4137 section
 /// 5.5), and reports of the lower layer to the peer (section 4.1.1).
 #[derive(Drop)]
 pub enum EndInput {
     /// Octets arrive from the other end.
-    Octets(Octets<2000>),
+    Octets(Injected),
     /// The server's retransmission timer ends.
     Timeout,
     /// The peer's lower layer is idle.
@@ -26,9 +26,6 @@ impl EndInput {
     pub fn is_octets(&self) -> bool
         ensures { result ≡ is_octets self.now }
     {
-        match self {
-            EndInput::Octets(_) => true,
-            _ => false,
-        }
+        matches!(self, EndInput::Octets(_))
     }
 }

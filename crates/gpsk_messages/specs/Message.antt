@@ -94,6 +94,10 @@ pub record IsSuiteList (list : List ℕ) : Type 0 where
   pub whole : length list % 6 ≡ 0
   pub size : length list < 2 ^ 16
 
+-- the most octets of a CSuite_List that is read: 20 entries
+abbrev pub max_list : ℕ
+max_list = 120
+
 -- the limits of the fields before the MAC, but for the most suites of a list
 abbrev pub AreFields : Message → Type 0
 AreFields (gpsk1 id_s rand_s list) = IsIdentity id_s × IsRand rand_s × IsSuiteList list

@@ -1,7 +1,7 @@
 //! The events of a run.
 
 use crate::setup::{Party, Port};
-use octet_lists::Octets;
+use octet_lists::Injected;
 
 /// What happens next: a delivery, the end of a timer, or a report of the lower layer.
 #[derive(Drop)]
@@ -13,7 +13,7 @@ pub enum Event {
     /// The same, cut to its first `keep` octets.
     Cut { number: u32, keep: u16 },
     /// Any octets arrive at the port.
-    Inject { port: Port, octets: Octets<2000> },
+    Inject { port: Port, octets: Injected },
     /// The retransmission timer of the party ends.
     Timeout { party: Party },
     /// The pass-through's timer for the backend ends.

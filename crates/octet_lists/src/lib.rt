@@ -12,6 +12,7 @@ pub use kind::{
     is_among,
 };
 pub use octets::{
-    Identity, Kinds, MAX_NAME, MAX_PACKET, Nonce, Octets, Packet, Secret, Suites, array_of,
+    Identity, Injected, Kinds, MAX_NAME, MAX_PACKET, Nonce, Octets, Packet, Secret, Suites,
+    array_of,
 };
 pub use suite::{SUITE_SIZE, Suite};

@@ -26,6 +26,9 @@ pub type Suites = Octets<2>;
 /// An EAP packet: at most 1,500 octets.
 pub type Packet = Octets<MAX_PACKET>;
 
+/// Octets that a scenario injects, or that stand in a line of a text: at most 2,000.
+pub type Injected = Octets<2000>;
+
 /// The octets from which an end takes its nonce: 32 for EAP-GPSK, the first 16 for EAP-PSK.
 pub type Nonce = [u8; 32];
 

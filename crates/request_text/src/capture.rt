@@ -10,7 +10,7 @@ ghost use Rattle.text_tables.specs.declared.phase.Phase.TheVariants as phase;
 
 use crate::capture_line::{CAPTURE_WORDS, CaptureEntry, CaptureWord, entry_of};
 use login_setup::Users;
-use octet_lists::Octets;
+use octet_lists::Injected;
 use std::marker::Model;
 use text_tables::{LineFault, Part, Phase, Text, add_user, read_line};
 
@@ -22,7 +22,7 @@ pub enum CaptureItemKind {
     /// The line `packets`: `CaptureReader::users` gives the users.
     Ready,
     /// A packet to the peer or from it, of at most 2,000 octets.
-    Packet { to_peer: bool, octets: Octets<2000> },
+    Packet { to_peer: bool, octets: Injected },
     /// The line `end`.
     End,
 }
@@ -35,7 +35,7 @@ pub enum CaptureItem {
     /// The line `packets`, with the users.
     Ready(Users),
     /// A packet to the peer or from it, of at most 2,000 octets.
-    Packet { to_peer: bool, octets: Octets<2000> },
+    Packet { to_peer: bool, octets: Injected },
     /// The line `end`.
     End,
 }

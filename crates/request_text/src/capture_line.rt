@@ -6,7 +6,7 @@ ghost use Rattle.text_tables.specs.IsValidRow.{IsValidRow};
 ghost use Rattle.request_text.specs.Captures.{row_of, entry_of, HasKey};
 
 use login_setup::User;
-use octet_lists::Octets;
+use octet_lists::Injected;
 use text_tables::{Field, Row, TableWord, kind_of, name, octets, word_in};
 
 /// The first word of a line of a capture.
@@ -35,7 +35,7 @@ const PACKET: Field = Field::Hex { low: 0, high: 2000 };
 pub enum CaptureEntry {
     User(User),
     Packets,
-    Packet { to_peer: bool, octets: Octets<2000> },
+    Packet { to_peer: bool, octets: Injected },
     End,
 }
 

@@ -6,7 +6,7 @@ ghost use Rattle.request_text.specs.declared.key_line.KeyLine.TheVariants as key
 ghost use Rattle.text_tables.specs.IsValidRow.{IsValidRow};
 ghost use Rattle.request_text.specs.Keys.{row_of, ciphersuite_of, asked_of, asked_by, key_line, read_into, asked_into, HasSizes};
 
-use octet_lists::{MAX_NAME, Octets, Suite};
+use octet_lists::{Injected, MAX_NAME, Octets, Suite};
 use text_tables::{
     Field, LineFault, Row, TableWord, array, fault_of_words, is_comment, octets, read_keyword,
     word_in,
@@ -84,28 +84,28 @@ pub enum KeyLine {
     /// AES-CMAC of a text.
     Cmac {
         key: [u8; 16],
-        text: Octets<2000>,
+        text: Injected,
     },
     /// HMAC-SHA256 of a text.
     Hmac {
-        key: Octets<2000>,
-        text: Octets<2000>,
+        key: Injected,
+        text: Injected,
     },
     /// EAX over AES-128.
     Eax {
         key: [u8; 16],
-        nonce: Octets<2000>,
-        header: Octets<2000>,
-        text: Octets<2000>,
+        nonce: Injected,
+        header: Injected,
+        text: Injected,
     },
     /// The key schedule of EAP-GPSK: `psk` has 32 to 64 octets, `idp` and `ids` at most 253.
     Gpsk {
         suite: Suite,
-        psk: Octets<2000>,
+        psk: Injected,
         randp: [u8; 32],
-        idp: Octets<2000>,
+        idp: Injected,
         rands: [u8; 32],
-        ids: Octets<2000>,
+        ids: Injected,
     },
     /// The key schedule of EAP-PSK.
     Psk {
@@ -114,7 +114,7 @@ pub enum KeyLine {
     },
     /// The name of a key.
     Name {
-        key: Octets<2000>,
+        key: Injected,
     },
 }
 

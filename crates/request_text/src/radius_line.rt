@@ -5,7 +5,7 @@ ghost use Rattle.text_tables.specs.Words.{words};
 ghost use Rattle.text_tables.specs.IsValidRow.{IsValidRow};
 ghost use Rattle.request_text.specs.Radius.{row_of, reply_of, item_of};
 
-use octet_lists::{Identity, MAX_NAME, MAX_PACKET, Octets, Packet};
+use octet_lists::{Identity, Injected, MAX_NAME, MAX_PACKET, Octets, Packet};
 use text_tables::{Choices, Field, Row, TableWord, array, number, octets, word_in};
 
 /// The first word of a line of a text of RADIUS packets.
@@ -67,7 +67,7 @@ pub enum RadiusItem {
         eap: Packet,
     },
     /// The octets of a packet to be read.
-    Read(Octets<2000>),
+    Read(Injected),
     /// The line `end`.
     End,
 }

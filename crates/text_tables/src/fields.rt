@@ -7,7 +7,7 @@ ghost use Rattle.text_tables.specs.Fields.{number, spells_number, number_of, num
 ghost use Rattle.text_tables.specs.Fields.{is_hex_digit, is_hex, octets_of, spells_octets, spells_kind, kind_of, spells_suite, suite_of};
 
 use crate::fault::LineFault;
-use octet_lists::{GPSK_KIND, Identity, Octets, PSK_KIND};
+use octet_lists::{GPSK_KIND, Identity, Injected, Octets, PSK_KIND};
 
 /// The number that the word spells in decimal digits without a leading zero. `BadNumber` comes if it
 /// spells none, or one outside `low` to `high`.
@@ -77,7 +77,7 @@ fn number_up_to(digits: &[u8], high: u32) -> u64
 /// if the word is empty or isn't an even number of hex digits, else `BadSize` if it spells over
 /// 2,000 octets.
 #[tactic(auto, unfolding(crate::specs::Fields::hex_of))]
-pub fn read_hex(word: &[u8]) -> Result<Octets<2000>, LineFault>
+pub fn read_hex(word: &[u8]) -> Result<Injected, LineFault>
     ensures { result ≡ hex_of word.now }
 {
     if !spells_octets(word) {

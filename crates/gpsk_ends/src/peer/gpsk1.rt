@@ -2,6 +2,7 @@
 
 ghost use Rattle.std.specs.Prelude.{◌≡◌, ◌≤◌, ℕ, length, None};
 ghost use Rattle.octet_lists.specs.Sizes.{max_name};
+ghost use Rattle.gpsk_messages.specs.Message.{max_list};
 ghost use Rattle.eap_packet.specs.Packet.{max_type_data};
 ghost use Rattle.gpsk_messages.specs.Reading.{read_of};
 ghost use Rattle.login_policy.specs.Policy.{picked_suite};
@@ -19,7 +20,7 @@ use login_policy::pick_suite;
 /// `NoSuite`: there is none.
 fn pick<'a>(own: &Initial, gpsk1: &Gpsk1<'a>) -> Result<Offer<'a>, Cause>
     requires name { length gpsk1.now.id_s.now ≤ max_name }
-    requires few { length gpsk1.now.list.now ≤ 120 }
+    requires few { length gpsk1.now.list.now ≤ max_list }
     ensures { (id : ℕ) → outcome_of_offer own.now.cred own.now.nonce id result
         ≡ picks own.now.cred own.now.nonce id gpsk1.now.id_s.now gpsk1.now.rand_s gpsk1.now.list.now
         (picked_suite own.now.cred.suites gpsk1.now.list.now) }

@@ -2,6 +2,7 @@
 
 ghost use Rattle.std.specs.Prelude.{◌≤◌, length};
 ghost use Rattle.octet_lists.specs.Sizes.{max_name};
+ghost use Rattle.gpsk_messages.specs.Message.{max_list};
 
 use octet_lists::{Nonce, Suite};
 
@@ -17,5 +18,5 @@ pub struct Offer<'a> {
     /// CSuite_Sel.
     pub suite: Suite,
     ghost name: { length id_s.now ≤ max_name },
-    ghost few: { length list.now ≤ 120 },
+    ghost few: { length list.now ≤ max_list },
 }
