@@ -207,8 +207,7 @@ impl PassThrough {
         ensures after { self.new ≡ (pass_start self.old).after }
     {
         let mut packet = Packet::new();
-        let step = self.start_step(&mut packet);
-        PassStep::to_peer(step, packet)
+        PassStep::to_peer(self.start_step(&mut packet), packet)
     }
 
     /// [`from_peer_step`](PassThrough::from_peer_step), with the packet in its answer.
@@ -217,8 +216,7 @@ impl PassThrough {
         ensures after { self.new ≡ (pass_from_peer self.old octets.now).after }
     {
         let mut packet = Packet::new();
-        let step = self.from_peer_step(octets, &mut packet);
-        PassStep::to_server(step, packet)
+        PassStep::to_server(self.from_peer_step(octets, &mut packet), packet)
     }
 
     /// [`from_backend_step`](PassThrough::from_backend_step), with the packet in its answer.
@@ -227,8 +225,7 @@ impl PassThrough {
         ensures after { self.new ≡ (pass_from_backend self.old octets.now).after }
     {
         let mut packet = Packet::new();
-        let step = self.from_backend_step(octets, &mut packet);
-        PassStep::to_peer(step, packet)
+        PassStep::to_peer(self.from_backend_step(octets, &mut packet), packet)
     }
 
     /// [`timeout_step`](PassThrough::timeout_step), with the packet in its answer.
@@ -238,8 +235,7 @@ impl PassThrough {
         ensures after { self.new ≡ (pass_timeout self.old).after }
     {
         let mut packet = Packet::new();
-        let step = self.timeout_step(&mut packet);
-        PassStep::to_peer(step, packet)
+        PassStep::to_peer(self.timeout_step(&mut packet), packet)
     }
 
     /// [`aaa_timeout_step`](PassThrough::aaa_timeout_step), with the packet in its answer.
@@ -248,8 +244,7 @@ impl PassThrough {
         ensures step { result ≡ plain_step (pass_aaa_timeout self.old).step }
         ensures after { self.new ≡ (pass_aaa_timeout self.old).after }
     {
-        let step = self.aaa_timeout_step();
-        PassStep::to_peer(step, Packet::new())
+        PassStep::to_peer(self.aaa_timeout_step(), Packet::new())
     }
 
     /// [`aaa_noreq_step`](PassThrough::aaa_noreq_step), with the packet in its answer.
@@ -258,8 +253,7 @@ impl PassThrough {
         ensures step { result ≡ plain_step (pass_aaa_noreq self.old).step }
         ensures after { self.new ≡ (pass_aaa_noreq self.old).after }
     {
-        let step = self.aaa_noreq_step();
-        PassStep::to_peer(step, Packet::new())
+        PassStep::to_peer(self.aaa_noreq_step(), Packet::new())
     }
 
     /// The pass-through's state.

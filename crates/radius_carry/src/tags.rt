@@ -105,10 +105,7 @@ fn answering(secret: &[u8], request_authenticator: &[u8; 16], view: &RadiusView)
 fn is_request(kind: RadiusKind) -> bool
     ensures { result ≡ (number_of kind == 1) }
 {
-    match kind {
-        RadiusKind::Request => true,
-        RadiusKind::Accept | RadiusKind::Reject | RadiusKind::Challenge => false,
-    }
+    matches!(kind, RadiusKind::Request)
 }
 
 /// Whether the packet is an Access-Request of one who knows the secret: its Message-Authenticator is

@@ -12,7 +12,7 @@ use crate::mac::Mac;
 use crate::view::RadiusKind;
 use byteorder::{BigEndian, ByteOrder};
 use md5::{Digest, Md5};
-use octet_lists::Octets;
+use octet_lists::{Injected, Octets};
 
 /// The Type of an attribute User-Name.
 const USER_NAME: u8 = 1;
@@ -24,7 +24,7 @@ const STATE: u8 = 24;
 const MAX_VALUE: usize = 253;
 
 /// Appends an attribute, for which there is room.
-fn put_attribute(packet: &mut Octets<2000>, kind: u8, value: &[u8])
+fn put_attribute(packet: &mut Injected, kind: u8, value: &[u8])
     requires value { length value.now ≤ max_value }
     requires capacity { length packet.old + length value.now + 2 ≤ 2000 }
     ensures { packet.new ≡ packet.old ++ attribute_octets (kind, value.now) }
@@ -35,7 +35,7 @@ fn put_attribute(packet: &mut Octets<2000>, kind: u8, value: &[u8])
 
 /// Appends a name or a state: no attribute if it is empty.
 #[tactic(auto, unfolding(crate::specs::Packet::octets_of))]
-fn put_field(packet: &mut Octets<2000>, kind: u8, value: &[u8])
+fn put_field(packet: &mut Injected, kind: u8, value: &[u8])
     requires value { length value.now ≤ max_value }
     requires capacity { length packet.old + length value.now + 2 ≤ 2000 }
     ensures octets { packet.new ≡ packet.old ++ octets_of (field kind value.now) }
@@ -48,7 +48,7 @@ fn put_field(packet: &mut Octets<2000>, kind: u8, value: &[u8])
 
 /// Appends an EAP packet in attributes EAP-Message.
 #[tactic(auto, using(crate::proofs::Pieced::octets_of_none))]
-fn put_eap(packet: &mut Octets<2000>, eap: &[u8])
+fn put_eap(packet: &mut Injected, eap: &[u8])
     requires eap { length eap.now ≤ max_packet }
     requires capacity { length packet.old ≤ 400 }
     ensures octets { packet.new ≡ packet.old ++ octets_of (pieces eap.now) }
@@ -64,7 +64,7 @@ fn put_eap(packet: &mut Octets<2000>, eap: &[u8])
 
 /// The attributes before the tag.
 #[tactic(auto, using(crate::proofs::Pieced::carried_encoded))]
-fn carried_octets(user: &[u8], state: &[u8], eap: &[u8]) -> Octets<2000>
+fn carried_octets(user: &[u8], state: &[u8], eap: &[u8]) -> Injected
     requires user { length user.now ≤ max_value }
     requires state { length state.now ≤ 64 }
     requires eap { length eap.now ≤ max_packet }
@@ -90,13 +90,7 @@ fn head(code: u8, id: u8, size: usize) -> [u8; 4]
 
 /// The packet with these attributes and this tag behind them.
 #[tactic(auto, using(crate::proofs::Pieced::tagged_encoded))]
-fn framed(
-    code: u8,
-    id: u8,
-    authenticator: &[u8; 16],
-    attributes: &[u8],
-    tag: &[u8; 16],
-) -> Octets<2000>
+fn framed(code: u8, id: u8, authenticator: &[u8; 16], attributes: &[u8], tag: &[u8; 16]) -> Injected
     requires { length attributes.now ≤ 1834 }
     ensures { (list : List Attribute) → attributes.now ≡ octets_of list → result ≡ spelled (packet_with_tag code id authenticator.now list tag.now) }
 {
@@ -113,16 +107,6 @@ fn code_of(kind: RadiusKind) -> u8
     ensures { result ≡ number_of kind }
 {
     kind as u8
-}
-
-/// HMAC-MD5 of a text in one piece.
-fn mac_of(secret: &[u8], text: &[u8]) -> [u8; 16]
-    requires { length secret.now ≤ 64 }
-    ensures { result ≡ hmac_md5 secret.now text.now }
-{
-    let mut mac = Mac::new(secret);
-    mac.update(text);
-    mac.finish()
 }
 
 /// The Response Authenticator over a reply that has the Request Authenticator.
@@ -147,7 +131,9 @@ fn tag_over(
     ensures { (list : List Attribute) → attributes.now ≡ octets_of list → result ≡ hmac_md5 secret.now (spelled (blank_of code id authenticator.now list)) }
 {
     let blank = framed(code, id, authenticator, attributes, &[0; 16]);
-    mac_of(secret, blank.as_slice())
+    let mut mac = Mac::new(secret);
+    mac.update(blank.as_slice());
+    mac.finish()
 }
 
 /// An Access-Request that carries an EAP packet, with its Message-Authenticator under the secret (RFC
@@ -161,7 +147,7 @@ pub fn write_request(
     user: &[u8],
     state: &[u8],
     eap: &[u8],
-) -> Octets<2000>
+) -> Injected
     requires secret { length secret.now ≤ 64 }
     requires user { length user.now ≤ max_value }
     requires state { length state.now ≤ 64 }
@@ -185,7 +171,7 @@ pub fn write_reply(
     request_authenticator: &[u8; 16],
     state: &[u8],
     eap: &[u8],
-) -> Octets<2000>
+) -> Injected
     requires secret { length secret.now ≤ 64 }
     requires reply { kind ≢ RadiusKind.Request }
     requires state { length state.now ≤ 64 }

@@ -145,15 +145,12 @@ impl Settings {
     pub fn setup(&self) -> Result<Setup, LineFault>
         ensures { result ≡ setup_of self.now }
     {
-        let mode = self.mode.ok_or(LineFault::Missing)?;
-        let peer = self.peer()?;
-        let server = self.server()?;
         Ok(Setup {
-            mode,
+            mode: self.mode.ok_or(LineFault::Missing)?,
             first_id: self.first_id.unwrap_or(0),
             max_retrans: self.max_retrans.unwrap_or(4),
-            peer,
-            server,
+            peer: self.peer()?,
+            server: self.server()?,
             later: self.later(),
         })
     }
@@ -174,18 +171,14 @@ impl Settings {
     pub fn peer(&self) -> Result<PeerSetup, LineFault>
         ensures { result ≡ peer_setup_of self.now }
     {
-        let name = self.peer_name.as_ref().ok_or(LineFault::Missing)?;
-        let accepts = self.peer_server.as_ref().ok_or(LineFault::Missing)?;
-        let methods = self.peer_methods.as_ref().ok_or(LineFault::Missing)?;
-        let nonces = self.peer_nonces.as_ref().ok_or(LineFault::Missing)?;
         let peer = PeerSetup {
-            name: name.copy(),
-            accepts: accepts.copy(),
-            methods: methods.copy(),
+            name: self.peer_name.as_ref().ok_or(LineFault::Missing)?.copy(),
+            accepts: self.peer_server.as_ref().ok_or(LineFault::Missing)?.copy(),
+            methods: self.peer_methods.as_ref().ok_or(LineFault::Missing)?.copy(),
             suites: suites_or_both(&self.peer_suites),
             psk47: self.peer_psk47.as_ref().map(|key| key.copy()),
             psk51: self.peer_psk51.as_ref().map(|key| key.copy()),
-            nonce: nonces.first,
+            nonce: self.peer_nonces.as_ref().ok_or(LineFault::Missing)?.first,
             expanded: self.peer_expanded.unwrap_or(false),
         };
         if peer.has_keys() {
@@ -200,15 +193,13 @@ impl Settings {
     pub fn server(&self) -> Result<ServerSetup, LineFault>
         ensures { result ≡ server_setup_of self.now }
     {
-        let name = self.server_name.as_ref().ok_or(LineFault::Missing)?;
         let methods = self.server_methods.as_ref().ok_or(LineFault::Missing)?;
-        let nonces = self.server_nonces.as_ref().ok_or(LineFault::Missing)?;
         Ok(ServerSetup {
-            name: name.copy(),
+            name: self.server_name.as_ref().ok_or(LineFault::Missing)?.copy(),
             methods: methods.copy(),
             suites: suites_or_both(&self.server_suites),
             users: self.users.copy(),
-            nonce: nonces.first,
+            nonce: self.server_nonces.as_ref().ok_or(LineFault::Missing)?.first,
             expanded: self.server_expanded.unwrap_or(false),
         })
     }

@@ -180,38 +180,24 @@ fn fault_of_word(field: Field, place: usize, line: &[u8], count: usize) -> Optio
         Field::Number { low, high } => unless(spells_number(word, low, high), LineFault::BadNumber),
         Field::Kind => unless(spells_kind(word), LineFault::BadNumber),
         Field::KindOrNone => unless(is_kind_or_none(line, place, count), LineFault::BadNumber),
-        Field::OtherKind { place: other } => {
-            if spells_kind(word) {
-                unless(word != word_in(line, other), LineFault::Repeated)
-            } else {
-                Some(LineFault::BadNumber)
-            }
-        }
+        Field::OtherKind { place: other } => unless(spells_kind(word), LineFault::BadNumber).or(
+            unless(word != word_in(line, other), LineFault::Repeated),
+        ),
         Field::Suite => unless(spells_suite(word), LineFault::BadNumber),
-        Field::OtherSuite { place: other } => {
-            if spells_suite(word) {
-                unless(word != word_in(line, other), LineFault::Repeated)
-            } else {
-                Some(LineFault::BadNumber)
-            }
-        }
+        Field::OtherSuite { place: other } => unless(spells_suite(word), LineFault::BadNumber).or(
+            unless(word != word_in(line, other), LineFault::Repeated),
+        ),
         Field::Name => unless(is_within(word.len(), 1, MAX_NAME), LineFault::BadSize),
-        Field::Hex { low, high } => {
-            if spells_octets(word) {
-                unless(is_within(octet_count(word), low, high), LineFault::BadSize)
-            } else {
-                Some(LineFault::BadHex)
-            }
-        }
+        Field::Hex { low, high } => unless(spells_octets(word), LineFault::BadHex).or(unless(
+            is_within(octet_count(word), low, high),
+            LineFault::BadSize,
+        )),
         Field::Key { place: method } => {
-            if spells_octets(word) {
-                unless(
-                    is_valid_for(kind_of(word_in(line, method)), word),
-                    LineFault::BadSize,
-                )
-            } else {
-                Some(LineFault::BadHex)
-            }
+            let kind = kind_of(word_in(line, method));
+            unless(spells_octets(word), LineFault::BadHex).or(unless(
+                is_valid_for(kind, word),
+                LineFault::BadSize,
+            ))
         }
     }
 }
@@ -227,18 +213,10 @@ fn unless(holds: bool, fault: LineFault) -> Option<LineFault>
 fn earlier(one: Option<LineFault>, other: Option<LineFault>) -> Option<LineFault>
     ensures { result ≡ earlier one other }
 {
-    match one {
-        None => other,
-        Some(first) => match other {
-            None => one,
-            Some(second) => {
-                if second.rank() < first.rank() {
-                    other
-                } else {
-                    one
-                }
-            }
-        },
+    match (one, other) {
+        (Some(first), Some(second)) if first.rank() <= second.rank() => one,
+        (Some(_), None) => one,
+        _ => other,
     }
 }
 

@@ -42,17 +42,9 @@ fn add_named(name: &[u8], kind: &[u8], key: &[u8], users: &mut Users) -> bool
     ensures unchanged { result ≡ false → users.new ≡ users.old }
 {
     match user_named(name, kind, key) {
-        Some(user) => add(users, user),
+        Some(user) => users.add(user),
         None => false,
     }
-}
-
-/// Adds a user, if there is room.
-fn add(users: &mut Users, user: User) -> bool
-    ensures named { read_as result users.new ≡ with_named users.old (Some user) }
-    ensures unchanged { result ≡ false → users.new ≡ users.old }
-{
-    users.add(user)
 }
 
 /// The user that three words name.
