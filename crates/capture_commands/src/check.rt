@@ -62,10 +62,8 @@ impl Check {
         let finding = self.checker.packet(self.reader.users(), to_peer, octets);
         self.packets += 1;
         self.findings += u32::from(is_counted(&finding));
-        match write_finding(sink, self.packets, &finding) {
-            Ok(()) => Ok(Next::Proceed),
-            Err(_) => Err(Trouble::Write),
-        }
+        write_finding(sink, self.packets, &finding)?;
+        Ok(Next::Proceed)
     }
 
     /// The end of the input, after the line `end`.
@@ -106,9 +104,7 @@ impl Command for Check {
                 to_peer,
                 octets.as_slice(),
             ),
-            Ok(CaptureItemKind::Nothing) => Ok(Next::Proceed),
-            Ok(CaptureItemKind::Ready) => Ok(Next::Proceed),
-            Ok(CaptureItemKind::End) => Ok(Next::Proceed),
+            Ok(_) => Ok(Next::Proceed),
             Err(fault) => Ok(Next::Refuses(fault.word(), Status::Refused)),
         }
     }

@@ -220,10 +220,8 @@ impl Radius {
             eap.as_slice(),
         );
         self.asked = Some(asked);
-        match write_hex(sink, "request", packet.as_slice()) {
-            Ok(()) => Ok(Next::Proceed),
-            Err(_) => Err(Trouble::Write),
-        }
+        write_hex(sink, "request", packet.as_slice())?;
+        Ok(Next::Proceed)
     }
 
     /// Writes a reply to the request that is kept.
@@ -252,10 +250,8 @@ impl Radius {
                 write_hex(sink, "reply", packet.as_slice())
             }
         };
-        match written {
-            Ok(()) => Ok(Next::Proceed),
-            Err(_) => Err(Trouble::Write),
-        }
+        written?;
+        Ok(Next::Proceed)
     }
 
     /// Reads a packet and says what it is.
@@ -271,10 +267,8 @@ impl Radius {
                 write_packet(sink, &view, judgement)
             }
         };
-        match written {
-            Ok(()) => Ok(Next::Proceed),
-            Err(_) => Err(Trouble::Write),
-        }
+        written?;
+        Ok(Next::Proceed)
     }
 }
 
@@ -318,8 +312,7 @@ impl Command for Radius {
                 self.secret = octets;
                 Ok(Next::Proceed)
             }
-            Ok(RadiusItem::Nothing) => Ok(Next::Proceed),
-            Ok(RadiusItem::End) => Ok(Next::Proceed),
+            Ok(RadiusItem::Nothing | RadiusItem::End) => Ok(Next::Proceed),
             Err(fault) => Ok(Next::Refuses(fault.word(), Status::Refused)),
         }
     }

@@ -33,6 +33,16 @@ pub enum Trouble {
     Memory,
 }
 
+impl From<Failed> for Trouble {
+    ghost use Rattle.std.specs.Prelude.{◌≡◌};
+
+    ghost from_gives = { λ _ trouble. trouble ≡ Trouble.Write };
+
+    fn from(_failed: Failed) -> Trouble {
+        Trouble::Write
+    }
+}
+
 /// A command that reads lines, answers each, and ends with the input.
 pub trait Command {
     ghost use Rattle.std.specs.Prelude.{ℕ, List, Bool};

@@ -111,7 +111,10 @@ impl PcapReader {
         ensures never_falls { S.shown.faults source.old ≤ S.shown.faults source.new }
     {
         let start = self.start();
-        let answer = self.read_next(source);
+        let answer = match self.read_next(source) {
+            Ok(_) => NextRecord::Record,
+            Err(answer) => answer,
+        };
         self.settle(answer, start);
         answer
     }
@@ -147,23 +150,23 @@ impl PcapReader {
     }
 
     /// Reads the header, if that wasn't done, and a record.
-    fn read_next<S: Source>(&mut self, source: &mut S) -> NextRecord
+    fn read_next<S: Source>(&mut self, source: &mut S) -> Result<(), NextRecord>
         requires bounded { self.old.taken ≤ max_input }
-        ensures contents { Answers result self.old self.new (S.shown.octets source.old) (S.shown.octets source.new) }
+        ensures contents { Answers (answer_of result) self.old self.new (S.shown.octets source.old) (S.shown.octets source.new) }
         ensures number { self.new.number ≡ self.old.number }
         ensures over { self.new.over ≡ self.old.over }
-        ensures consumes { ConsumesSome result self.old.taken self.new.taken }
+        ensures consumes { ConsumesSome (answer_of result) self.old.taken self.new.taken }
         ensures bounded { self.new.taken ≤ max_input }
-        ensures exhausted { Exhausts result (S.shown.octets source.new) }
-        ensures waits { Waits result self.old self.new (S.shown.octets source.old) }
-        ensures read { Faults S.shown result source.old source.new }
+        ensures exhausted { Exhausts (answer_of result) (S.shown.octets source.new) }
+        ensures waits { Waits (answer_of result) self.old self.new (S.shown.octets source.old) }
+        ensures read { Faults S.shown (answer_of result) source.old source.new }
         ensures never_falls { S.shown.faults source.old ≤ S.shown.faults source.new }
     {
         match self.order {
-            Some(order) => self.read_record(source, order),
+            Some(order) => self.read_frame(source, order),
             None => match self.read_header(source) {
-                Ok(order) => self.read_record(source, order),
-                Err(answer) => answer,
+                Ok(order) => self.read_frame(source, order),
+                Err(answer) => Err(answer),
             },
         }
     }
@@ -195,26 +198,6 @@ impl PcapReader {
         let found = judge_header(self.frame.as_slice());
         self.order = found.ok();
         found
-    }
-
-    /// Reads a record.
-    fn read_record<S: Source>(&mut self, source: &mut S, order: OctetOrder) -> NextRecord
-        requires order { self.old.order ≡ Some order }
-        requires bounded { self.old.taken ≤ max_input }
-        ensures contents { Answers result self.old self.new (S.shown.octets source.old) (S.shown.octets source.new) }
-        ensures number { self.new.number ≡ self.old.number }
-        ensures over { self.new.over ≡ self.old.over }
-        ensures consumes { ConsumesSome result self.old.taken self.new.taken }
-        ensures bounded { self.new.taken ≤ max_input }
-        ensures exhausted { Exhausts result (S.shown.octets source.new) }
-        ensures waits { Waits result self.old self.new (S.shown.octets source.old) }
-        ensures read { Faults S.shown result source.old source.new }
-        ensures never_falls { S.shown.faults source.old ≤ S.shown.faults source.new }
-    {
-        match self.read_frame(source, order) {
-            Ok(_) => NextRecord::Record,
-            Err(answer) => answer,
-        }
     }
 
     /// Reads a record, up to what keeps it from being one.

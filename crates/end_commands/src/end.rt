@@ -87,13 +87,10 @@ impl<M, E: CanStart<M>> End<M, E> {
             result sink.old sink.new
             (starts_at E.table (end_seen E.shown self.old)) false (end_seen E.shown self.new) }
     {
-        match E::begin(self) {
-            None => Ok(Next::Proceed),
-            Some(step) => match write_step(sink, 0, &step, self.packet.as_slice()) {
-                Ok(()) => Ok(Next::Proceed),
-                Err(_) => Err(Trouble::Write),
-            },
+        if let Some(step) = E::begin(self) {
+            write_step(sink, 0, &step, self.packet.as_slice())?;
         }
+        Ok(Next::Proceed)
     }
 
     /// An input.
@@ -112,17 +109,9 @@ impl<M, E: CanStart<M>> End<M, E> {
                     return Ok(Next::Refuses("TooMuch", Status::TooMuch));
                 }
                 self.taken += 1;
-                match tell(
-                    pipe,
-                    sink,
-                    self.taken,
-                    input,
-                    &mut self.packet,
-                    &mut self.tags,
-                ) {
-                    Ok(()) => Ok(Next::Proceed),
-                    Err(_) => Err(Trouble::Write),
-                }
+                let step = pipe.step_into(input, &mut self.packet, &mut self.tags);
+                write_step(sink, self.taken, &step, self.packet.as_slice())?;
+                Ok(Next::Proceed)
             }
         }
     }
@@ -140,25 +129,6 @@ impl<M, E: CanStart<M>> End<M, E> {
         }
         Ok(Close::Ends(Status::Done))
     }
-}
-
-/// Passes an input to the end, and writes the lines of what it does, with this number.
-fn tell<E: Machine, W: Sink>(
-    pipe: &mut EndPipe<E>,
-    sink: &mut W,
-    number: u32,
-    input: &EndInput,
-    packet: &mut Packet,
-    tags: &mut Tags<TwoRecords>,
-) -> Result<(), Failed>
-    requires { E.is_running pipe.old.machine }
-    ensures running { E.is_running pipe.new.machine }
-    ensures after { (end_step E.table (end_now E.shown pipe.old) input.now).after ≡ end_now E.shown pipe.new }
-    ensures text { Appends W.shown result sink.old sink.new
-        (told_text number (end_step E.table (end_now E.shown pipe.old) input.now).told) }
-{
-    let step = pipe.step_into(input, packet, tags);
-    write_step(sink, number, &step, packet.as_slice())
 }
 
 impl<M, E: CanStart<M>> Command for End<M, E> {
@@ -180,10 +150,9 @@ impl<M, E: CanStart<M>> Command for End<M, E> {
     fn handle_line<W: Sink>(&mut self, sink: &mut W, line: &[u8]) -> Result<Next, Trouble> {
         let mut input = EndInput::Idle;
         match self.reader.line_into(line, &mut input) {
-            Ok(ItemKind::Nothing) => Ok(Next::Proceed),
             Ok(ItemKind::Ready) => self.begin(sink),
             Ok(ItemKind::Event) => self.step(sink, &input),
-            Ok(ItemKind::End) => Ok(Next::Proceed),
+            Ok(ItemKind::Nothing | ItemKind::End) => Ok(Next::Proceed),
             Err(fault) => Ok(Next::Refuses(fault.word(), Status::Refused)),
         }
     }

@@ -51,10 +51,8 @@ impl Decode {
     {
         self.packets += 1;
         self.malformed += u32::from(starts_with_none(octets));
-        match write_packet(sink, self.packets, octets) {
-            Ok(()) => Ok(Next::Proceed),
-            Err(_) => Err(Trouble::Write),
-        }
+        write_packet(sink, self.packets, octets)?;
+        Ok(Next::Proceed)
     }
 }
 

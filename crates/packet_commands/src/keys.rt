@@ -42,10 +42,10 @@ impl Command for Keys {
     fn handle_line<W: Sink>(&mut self, sink: &mut W, line: &[u8]) -> Result<Next, Trouble> {
         match read_key_line_into(line, &mut self.asked) {
             Ok(false) => Ok(Next::Proceed),
-            Ok(true) => match write_key_line(sink, &self.asked) {
-                Ok(()) => Ok(Next::Proceed),
-                Err(_) => Err(Trouble::Write),
-            },
+            Ok(true) => {
+                write_key_line(sink, &self.asked)?;
+                Ok(Next::Proceed)
+            }
             Err(fault) => Ok(Next::Refuses(fault.word(), Status::Refused)),
         }
     }

@@ -1,4 +1,5 @@
 use Rattle.std.proofs.Common.{◌≡◌, None}
+use Rattle.eapol_capture.specs.Parts.{answer_of}
 use Rattle.eapol_capture.proofs.Dividing.{fails-divides, fails-takes, fails-exhausts}
 use Rattle.eapol_capture.proofs.Waiting.{waits-behind}
 use Rattle.eapol_capture.proofs.reader.PcapReader.read_next.Goals as goal
@@ -15,6 +16,6 @@ returns-in-Err-clause-exhausted g c = fails-exhausts c.in-Err.answer _ _ _ c.in-
 pub returns-in-Ok-clause-waits : goal.returns-in-Ok-clause-waits
 returns-in-Ok-clause-waits g c =
     let none : c.args.self.now.order ≡ None = cc in
-    waits-behind c.read_record-in-Ok.result c.in-Ok.order c.args.self.now c.read_header.new.self c.read_record-in-Ok.new.self
+    waits-behind (answer_of c.read_frame-in-Ok.result) c.in-Ok.order c.args.self.now c.read_header.new.self c.read_frame-in-Ok.new.self
     (g.S.Source.shown.octets c.args.source.now) (g.S.Source.shown.octets c.read_header.new.source) none c.in-Ok.ensures.bounded c.in-Ok.ensures.header
-    c.read_record-in-Ok.ensures.waits
+    c.read_frame-in-Ok.ensures.waits
