@@ -31,7 +31,7 @@ fn deliver_to_peer(session: &mut Session, octets: &[u8]) -> TuvTurn
             let mut packet = Packet::new();
             let mut tags: Tags<NoRecords> = Tags::new();
             let step = machine.deliver_step(octets, &mut packet, &mut tags);
-            TuvTurn::of(&step, &packet, machine.state(), &mut session.sent)
+            TuvTurn::of(&step, packet.as_slice(), machine.state(), &mut session.sent)
         }
         _ => TuvTurn::none(&mut session.sent),
     }
@@ -53,11 +53,11 @@ fn deliver_to_server(session: &mut Session, octets: &[u8]) -> TuvTurn
     match &mut session.end {
         End::Server(machine) if machine.ready() => {
             let step = machine.deliver_step(octets, &mut packet, &mut tags);
-            TuvTurn::of(&step, &packet, machine.state(), &mut session.sent)
+            TuvTurn::of(&step, packet.as_slice(), machine.state(), &mut session.sent)
         }
         End::Backend(machine) => {
             let step = machine.deliver_step(octets, &mut packet, &mut tags);
-            TuvTurn::of(&step, &packet, machine.state(), &mut session.sent)
+            TuvTurn::of(&step, packet.as_slice(), machine.state(), &mut session.sent)
         }
         _ => TuvTurn::none(&mut session.sent),
     }

@@ -98,7 +98,7 @@ pub extern "C" fn tuv_peer_method_handle(end: &mut TuvEnd, octets: &[u8]) -> Tuv
                     &mut packet,
                     &mut tags,
                 ));
-                session.sent.set(turn.sends, &packet);
+                session.sent.set(turn.sends, packet.as_slice());
                 turn
             }
         },
@@ -192,7 +192,7 @@ pub extern "C" fn tuv_server_method_handle(
                 let mut tags: Tags<NoRecords> = Tags::new();
                 let turn = object.handle_step(whole, next_id, &known.users, &mut packet, &mut tags);
                 let turn = TuvMethodTurn::of_server(turn);
-                session.sent.set(turn.sends, &packet);
+                session.sent.set(turn.sends, packet.as_slice());
                 turn
             }
         },

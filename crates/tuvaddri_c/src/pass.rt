@@ -49,7 +49,7 @@ pub extern "C" fn tuv_pass_start(end: &mut TuvEnd) -> TuvTurn
         End::Pass(machine) if !machine.started() => {
             let mut packet = Packet::new();
             let step = machine.start_step(&mut packet);
-            TuvTurn::of(&step, &packet, machine.state(), &mut session.sent)
+            TuvTurn::of(&step, packet.as_slice(), machine.state(), &mut session.sent)
         }
         _ => TuvTurn::none(&mut session.sent),
     }
@@ -70,7 +70,7 @@ pub extern "C" fn tuv_pass_restart(end: &mut TuvEnd) -> TuvTurn
             let mut packet = Packet::new();
             let step = machine.restart_step(&mut packet);
             session.sent.clear();
-            TuvTurn::of(&step, &packet, machine.state(), &mut session.sent)
+            TuvTurn::of(&step, packet.as_slice(), machine.state(), &mut session.sent)
         }
         _ => TuvTurn::none(&mut session.sent),
     }
@@ -89,7 +89,7 @@ pub extern "C" fn tuv_pass_from_peer(end: &mut TuvEnd, octets: &[u8]) -> TuvTurn
         End::Pass(machine) => {
             let mut packet = Packet::new();
             let step = machine.from_peer_step(octets, &mut packet);
-            TuvTurn::of(&step, &packet, machine.state(), &mut session.sent)
+            TuvTurn::of(&step, packet.as_slice(), machine.state(), &mut session.sent)
         }
         _ => TuvTurn::none(&mut session.sent),
     }
@@ -108,7 +108,7 @@ pub extern "C" fn tuv_pass_from_backend(end: &mut TuvEnd, octets: &[u8]) -> TuvT
         End::Pass(machine) => {
             let mut packet = Packet::new();
             let step = machine.from_backend_step(octets, &mut packet);
-            TuvTurn::of(&step, &packet, machine.state(), &mut session.sent)
+            TuvTurn::of(&step, packet.as_slice(), machine.state(), &mut session.sent)
         }
         _ => TuvTurn::none(&mut session.sent),
     }
@@ -127,7 +127,7 @@ pub extern "C" fn tuv_pass_timeout(end: &mut TuvEnd) -> TuvTurn
         End::Pass(machine) if machine.has_timer() => {
             let mut packet = Packet::new();
             let step = machine.timeout_step(&mut packet);
-            TuvTurn::of(&step, &packet, machine.state(), &mut session.sent)
+            TuvTurn::of(&step, packet.as_slice(), machine.state(), &mut session.sent)
         }
         _ => TuvTurn::none(&mut session.sent),
     }
@@ -145,7 +145,7 @@ pub extern "C" fn tuv_pass_aaa_timeout(end: &mut TuvEnd) -> TuvTurn
     match &mut session.end {
         End::Pass(machine) if machine.waits_for_server() => {
             let step = machine.aaa_timeout_step();
-            TuvTurn::of(&step, &Packet::new(), machine.state(), &mut session.sent)
+            TuvTurn::of(&step, &[], machine.state(), &mut session.sent)
         }
         _ => TuvTurn::none(&mut session.sent),
     }
@@ -163,7 +163,7 @@ pub extern "C" fn tuv_pass_aaa_noreq(end: &mut TuvEnd) -> TuvTurn
     match &mut session.end {
         End::Pass(machine) if machine.waits_for_server() => {
             let step = machine.aaa_noreq_step();
-            TuvTurn::of(&step, &Packet::new(), machine.state(), &mut session.sent)
+            TuvTurn::of(&step, &[], machine.state(), &mut session.sent)
         }
         _ => TuvTurn::none(&mut session.sent),
     }

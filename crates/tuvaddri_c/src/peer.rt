@@ -18,7 +18,7 @@ use crate::handle::TuvEnd;
 use crate::session::End;
 use crate::turn::TuvTurn;
 use end_objects::{PeerObject, Settings, kinds_of, peer_objects, peer_refusal, peer_setup};
-use octet_lists::{Nonce, Packet};
+use octet_lists::Nonce;
 use peer_machine::PeerMachine;
 use std::alloc::Global;
 
@@ -74,7 +74,7 @@ pub extern "C" fn tuv_peer_idle(end: &mut TuvEnd) -> TuvTurn
     match &mut session.end {
         End::Peer(machine) if !machine.ended() => {
             let step = machine.idle_step();
-            TuvTurn::of(&step, &Packet::new(), machine.state(), &mut session.sent)
+            TuvTurn::of(&step, &[], machine.state(), &mut session.sent)
         }
         _ => TuvTurn::none(&mut session.sent),
     }
@@ -93,7 +93,7 @@ pub extern "C" fn tuv_peer_alt_accept(end: &mut TuvEnd) -> TuvTurn
     match &mut session.end {
         End::Peer(machine) if !machine.ended() => {
             let step = machine.alt_accept_step();
-            TuvTurn::of(&step, &Packet::new(), machine.state(), &mut session.sent)
+            TuvTurn::of(&step, &[], machine.state(), &mut session.sent)
         }
         _ => TuvTurn::none(&mut session.sent),
     }
@@ -112,7 +112,7 @@ pub extern "C" fn tuv_peer_alt_reject(end: &mut TuvEnd) -> TuvTurn
     match &mut session.end {
         End::Peer(machine) if !machine.ended() => {
             let step = machine.alt_reject_step();
-            TuvTurn::of(&step, &Packet::new(), machine.state(), &mut session.sent)
+            TuvTurn::of(&step, &[], machine.state(), &mut session.sent)
         }
         _ => TuvTurn::none(&mut session.sent),
     }

@@ -27,7 +27,7 @@ fn restart_peer(session: &mut Session, nonce: &Nonce) -> TuvTurn
         End::Peer(machine) if machine.has_objects() => {
             let step = machine.restart_step(nonce);
             session.sent.clear();
-            TuvTurn::of(&step, &Packet::new(), machine.state(), &mut session.sent)
+            TuvTurn::of(&step, &[], machine.state(), &mut session.sent)
         }
         _ => TuvTurn::none(&mut session.sent),
     }
@@ -48,12 +48,12 @@ fn restart_server(session: &mut Session, nonce: &Nonce) -> TuvTurn
             let mut packet = Packet::new();
             let step = machine.restart_step(nonce, &mut packet);
             session.sent.clear();
-            TuvTurn::of(&step, &packet, machine.state(), &mut session.sent)
+            TuvTurn::of(&step, packet.as_slice(), machine.state(), &mut session.sent)
         }
         End::Backend(machine) if machine.has_objects() => {
             let step = machine.restart_step(nonce);
             session.sent.clear();
-            TuvTurn::of(&step, &Packet::new(), machine.state(), &mut session.sent)
+            TuvTurn::of(&step, &[], machine.state(), &mut session.sent)
         }
         _ => TuvTurn::none(&mut session.sent),
     }

@@ -158,7 +158,7 @@ pub extern "C" fn tuv_server_start(end: &mut TuvEnd) -> TuvTurn
         End::Server(machine) if !machine.started() && !machine.is_backend() => {
             let mut packet = Packet::new();
             let step = machine.start_step(&mut packet);
-            TuvTurn::of(&step, &packet, machine.state(), &mut session.sent)
+            TuvTurn::of(&step, packet.as_slice(), machine.state(), &mut session.sent)
         }
         _ => TuvTurn::none(&mut session.sent),
     }
@@ -178,7 +178,7 @@ pub extern "C" fn tuv_server_timeout(end: &mut TuvEnd) -> TuvTurn
         End::Server(machine) if machine.has_timer() => {
             let mut packet = Packet::new();
             let step = machine.timeout_step(&mut packet);
-            TuvTurn::of(&step, &packet, machine.state(), &mut session.sent)
+            TuvTurn::of(&step, packet.as_slice(), machine.state(), &mut session.sent)
         }
         _ => TuvTurn::none(&mut session.sent),
     }

@@ -71,7 +71,8 @@ pub struct Sent {
 }
 
 impl Sent {
-    ghost use Rattle.std.specs.Prelude.{◌≡◌, if◌then◌else◌, Some, None};
+    ghost use Rattle.std.specs.Prelude.{◌≡◌, ◌≤◌, length, if◌then◌else◌, Some, None};
+    ghost use Rattle.octet_lists.specs.Sizes.{max_packet};
     ghost use Rattle.tuvaddri_c.specs.Sent.{none_sent, after_silence, after_turn};
 
     /// Nothing.
@@ -99,13 +100,14 @@ impl Sent {
         self.fresh = false;
     }
 
-    /// A turn sends this packet, or nothing.
-    pub fn set(&mut self, sends: bool, packet: &Packet)
-        ensures { self.new ≡ after_turn (if sends then Some packet.now else None) self.old }
+    /// A turn sends the packet of these octets, or nothing.
+    pub fn set(&mut self, sends: bool, octets: &[u8])
+        requires { length octets.now ≤ max_packet }
+        ensures { self.new ≡ after_turn (if sends then Some octets.now else None) self.old }
     {
         self.fresh = sends;
         if sends {
-            self.packet.set(packet.as_slice());
+            self.packet.set(octets);
         }
     }
 }

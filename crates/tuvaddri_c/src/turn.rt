@@ -1,13 +1,13 @@
 //! The result of a call, as numbers.
 
-ghost use Rattle.std.specs.Prelude.{◌≡◌, if◌then◌else◌, Some, None};
+ghost use Rattle.std.specs.Prelude.{◌≡◌, ◌≤◌, length, if◌then◌else◌, Some, None};
+ghost use Rattle.octet_lists.specs.Sizes.{max_packet};
 ghost use Rattle.tuvaddri_c.specs.Sent.{after_silence, after_turn};
 ghost use Rattle.tuvaddri_c.specs.Turns.{turn_of, no_turn, cause_number, state_number};
 
 use crate::session::Sent;
 use eap_method::Step;
 use eap_packet::{Cause, State};
-use octet_lists::Packet;
 
 /// The result of a call.
 #[repr(C)]
@@ -41,12 +41,13 @@ impl TuvTurn {
         }
     }
 
-    /// The result of a step that leads to this state; it sends the packet, or nothing.
-    pub fn of(step: &Step, packet: &Packet, state: State, sent: &mut Sent) -> TuvTurn
+    /// The result of a step that leads to this state; it sends the packet of these octets, or nothing.
+    pub fn of(step: &Step, octets: &[u8], state: State, sent: &mut Sent) -> TuvTurn
+        requires { length octets.now ≤ max_packet }
         ensures turn { result ≡ turn_of step.now state }
-        ensures sent { sent.new ≡ after_turn (if step.now.sends then Some packet.now else None) sent.old }
+        ensures sent { sent.new ≡ after_turn (if step.now.sends then Some octets.now else None) sent.old }
     {
-        sent.set(step.sends, packet);
+        sent.set(step.sends, octets);
         match step.cause {
             None => TuvTurn {
                 sends: step.sends,
