@@ -42,7 +42,7 @@ enum { TUV_NONCE_LEN = 32 };
 
 /* No call goes deeper into the stack, and tuv_clear_stack clears so many octets
  * below its caller. */
-#define TUV_STACK_MAX 20480
+#define TUV_STACK_MAX 16384
 
 /* Octets that belong to the caller. */
 struct tuv_octets {

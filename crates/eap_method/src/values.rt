@@ -38,6 +38,7 @@ pub struct Credential {
 
 impl Credential {
     /// An equal value.
+    #[inline(never)]
     pub fn copy(&self) -> Credential
         ensures { result ≡ self.now }
     {

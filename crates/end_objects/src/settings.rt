@@ -186,6 +186,7 @@ fn peer_setup_from(settings: &Settings, nonce: &Nonce) -> PeerSetup
 
 /// The other end as a user of this method, for which there is a key.
 #[tactic(auto, using(crate::proofs::Taken::user_is_known))]
+#[inline(never)]
 pub fn user_of(settings: &Settings, kind: u8) -> User
     requires other { IsSoundOther (settings_of settings.now) }
     requires keyed { is_among (keyed_kinds (settings_of settings.now)) kind ≡ true }

@@ -4,9 +4,10 @@ use Rattle.eap_packet.specs.declared.cause.Cause.{Cause}
 use Rattle.eap_method.specs.Tags.{Tags}
 use Rattle.eap_method.specs.declared.turn.PeerAnswer as brief
 use Rattle.eap_method.specs.declared.values.Credential.{Credential}
-use Rattle.eap_method.specs.GpskPeer.{Login, View, unset, fresh, wait, over, answers}
+use Rattle.eap_method.specs.GpskPeer.{Login, View, unset, fresh, wait, over, keys_of, answers}
 use Rattle.eap_method.specs.PeerTurn.{peer_turn_with}
 use Rattle.eap_method.specs.Turns.{PeerOutcome, discarded}
+use Rattle.gpsk_ends.specs.Keys.{SuiteKeys}
 use Rattle.gpsk_ends.specs.declared.peer.stage.Phase.{Phase}
 use Rattle.gpsk_ends.specs.declared.peer.stage.Phase.TheVariants as phase
 use Rattle.gpsk_ends.specs.declared.peer.stage.Stage.{Stage}
@@ -31,6 +32,10 @@ outcome_with turn packet tags after = record { turn = peer_turn_with turn packet
 -- the login that begins with an offer
 abbrev pub login_with : Credential → List ℕ → Offer → Login
 login_with cred nonce offer = record { cred = cred; nonce = nonce; id_s = offer.id_s.now; rand_s = offer.rand_s; suite = offer.suite }
+
+-- its keys
+abbrev pub keys_with : Credential → List ℕ → Offer → SuiteKeys
+keys_with cred nonce offer = record { suite = offer.suite; keys = keys_of (login_with cred nonce offer) }
 
 -- what a peer that has begun makes of the offer that it accepts, or of the cause why it accepts none
 abbrev pub outcome_of_offer : Credential → List ℕ → ℕ → Result Offer Cause → PeerOutcome View

@@ -1,13 +1,16 @@
 -- The state of a server of EAP-GPSK, and its state after a call, as its definition says it.
 use Rattle.std.specs.Prelude.{ℕ, List, Result}
 use Rattle.eap_packet.specs.declared.cause.Cause.{Cause}
+use Rattle.login_setup.specs.declared.users.User.{User}
 use Rattle.gpsk_messages.specs.Message.{Message}
+use Rattle.gpsk_messages.specs.declared.view.Gpsk2.{Gpsk2}
 use Rattle.eap_method.specs.Tags.{Tags}
 use Rattle.eap_method.specs.declared.turn.ServerAnswer as brief
 use Rattle.eap_method.specs.declared.values.ServerSide.{ServerSide}
-use Rattle.eap_method.specs.GpskServer.{Login, View, unset, begun, asked, refusing, barring, checked, refused, over, barring_reads, checked_reads, idle_reads}
+use Rattle.eap_method.specs.GpskServer.{Login, View, unset, begun, asked, refusing, barring, checked, refused, over, keys_of, barring_reads, checked_reads, idle_reads}
 use Rattle.eap_method.specs.ServerTurn.{server_turn_with}
 use Rattle.eap_method.specs.Turns.{ServerOutcome}
+use Rattle.gpsk_ends.specs.Keys.{SuiteKeys}
 use Rattle.gpsk_ends.specs.declared.server.stage.Alone.{Alone}
 use Rattle.gpsk_ends.specs.declared.server.stage.Alone.TheVariants as alone
 use Rattle.gpsk_ends.specs.declared.server.stage.Phase.{Phase}
@@ -33,6 +36,20 @@ abbrev pub view_of : Stage → View
 view_of stage.Unset = unset
 view_of (stage.Alone own phase) = view_alone own.side own.nonce phase
 view_of (stage.Login login phase) = view_in login phase
+
+-- the login of the user that GPSK-2 names, and its keys
+abbrev pub login_with : ServerSide → List ℕ → Gpsk2 → User → Login
+login_with own nonce gpsk2 user = record {
+  own = own;
+  nonce = nonce;
+  id_p = gpsk2.id_p.now;
+  psk = user.psk;
+  rand_p = gpsk2.rand_p;
+  suite = gpsk2.suite;
+}
+
+abbrev pub keys_with : ServerSide → List ℕ → Gpsk2 → User → SuiteKeys
+keys_with own nonce gpsk2 user = record { suite = gpsk2.suite; keys = keys_of (login_with own nonce gpsk2 user) }
 
 -- a turn with what it wrote, and the server's state after it
 abbrev pub outcome_with : brief.ServerAnswer → List ℕ → Tags → View → ServerOutcome View

@@ -4,6 +4,7 @@ ghost use Rattle.std.specs.Prelude.{◌≡◌, ◌≤◌, ◌+◌, ◌∷◌, []
 ghost use Rattle.octet_lists.specs.Suite.{ks_of};
 ghost use Rattle.octet_lists.specs.Sizes.{max_name};
 ghost use Rattle.eap_packet.specs.Packet.{has_type};
+ghost use Rattle.eap_packet.specs.Expanded.{max_wrapped};
 ghost use Rattle.gpsk_messages.specs.Message.{message_of, mac_of, size_of, spelled, without_mac};
 ghost use Rattle.eap_method.specs.Capacity.{HasCapacity};
 ghost use Rattle.gpsk_ends.specs.Sealed.{packet_of, record_of};
@@ -94,6 +95,7 @@ impl Keys {
 
     /// Writes the packet of a message whose MAC is yet to come, with the MAC of its covered octets under
     /// SK, and leaves that MAC's record alone in `made`. `psk` is the shared key from which SK comes.
+    #[inline(never)]
     pub(crate) fn seal<R: Records>(
         &self,
         view: &GpskMessage,
@@ -104,7 +106,7 @@ impl Keys {
         made: &mut TagList<R>,
     )
         requires typed { IsTrue (has_type code) }
-        requires bounded { size_of (message_of view.now) + 5 ≤ 1493 }
+        requires bounded { size_of (message_of view.now) + 5 ≤ max_wrapped }
         requires mac { length (mac_of (message_of view.now)) ≡ ks_of self.now.suite }
         ensures packet { packet.new ≡ packet_of code id self.now.suite self.now.keys.sk (without_mac (message_of view.now)) }
         ensures record { made.new ≡ record_of self.now.suite self.now.keys.sk psk.now (without_mac (message_of view.now)) ∷ [] }

@@ -97,6 +97,7 @@ impl PeerMethod for GpskPeer {
     }
 
     #[tactic(auto, unfolding(eap_method::specs::Peer::peer_step))]
+    #[inline(never)]
     fn handle_step<R: Records>(
         &mut self,
         request: &[u8],

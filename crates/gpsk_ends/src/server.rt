@@ -123,6 +123,7 @@ impl ServerMethod for GpskServer {
     }
 
     #[tactic(auto, unfolding(eap_method::specs::Server::server_step))]
+    #[inline(never)]
     fn handle_step<R: Records>(
         &mut self,
         response: &[u8],

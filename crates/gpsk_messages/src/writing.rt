@@ -14,6 +14,7 @@ use eap_packet::{Code, init_into};
 use octet_lists::{GPSK_KIND, Packet, Suite};
 
 /// Appends a field behind its length, for which there is room.
+#[inline(never)]
 fn put_sized(packet: &mut Packet, field: &[u8])
     requires { length packet.old + 2 + length field.now ≤ max_packet }
     ensures { packet.new ≡ packet.old ++ field_with_length field.now }
@@ -78,6 +79,7 @@ fn put_offer(packet: &mut Packet, gpsk2: &Gpsk2)
 }
 
 /// Appends CSuite_Sel, the PD block and the MAC, for which there is room.
+#[inline(never)]
 fn put_sealed(packet: &mut Packet, suite: Suite, pd: &[u8], mac: &[u8])
     requires { length packet.old + 8 + length pd.now + length mac.now ≤ max_packet }
     ensures { packet.new ≡ packet.old ++ (suite_octets suite ++ (field_with_length pd.now ++ mac.now)) }

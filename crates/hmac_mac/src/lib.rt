@@ -69,6 +69,7 @@ fn copy_of(hash: &Sha256) -> Sha256
 }
 
 // The digest of what the hash was fed, and then the text.
+#[inline(never)]
 fn digest_after(hash: &Sha256, text: &[u8]) -> [u8; 32]
     ensures { (fed : List ℕ) → Holds256 hash.now fed → result ≡ sha256 (fed ++ text.now) }
 {

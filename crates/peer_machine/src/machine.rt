@@ -389,6 +389,7 @@ impl<M: PeerMethod> PeerMachine<M> {
     /// The packet that the octets begin with is handled in its plain form, by the table; `tags` has no
     /// record yet.
     #[tactic(auto, using(crate::proofs::Identifiers::second_is_id, crate::proofs::Identifiers::plain_second_is_id))]
+    #[inline(never)]
     fn receive_plain<R: Records>(
         &mut self,
         view: &PacketView,
@@ -625,6 +626,7 @@ fn write_response(packet: &mut Packet, id: u8, kind: u8, body: &[u8])
 
 /// A Response to a Request of Type 254, written in place of the plain one that is sent: the Expanded
 /// Nak for a Nak (RFC 3748 section 5.3.2), any other wrapped (section 5.7). lastRespData is set to it.
+#[inline(never)]
 fn express(vars: &mut PeerVariables, packet: &mut Packet)
     requires { HasCapacity packet.old }
     ensures packet { packet.new ≡ express vars.old.setup.methods packet.old }
@@ -658,6 +660,7 @@ fn write_expanded_nak(packet: &mut Packet, id: u8, entries: &[u8])
 }
 
 /// SEND_RESPONSE, after the state `entered`: sets lastId and lastRespData.
+#[inline(never)]
 fn respond(vars: &mut PeerVariables, entered: State, id: u8, response: &Packet) -> Step
     ensures vars { vars.new ≡ record vars.old { last_id = Some id; last_response = response.now } }
     ensures step { result ≡ record { path = Received ∷ entered ∷ SendResponse ∷ Idle ∷ []; cause = None; sends = true } }

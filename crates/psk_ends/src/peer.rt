@@ -95,6 +95,7 @@ impl PeerMethod for PskPeer {
     }
 
     #[tactic(auto, unfolding(eap_method::specs::Peer::peer_step))]
+    #[inline(never)]
     fn handle_step<R: Records>(
         &mut self,
         request: &[u8],

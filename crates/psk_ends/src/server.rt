@@ -124,6 +124,7 @@ impl ServerMethod for PskServer {
     }
 
     #[tactic(auto, unfolding(eap_method::specs::Server::server_step))]
+    #[inline(never)]
     fn handle_step<R: Records>(
         &mut self,
         response: &[u8],

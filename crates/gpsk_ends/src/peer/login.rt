@@ -3,7 +3,8 @@
 ghost use Rattle.std.specs.Prelude.{◌≡◌, ◌≤◌, ◌+◌, ◌∷◌, [], length};
 ghost use Rattle.octet_lists.specs.Suite.{ks_of};
 ghost use Rattle.eap_packet.specs.declared.packet.Code.TheVariants as code;
-ghost use Rattle.gpsk_messages.specs.Message.{message_of, mac_of, size_of, without_mac};
+ghost use Rattle.eap_packet.specs.Expanded.{max_wrapped};
+ghost use Rattle.gpsk_messages.specs.Message.{max_list, message_of, mac_of, size_of, without_mac};
 ghost use Rattle.eap_method.specs.GpskTags.{gpsk_response, sk_record};
 ghost use Rattle.eap_method.specs.Capacity.{HasCapacity};
 ghost use Rattle.gpsk_ends.specs.Classified.{IsReceived};
@@ -27,6 +28,22 @@ pub struct Initial {
     /// RAND_Peer.
     pub nonce: Nonce,
     ghost long_enough: { 32 ≤ length cred.psk },
+}
+
+impl Initial {
+    ghost use Rattle.std.specs.Prelude.{◌≡◌};
+    ghost use Rattle.gpsk_ends.specs.PeerStage.{keys_with};
+
+    /// The keys of the login that begins with an offer: they are derived here alone (RFC 5433 section 4).
+    #[tactic(auto, unfolding(eap_method::specs::GpskPeer::keys_of))]
+    pub fn keys(&self, offer: &Offer) -> Keys
+        ensures { result ≡ keys_with self.now.cred self.now.nonce offer.now }
+    {
+        let psk = &self.cred.psk;
+        let id_p = self.cred.id_p.as_slice();
+        let rand_s = &offer.rand_s;
+        Keys::new(offer.suite, psk, &self.nonce, id_p, rand_s, offer.id_s)
+    }
 }
 
 /// A login after GPSK-1, with its keys. Contracts see the login alone: its keys are those that it has
@@ -56,17 +73,13 @@ impl Model for Login {
 impl Login {
     ghost use Rattle.eap_method.specs.GpskPeer.{keys_of, gpsk2_of, gpsk4_of, protected_fail_of, is_tagged_by, repeats, report_of};
     ghost use Rattle.gpsk_ends.specs.Nonces.{peer_nonces_of};
-    ghost use Rattle.gpsk_ends.specs.PeerStage.{login_with};
+    ghost use Rattle.gpsk_ends.specs.PeerStage.{keys_with, login_with};
 
-    /// The login that begins with an offer. Its keys are derived here alone (RFC 5433 section 4).
-    #[tactic(auto, unfolding(eap_method::specs::GpskPeer::keys_of))]
-    pub fn new(own: &Initial, offer: &Offer) -> Login
+    /// The login that begins with an offer, with its keys.
+    pub fn new(own: &Initial, offer: &Offer, keys: Keys) -> Login
+        requires { keys ≡ keys_with own.now.cred own.now.nonce offer.now }
         ensures { result ≡ login_with own.now.cred own.now.nonce offer.now }
     {
-        let psk = &own.cred.psk;
-        let id_p = own.cred.id_p.as_slice();
-        let rand_s = &offer.rand_s;
-        let keys = Keys::new(offer.suite, psk, &own.nonce, id_p, rand_s, offer.id_s);
         Login {
             own: Initial {
                 cred: own.cred.copy(),
@@ -120,7 +133,7 @@ impl Login {
         packet: &mut Packet,
         made: &mut TagList<R>,
     )
-        requires bounded { size_of (message_of view.now) + 5 ≤ 1493 }
+        requires bounded { size_of (message_of view.now) + 5 ≤ max_wrapped }
         requires mac { length (mac_of (message_of view.now)) ≡ ks_of self.now.suite }
         ensures packet { packet.new ≡ packet_of code.Response id self.now.suite (keys_of self.now).sk (without_mac (message_of view.now)) }
         ensures record { made.new ≡ record_of self.now.suite (keys_of self.now).sk self.now.cred.psk (without_mac (message_of view.now)) ∷ [] }
@@ -133,7 +146,7 @@ impl Login {
     /// Writes GPSK-2 with its MAC, whose record is then alone in `made`. `list` is the CSuite_List of
     /// GPSK-1.
     pub fn gpsk2<R: Records>(&self, id: u8, list: &[u8], packet: &mut Packet, made: &mut TagList<R>)
-        requires { length list.now ≤ 120 }
+        requires { length list.now ≤ max_list }
         ensures packet { packet.new ≡ gpsk_response id (gpsk2_of self.now list.now) }
         ensures record { made.new ≡ sk_record self.now.cred.psk (gpsk2_of self.now list.now) ∷ [] }
         ensures capacity { HasCapacity packet.new }

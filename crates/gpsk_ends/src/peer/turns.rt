@@ -1,25 +1,28 @@
 //! A peer's turn for each Request (RFC 5433 section 10).
 
-ghost use Rattle.std.specs.Prelude.{◌≡◌, ◌≤◌, length, true, not, None, Some};
+ghost use Rattle.std.specs.Prelude.{◌≡◌, ◌≤◌, ℕ, List, length, true, not, None, Some};
 ghost use Rattle.octet_lists.specs.Suite.{ks_of};
 ghost use Rattle.octet_lists.specs.Sizes.{max_packet};
 ghost use Rattle.eap_packet.specs.declared.cause.Cause.TheVariants.{BadTag};
 ghost use Rattle.eap_packet.specs.Packet.{max_type_data};
-ghost use Rattle.gpsk_messages.specs.Message.{message_of};
+ghost use Rattle.gpsk_messages.specs.Message.{max_list, message_of};
 ghost use Rattle.gpsk_messages.specs.Reading.{read_of};
 ghost use Rattle.eap_method.specs.Turns.{fault_if, discarded};
-ghost use Rattle.eap_method.specs.GpskPeer.{answers, over, over_reads, step};
+ghost use Rattle.eap_method.specs.GpskPeer.{answers, fresh, fresh_reads, over, over_reads, step};
 ghost use Rattle.eap_method.specs.GpskPeer.{confirms, repeats_fail, repeats_protected, is_tagged_by, wait_reads};
 ghost use Rattle.eap_method.specs.Capacity.{HasCapacity, replies};
 ghost use Rattle.gpsk_ends.specs.Classified.{IsReceived};
-ghost use Rattle.gpsk_ends.specs.PeerStage.{view_in, view_of, outcome_with};
+ghost use Rattle.gpsk_ends.specs.PeerStage.{view_in, view_of, outcome_with, keys_with, login_with};
 ghost use Rattle.gpsk_ends.specs.declared.peer.stage.Phase.TheVariants.{Wait};
 ghost use Rattle.eap_method.specs.declared.turn.PeerAnswer.TheVariants.{Reply};
+ghost use Rattle.eap_method.specs.declared.values.Credential.{Credential};
 ghost use Rattle.eap_method.specs.declared.values.MethodState.TheVariants.{Cont};
 ghost use Rattle.eap_method.specs.declared.values.Decision.TheVariants.{Fail};
 
+use crate::keys::Keys;
 use crate::peer::gpsk1::fresh_reads;
 use crate::peer::login::Login;
+use crate::peer::offer::Offer;
 use crate::peer::stage::{Phase, Stage};
 use crate::receiving::receive;
 use eap_method::{Decision, MethodState, PeerAnswer, Records, Tags};
@@ -36,7 +39,7 @@ fn answer<R: Records>(
     packet: &mut Packet,
     tags: &mut Tags<R>,
 ) -> PeerAnswer
-    requires { length list.now ≤ 120 }
+    requires { length list.now ≤ max_list }
     ensures turn { outcome_with result packet.new tags.new (view_in login.now Wait) ≡ answers login.now id list.now }
     ensures capacity { HasCapacity packet.new }
 {
@@ -45,6 +48,57 @@ fn answer<R: Records>(
     PeerAnswer::Reply {
         state: MethodState::Cont,
         decision: Decision::Fail,
+    }
+}
+
+/// The offer that a peer accepts is answered by GPSK-2, and the login begins. It is never inlined, so that no keys are derived
+/// above the octets of the login on the stack.
+#[inline(never)]
+fn log_in<R: Records>(
+    stage: &mut Stage,
+    offer: &Offer,
+    keys: Keys,
+    id: u8,
+    packet: &mut Packet,
+    tags: &mut Tags<R>,
+) -> PeerAnswer
+    requires keys { (cred : Credential) (nonce : List ℕ) → view_of stage.old ≡ fresh cred nonce → keys ≡ keys_with cred nonce offer.now }
+    ensures turn { (cred : Credential) (nonce : List ℕ) → view_of stage.old ≡ fresh cred nonce
+        → outcome_with result packet.new tags.new (view_of stage.new) ≡ answers (login_with cred nonce offer.now) id offer.now.list.now }
+    ensures capacity { replies result ≡ true → HasCapacity packet.new }
+{
+    let Stage::Fresh { own } = stage else {
+        return PeerAnswer::Discard(Cause::WrongOp);
+    };
+    let login = Login::new(own, offer, keys);
+    let turn = answer(&login, id, offer.list, packet, tags);
+    let phase = Phase::Wait;
+    *stage = Stage::Login { login, phase };
+    turn
+}
+
+/// The Type-Data at a peer that has begun.
+fn answer_first<R: Records>(
+    stage: &mut Stage,
+    id: u8,
+    body: &[u8],
+    packet: &mut Packet,
+    tags: &mut Tags<R>,
+) -> PeerAnswer
+    requires { length body.now ≤ max_type_data }
+    ensures turn { (cred : Credential) (nonce : List ℕ) → view_of stage.old ≡ fresh cred nonce
+        → outcome_with result packet.new tags.new (view_of stage.new) ≡ fresh_reads cred nonce id (read_of None body.now) }
+    ensures capacity { replies result ≡ true → HasCapacity packet.new }
+{
+    let Stage::Fresh { own } = stage else {
+        return PeerAnswer::Discard(Cause::WrongOp);
+    };
+    match fresh_reads(own, body) {
+        Err(cause) => PeerAnswer::Discard(cause),
+        Ok(offer) => {
+            let keys = own.keys(&offer);
+            log_in(stage, &offer, keys, id, packet, tags)
+        }
     }
 }
 
@@ -194,16 +248,7 @@ pub fn handle_request<R: Records>(
     let body = &request[5..];
     match stage {
         Stage::Unset => PeerAnswer::Discard(Cause::WrongOp),
-        Stage::Fresh { own } => match fresh_reads(own, body) {
-            Err(cause) => PeerAnswer::Discard(cause),
-            Ok(offer) => {
-                let login = Login::new(own, &offer);
-                let turn = answer(&login, id, offer.list, packet, tags);
-                let phase = Phase::Wait;
-                *stage = Stage::Login { login, phase };
-                turn
-            }
-        },
+        Stage::Fresh { .. } => answer_first(stage, id, body, packet, tags),
         Stage::Login { login, phase } => match phase {
             Phase::Wait => wait_reads(login, phase, id, body, packet, tags),
             Phase::Over { good } => PeerAnswer::Discard(over_cause(login, *good, body)),

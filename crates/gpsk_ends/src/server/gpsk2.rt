@@ -2,6 +2,7 @@
 
 ghost use Rattle.std.specs.Prelude.{◌≡◌, ◌≤◌, ℕ, List, length, true, All, IsTrue, IfSome, None, option_copied};
 ghost use Rattle.octet_lists.specs.Among.{gpsk_kind};
+ghost use Rattle.octet_lists.specs.Sizes.{max_name};
 ghost use Rattle.eap_packet.specs.Packet.{max_type_data};
 ghost use Rattle.login_setup.specs.Setup.{is_valid_for};
 ghost use Rattle.login_setup.specs.Users.{user_of};
@@ -11,15 +12,16 @@ ghost use Rattle.eap_method.specs.GpskServer.{asked, refusing, refuses, answers,
 ghost use Rattle.eap_method.specs.declared.values.ServerSide.{ServerSide};
 ghost use Rattle.eap_method.specs.Capacity.{HasCapacity, requests};
 ghost use Rattle.gpsk_ends.specs.Classified.{IsReceived};
-ghost use Rattle.gpsk_ends.specs.ServerStage.{outcome_with, view_in, view_of};
+ghost use Rattle.gpsk_ends.specs.ServerStage.{outcome_with, view_in, view_of, keys_with, login_with};
 ghost use Rattle.eap_method.specs.declared.turn.ServerAnswer.TheVariants.{Request};
 
+use crate::keys::Keys;
 use crate::receiving::receive;
 use crate::server::login::Login;
 use crate::server::stage::{Alone, Phase, Stage};
 use eap_method::{Records, ServerAnswer, Tags};
 use eap_packet::{Cause, Code};
-use gpsk_messages::{GpskMessage, write_gpsk_into};
+use gpsk_messages::{Gpsk2, GpskMessage, write_gpsk_into};
 use login_setup::{User, Users};
 use octet_lists::{GPSK_KIND, Packet};
 
@@ -75,6 +77,40 @@ fn find_user<'a>(users: &'a Users, id_p: &[u8]) -> Option<&'a User>
     users.find(id_p, GPSK_KIND)
 }
 
+/// GPSK-2 without a fault is answered, and the login begins. It is never inlined, so that no keys are derived above the octets of
+/// the login on the stack.
+#[inline(never)]
+fn log_in<R: Records>(
+    stage: &mut Stage,
+    gpsk2: &Gpsk2,
+    user: &User,
+    keys: Keys,
+    next_id: u8,
+    view: &GpskMessage,
+    body: &[u8],
+    packet: &mut Packet,
+    tags: &mut Tags<R>,
+) -> ServerAnswer
+    requires received { IsReceived (message_of view.now) body.now }
+    requires name { length gpsk2.now.id_p.now ≤ max_name }
+    requires keys { (own : ServerSide) (nonce : List ℕ) → view_of stage.old ≡ asked own nonce → keys ≡ keys_with own nonce gpsk2.now user.now }
+    ensures turn { (own : ServerSide) (nonce : List ℕ) → view_of stage.old ≡ asked own nonce → outcome_with result packet.new tags.new (view_of stage.new)
+        ≡ answers (login_with own nonce gpsk2.now user.now) user.now.barred next_id (message_of view.now) }
+    ensures capacity { requests result ≡ true → HasCapacity packet.new }
+{
+    let Stage::Alone {
+        own,
+        phase: Alone::Asked,
+    } = stage
+    else {
+        return ServerAnswer::Discard(Cause::WrongOp);
+    };
+    let login = Login::new(own, gpsk2, user, keys);
+    let phase = answer(&login, user.barred, next_id, view, body, packet, tags);
+    *stage = Stage::Login { login, phase };
+    ServerAnswer::Request
+}
+
 /// A message at a server that has sent GPSK-1. `FieldMismatch`: GPSK-2 does not repeat what GPSK-1 said.
 /// `SuiteNotOffered`: it names a suite that was not offered. `BadTag`: its MAC is wrong; the keys that were
 /// derived for it are dropped.
@@ -110,13 +146,11 @@ fn asked_receives<R: Records>(
         *phase = Alone::Refusing;
         return ServerAnswer::Request;
     };
-    let login = Login::new(own, gpsk2, user);
-    if !login.is_tagged(view, body) {
+    let keys = own.keys(gpsk2, user);
+    if !keys.is_tagged(view, body) {
         return ServerAnswer::Discard(Cause::BadTag);
     }
-    let phase = answer(&login, user.barred, next_id, view, body, packet, tags);
-    *stage = Stage::Login { login, phase };
-    ServerAnswer::Request
+    log_in(stage, gpsk2, user, keys, next_id, view, body, packet, tags)
 }
 
 /// The Type-Data at a server that has sent GPSK-1.

@@ -5,6 +5,7 @@ ghost use Rattle.octet_lists.specs.Among.{is_among};
 ghost use Rattle.octet_lists.specs.Suite.{ks_of, suite_number};
 ghost use Rattle.octet_lists.specs.Sizes.{max_name};
 ghost use Rattle.eap_packet.specs.declared.packet.Code.TheVariants as code;
+ghost use Rattle.eap_packet.specs.Expanded.{max_wrapped};
 ghost use Rattle.gpsk_messages.specs.Message.{message_of, mac_of, size_of, without_mac};
 ghost use Rattle.eap_method.specs.GpskTags.{gpsk_request, sk_record};
 ghost use Rattle.eap_method.specs.Capacity.{HasCapacity};
@@ -36,6 +37,7 @@ pub struct Initial {
 impl Initial {
     ghost use Rattle.eap_method.specs.GpskTags.{suite_list};
     ghost use Rattle.eap_method.specs.GpskServer.{first, repeats};
+    ghost use Rattle.gpsk_ends.specs.ServerStage.{keys_with};
 
     /// CSuite_List: the entry of each suite that the server offers, in six octets (RFC 5433 section 9.2).
     #[tactic(auto, unfolding(eap_method::specs::GpskTags::suite_list))]
@@ -72,6 +74,19 @@ impl Initial {
         gpsk2.id_s == self.side.id_s.as_slice()
             && gpsk2.rand_s == self.nonce
             && gpsk2.list == self.suite_list().as_slice()
+    }
+
+    /// The keys of the login of the user that GPSK-2 names: they are derived here alone (RFC 5433 section 4).
+    #[tactic(auto, unfolding(eap_method::specs::GpskServer::keys_of))]
+    pub fn keys(&self, gpsk2: &Gpsk2, user: &User) -> Keys
+        requires name { length gpsk2.now.id_p.now ≤ max_name }
+        requires key { 32 ≤ length user.now.psk }
+        ensures { result ≡ keys_with self.now.side self.now.nonce gpsk2.now user.now }
+    {
+        let psk = &user.psk;
+        let rand_p = &gpsk2.rand_p;
+        let id_s = self.side.id_s.as_slice();
+        Keys::new(gpsk2.suite, psk, rand_p, gpsk2.id_p, &self.nonce, id_s)
     }
 
     /// Whether the suite is one that the server offers.
@@ -113,32 +128,21 @@ impl Model for Login {
 impl Login {
     ghost use Rattle.eap_method.specs.GpskServer.{keys_of, gpsk3_of, bars_with, is_tagged_by, report_of};
     ghost use Rattle.gpsk_ends.specs.Nonces.{server_nonces_of};
+    ghost use Rattle.gpsk_ends.specs.ServerStage.{keys_with, login_with};
 
-    /// The login of the user that GPSK-2 names. Its keys are derived here alone (RFC 5433 section 4).
-    #[tactic(auto, unfolding(eap_method::specs::GpskServer::keys_of))]
-    pub fn new(own: &Initial, gpsk2: &Gpsk2, user: &User) -> Login
+    /// The login of the user that GPSK-2 names, with its keys.
+    pub fn new(own: &Initial, gpsk2: &Gpsk2, user: &User, keys: Keys) -> Login
         requires name { length gpsk2.now.id_p.now ≤ max_name }
-        requires key { 32 ≤ length user.now.psk }
-        ensures { result ≡ record {
-          own = own.now.side;
-          nonce = own.now.nonce;
-          id_p = gpsk2.now.id_p.now;
-          psk = user.now.psk;
-          rand_p = gpsk2.now.rand_p;
-          suite = gpsk2.now.suite;
-        } }
+        requires keys { keys ≡ keys_with own.now.side own.now.nonce gpsk2.now user.now }
+        ensures { result ≡ login_with own.now.side own.now.nonce gpsk2.now user.now }
     {
-        let psk = &user.psk;
-        let id_p = gpsk2.id_p;
-        let id_s = own.side.id_s.as_slice();
-        let keys = Keys::new(gpsk2.suite, psk, &gpsk2.rand_p, id_p, &own.nonce, id_s);
         Login {
             own: Initial {
                 side: own.side.copy(),
                 nonce: own.nonce,
             },
-            id_p: Octets::of(id_p),
-            psk: psk.copy(),
+            id_p: Octets::of(gpsk2.id_p),
+            psk: user.psk.copy(),
             rand_p: gpsk2.rand_p,
             keys,
         }
@@ -175,7 +179,7 @@ impl Login {
         packet: &mut Packet,
         made: &mut TagList<R>,
     )
-        requires bounded { size_of (message_of view.now) + 5 ≤ 1493 }
+        requires bounded { size_of (message_of view.now) + 5 ≤ max_wrapped }
         requires mac { length (mac_of (message_of view.now)) ≡ ks_of self.now.suite }
         ensures packet { packet.new ≡ packet_of code.Request id self.now.suite (keys_of self.now).sk (without_mac (message_of view.now)) }
         ensures record { made.new ≡ record_of self.now.suite (keys_of self.now).sk self.now.psk (without_mac (message_of view.now)) ∷ [] }
