@@ -40,7 +40,7 @@ def case_help(run: Any) -> Iterator[Optional[str]]:
         for path, text in scripts():
             name, head = str(path.relative_to(ROOT)), head_of(text)
             if name.startswith(("dev/", "tools/")) and "python3" in text[:40]:
-                status, out, errors = run([path.name, "--help"])
+                status, out, errors = run([name, "--help"])
             else:
                 done = subprocess.run([path, "--help"], cwd=folder, stdin=subprocess.DEVNULL, capture_output=True, text=True, timeout=60,
                                       env={**os.environ, "PATH": f"{folder}:{os.environ['PATH']}"})

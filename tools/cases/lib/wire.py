@@ -150,11 +150,11 @@ def radius(code: int, identifier: int, packet: bytes, *more: tuple[int, bytes], 
     return (SWITCH + STATION if code == 1 else STATION + SWITCH) + b"\x08\0", ip + udp
 
 
-def by_radius(packets: Iterable[bytes], **more: int) -> list[Item]:
+def by_radius(packets: Iterable[bytes], port: int = 1812) -> list[Item]:
     """The packets of a login, each Response in an Access-Request, each other one in its answer."""
     found: list[Item] = []
     identifier = 0
     for it in packets:
         identifier += it[0] == 2
-        found.append(radius({1: 11, 2: 1, 3: 2, 4: 3}[it[0]], identifier, it, **more))
+        found.append(radius({1: 11, 2: 1, 3: 2, 4: 3}[it[0]], identifier, it, port=port))
     return found

@@ -10,77 +10,16 @@ from lib.crate_pages import page_of
 from lib.crates import crates_of, text_here
 from lib.sources import Repository
 
-from cases.lib.small import Run, holds
-
-BODY = "{\n    let half = n / 2;\n    let _ = half;\n    double(n)\n}\n"
-TEXTS = {
-    "crates.txt": "low: sha2\nhigh: low\n",
-    "crates/low/src/lib.rt": """\
-//! Numbers,
-//! twice.
-
-/// Twice the number (RFC 3748 section 4). It fits.
-///
-/// And more.
-pub fn double(n: u8) -> u16
-    requires { n ≤ 5 }
-    ensures twice { result ≡ n + n }
-{
-    n as u16 + n as u16
-}
-
-/// It is so.
-pub fn it_is_so()
-    ensures { true ≡ true }
-{}
-
-/// Nobody else's.
-fn own(n: u8) -> u8
-{
-    n
-}
-""",
-    "crates/high/src/lib.rt": f"//! Uses them.\n\nuse low::double;\n\nfn short(n: u8) -> u16 {{\n    double(n)\n}}\n\nfn middle(n: u8) -> u16\n{BODY}",
-}
-PAGES = """\
-# low
-
-Numbers, twice.
-
-Built on: the kit alone. Used by: high.
-
-## A caller: `high::middle`
-
-```rust
-fn middle(n: u8) -> u16
-{
-    let half = n / 2;
-    let _ = half;
-    double(n)
-}
-```
-
-## Its calls
-
-- `double`: Twice the number (RFC 3748 section 4). It `requires { n ≤ 5 }`. *Ensures twice.*
-
-## Its laws
-
-- `it_is_so`: It is so.
-
-# high
-
-Uses them.
-
-Built on: low. Used by: none.
-"""
+from cases.lib.small import Run, holds, texts_of
 
 
 def case_page(_: Run) -> Iterator[Optional[str]]:
     """A caller has 5 to 15 lines, and a call its first sentence and its clauses; what isn't public is left out."""
-    repository = Repository(TEXTS)
-    pages = "\n\n".join("\n".join(page_of(repository, it)) for it in ("low", "high")) + "\n"
-    yield holds(pages == PAGES, f"the pages are other ones: {pages}")
+    texts = texts_of("dev/cases/pages.texts")
+    repository = Repository(texts)
+    for crate in repository.crates:
+        page = "\n".join(page_of(repository, crate)) + "\n"
+        yield holds(page == texts[f"crates/{crate}/README.md"], f"the page of {crate} is another one: {page}")
 
 
 def case_made(run: Run) -> Iterator[Optional[str]]:

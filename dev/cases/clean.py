@@ -12,7 +12,7 @@ from typing import Iterator, Optional
 
 from cases.lib.small import Run
 
-FOLDERS = (".", ".ci", "bench", "c", "c/hostapd", "c/python", "c/rust", "cases", "dev", "examples", "live", "share", "tools", "tools/cases", "tools/cases/lib", "tools/lib")
+FOLDERS = (".", ".ci", "bench", "c", "c/hostapd", "c/python", "c/rust", "cases", "dev", "dev/cases", "examples", "live", "share", "tools", "tools/cases", "tools/cases/lib", "tools/lib")
 SHELL = ("#!/bin/sh", "# shellcheck shell=sh")
 
 
@@ -26,7 +26,7 @@ def finds_nothing(names: tuple[str, ...], words: list[str], folder: str = ".") -
     """The first of these commands that is installed finds nothing with these words."""
     command = next((path for it in names if (path := shutil.which(it))), None)
     if command is None:
-        print(f"tools/check: {names[0]} is passed over: it isn't installed", file=sys.stderr)
+        print(f"dev/check: {names[0]} is passed over: it isn't installed", file=sys.stderr)
         return
     total = hashlib.sha256(f"{command} {Path(command).stat().st_mtime} {words}".encode())
     for it in scripts():
@@ -54,4 +54,5 @@ def case_python(run: Run) -> Iterator[Optional[str]]:
 
 def case_types(run: Run) -> Iterator[Optional[str]]:
     words = ["--strict", "--explicit-package-bases", "--python-version", "3.9", "--cache-dir", "../out/mypy"]
-    yield from finds_nothing(("mypy",), [*words, *(str(it.relative_to("tools")) for it in sorted(Path("tools/lib").glob("*.py")))], "tools")
+    files = [str(it.relative_to("tools")) for folder in ("lib", "cases/lib") for it in sorted(Path("tools", folder).glob("*.py"))]
+    yield from finds_nothing(("mypy",), [*words, *files], "tools")

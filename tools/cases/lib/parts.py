@@ -1,0 +1,205 @@
+"""The parts of tools/check and dev/check: NAME.cases has cases in the form of cases/README.md, whose first word is a tool of
+tools/ or of dev/; NAME.py has functions that begin with `case_`, each of which yields what is wrong; NAME.sh is read behind
+tools/cases/lib/common.sh. Tools in Python run within this interpreter."""
+
+from __future__ import annotations
+
+import functools
+import importlib.util
+import io
+import os
+import re
+import signal
+import subprocess
+import sys
+import tempfile
+from importlib.machinery import SourceFileLoader
+from itertools import chain
+from pathlib import Path
+from types import ModuleType
+from typing import Iterator, Optional, Sequence
+
+from cases.lib.small import Small, texts_of
+from lib.cases import Bad, Case, fault_in, read
+from lib.common import ROOT, Parser, said_by, this_python
+
+HERE = ROOT
+# What needs no program: it is begun first, while that may still be built.
+ALONE = "first_run"
+loaded: dict[str, ModuleType] = {}
+
+
+def module_of(path: Path) -> ModuleType:
+    """A script as a module, which is loaded once."""
+    name = str(path)
+    if name not in loaded:
+        loader = SourceFileLoader(re.sub(r"\W", "_", path.name), name)
+        spec = importlib.util.spec_from_loader(loader.name, loader)
+        assert spec
+        loaded[name] = importlib.util.module_from_spec(spec)
+        sys.modules[loader.name] = loaded[name]
+        loader.exec_module(loaded[name])
+    return loaded[name]
+
+
+def run_tool(words: Sequence[str], given: bytes = b"", root: Path = ROOT) -> tuple[int, str, str]:
+    """Runs a tool of dev/ or tools/ within this interpreter, or the same as if it stood in another repository: its status,
+    its output, its errors."""
+    place = next(it for it in (words[0], f"dev/{words[0]}", f"tools/{words[0]}") if (HERE / it).is_file())
+    module = module_of(HERE / place)
+    moved = [it for it in list(sys.modules.values()) if getattr(it, "ROOT", None) == HERE]
+    for it in moved:
+        setattr(it, "ROOT", root)
+    try:
+        return answer_of(module, [place, *words[1:]], given)
+    finally:
+        for it in moved:
+            setattr(it, "ROOT", HERE)
+
+
+def answer_of(module: ModuleType, words: Sequence[str], given: bytes) -> tuple[int, str, str]:
+    kept = sys.argv, sys.stdin, sys.stdout, sys.stderr
+    out, errors = io.BytesIO(), io.StringIO()
+    sys.argv = [*words]
+    sys.stdin = io.TextIOWrapper(io.BytesIO(given))
+    written = sys.stdout = io.TextIOWrapper(out, encoding="utf-8", write_through=True)
+    sys.stderr = errors
+    try:
+        module.tool(module.main)
+    except SystemExit as ended:
+        status = ended.code if isinstance(ended.code, int) else 0
+        if status == 130:
+            raise KeyboardInterrupt
+    finally:
+        sys.argv, sys.stdin, sys.stdout, sys.stderr = kept
+    written.flush()
+    return status, out.getvalue().decode(), errors.getvalue()
+
+
+# ---- Cases in the form of cases/README.md.
+
+
+def fault_of(case: Case, folder: str) -> Optional[str]:
+    """What is wrong with a tool's answer to a case, in this repository or in a small one with a changed file."""
+    root, named = ROOT, case.last("in")
+    if named:
+        small = small_of(folder, named)
+        small.again()
+        if file := case.last("at"):
+            # (a case's text is read as octets, and these files are in UTF-8)
+            small.turn(file, *((case.last(it) or "").encode("latin-1").decode() for it in ("old", "new")))
+        root = small.root
+    status, *texts = run_tool(case.words, case.input(), root)
+    return fault_in(case, status, *(it.encode().decode("latin-1") for it in texts))
+
+
+@functools.lru_cache(maxsize=None)
+def small_of(folder: str, named: str) -> Small:
+    return Small(run_tool, tempfile.mkdtemp(dir=folder), texts_of(named))
+
+
+def of_texts(path: Path) -> Iterator[Optional[str]]:
+    try:
+        cases = read(path)
+    except Bad as bad:
+        yield str(bad)
+        return
+    with tempfile.TemporaryDirectory() as folder:
+        for case in cases:
+            fault = fault_of(case, folder)
+            yield f"{case.name}: {fault}" if fault else None
+
+
+# ---- Cases in Python, and in shell.
+
+
+def of_module(path: Path) -> Iterator[Optional[str]]:
+    """A case yields what is wrong, or None for each thing that is as it should be."""
+    module = module_of(path)
+    for name in [it for it in vars(module) if it.startswith("case_")]:
+        for fault in getattr(module, name)(run_tool):
+            yield f"{path.name}: {name}: {fault}" if fault else None
+
+
+def left_behind(path: Path) -> Iterator[Optional[str]]:
+    left = os.listdir(tempfile.gettempdir())
+    yield f"{path.name}: something is left among the temporary files: {left[0]}" if left else None
+
+
+def begin(path: Path) -> subprocess.Popen[bytes]:
+    """Starts cases in shell."""
+    text = f'. "{path.parent}/lib/common.sh"; . "{path}"; ends_cases'
+    return subprocess.Popen(["sh", "-c", text], stdin=subprocess.DEVNULL, stdout=subprocess.PIPE)
+
+
+def counted(path: Path, begun: subprocess.Popen[bytes]) -> tuple[int, int]:
+    """How many cases in shell pass, and fail, by their last line."""
+    lines = begun.communicate()[0].decode("utf-8", "replace").splitlines()
+    found = re.fullmatch(r"(\d+) passed, (\d+) failed", lines[-1]) if lines and begun.returncode == 0 else None
+    if found:
+        return int(found[1]), int(found[2])
+    print(f"tools/check: {path.name} ends with status {begun.returncode}", file=sys.stderr)
+    return 0, 1
+
+
+def count(path: Path) -> tuple[int, int]:
+    """How many cases of a file pass, and fail; what is wrong is written."""
+    passed = failed = 0
+    for fault in of_texts(path) if path.suffix == ".cases" else chain(of_module(path), left_behind(path)):
+        passed, failed = passed + (not fault), failed + bool(fault)
+        if fault:
+            print(f"{path.parent.parent.name}/check: {fault}", file=sys.stderr)
+    return passed, failed
+
+
+def program() -> str:
+    """The program that EAP_LOGIN names, or the one that ./eap_login runs, which is built first where there is none."""
+    named = os.environ.get("EAP_LOGIN")
+    if named:
+        return os.path.realpath(named)
+    building = subprocess.Popen(["./eap_login", "decode"], stdin=subprocess.DEVNULL, stdout=subprocess.DEVNULL)
+    try:
+        building.wait()
+    finally:
+        building.terminate()
+    kept = ROOT / "out" / f"eap_login-{said_by('tools/prove', 'status').partition(':')[0]}"
+    return str(kept if kept.exists() else ROOT / "eap_login")
+
+
+def check(text: str, place: str) -> int:
+    """Tries the parts of `place` that the words name, or all; the help is this text."""
+    parser = Parser(text)
+    parts: dict[str, list[Path]] = {}
+    for path in sorted((ROOT / place / "cases").glob("*.*")):
+        if path.suffix in (".cases", ".py", ".sh"):
+            parts.setdefault(path.stem, []).append(path)
+    parser.add_argument("parts", metavar="PART", nargs="*", help=f"one of {', '.join(parts)}")
+    asked = parser.parse_args().parts or list(parts)
+    unknown = [it for it in asked if it not in parts]
+    if unknown:
+        parser.error(f"there is no part {', '.join(unknown)}; there are {', '.join(parts)}")
+    os.chdir(ROOT)
+    passed = failed = 0
+    begun: dict[Path, subprocess.Popen[bytes]] = {}
+    with tempfile.TemporaryDirectory(prefix="tools-") as folder, this_python():
+        tempfile.tempdir = folder
+        paths = [path for part in asked for path in parts[part]]
+        shells = [it for it in paths if it.suffix == ".sh"]
+        signal.signal(signal.SIGTERM, signal.default_int_handler)
+        try:
+            # (cases in shell start processes, and so run beside the others)
+            begun.update((it, begin(it)) for it in shells if it.stem == ALONE)
+            if place == "tools":
+                os.environ["EAP_LOGIN"] = program()
+            begun.update((it, begin(it)) for it in shells if it not in begun)
+            for path in [*(it for it in paths if it not in shells), *shells]:
+                right, wrong = counted(path, begun[path]) if path in begun else count(path)
+                passed, failed = passed + right, failed + wrong
+                print(f"{path.name}: {right} passed, {wrong} failed")
+        finally:
+            for it in begun.values():
+                it.terminate()
+        tempfile.tempdir = None
+    print(f"{sum(os.times()[:4]):.0f} s of a processor")
+    print(f"{place}: {passed} passed, {failed} failed")
+    return 1 if failed or not passed else 0

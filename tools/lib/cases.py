@@ -1,0 +1,293 @@
+"""Cases in the form of cases/README.md: a text in, a text out and an exit status."""
+
+from __future__ import annotations
+
+import concurrent.futures
+import contextlib
+import os
+import pty
+import re
+import subprocess
+import tempfile
+import tty
+from pathlib import Path
+from typing import IO, Iterator, Optional, Sequence, Union
+
+from lib.common import ROOT
+
+SCRIPT = ROOT / "eap_login"
+SECONDS = 60
+
+# A peer and a server that share a key of each method, up to the events.
+SETTINGS = """\
+eap-scenario 1
+mode alone
+first-id 0
+max-retrans 4
+peer-name alice
+peer-server srv
+peer-methods 51 47
+peer-suites 1 2
+peer-psk 51 000102030405060708090a0b0c0d0e0f101112131415161718191a1b1c1d1e1f
+peer-psk 47 000102030405060708090a0b0c0d0e0f
+peer-nonce 1111111111111111111111111111111111111111111111111111111111111111
+server-name srv
+server-methods 51 47
+server-suites 1 2
+server-nonce 2222222222222222222222222222222222222222222222222222222222222222
+user alice 51 000102030405060708090a0b0c0d0e0f101112131415161718191a1b1c1d1e1f allowed
+user alice 47 000102030405060708090a0b0c0d0e0f allowed
+events
+""".splitlines()
+
+OUTPUT = (">", "|", "last", "never", "sent", "same", "empty", "is", "!", "quiet")
+FORMS = ("from", "row", "$", "set", "take", "run", "<", "file", "input", "unreadable", "=", "in", "at", "old", "new", *OUTPUT)
+# (a last line that ends without LF follows its form without a space, too)
+FORM = re.compile(rf"({'|'.join(map(re.escape, FORMS))})(?: (.*))?|(<<)(.*)")
+
+
+class Bad(Exception):
+    """What is wrong with a file of cases."""
+
+
+class Case:
+    """The lines of one case: those before the file's first case, and then its own."""
+
+    def __init__(self, name: str, lines: list[tuple[str, str]]) -> None:
+        self.name, self.lines = name, lines
+
+    def all(self, form: str) -> list[str]:
+        return [rest for its, rest in self.lines if its == form]
+
+    def last(self, form: str) -> Optional[str]:
+        """The line of this form, the case's own in place of the file's."""
+        found = self.all(form)
+        return found[-1] if found else None
+
+    @property
+    def words(self) -> list[str]:
+        return [spelled(it) for it in (self.last("$") or "").split()]
+
+    def rows(self) -> list[Case]:
+        """One case for each row; the case itself where it has none."""
+        rows = [row.split("|") for row in self.all("row")]
+        return [Case(f"{self.name} ({'|'.join(row)})", self.filled(row)) for row in rows] or [self]
+
+    def filled(self, row: list[str]) -> list[tuple[str, str]]:
+        def field(found: re.Match[str]) -> str:
+            if not 1 <= int(found[1]) <= len(row):
+                raise Bad(f"{self.name}: a row has no field {found[0]}")
+            return row[int(found[1]) - 1]
+
+        return [(form, re.sub(r"\{(\d+)\}", field, rest)) for form, rest in self.lines if form != "row"]
+
+    def expanded(self) -> Case:
+        """The same with what is written short spelled out, but for the words, which spaces part first."""
+        return Case(self.name, [(form, rest if form == "$" else spelled(rest)) for form, rest in self.lines])
+
+    def check(self) -> None:
+        """Ends with Bad where the case doesn't say what it must."""
+        if self.last("from") is None:
+            raise Bad(f"{self.name}: it isn't said where what is expected comes from")
+        if self.last("$") is None or self.last("=") is None:
+            raise Bad(f"{self.name}: the words or the status are missing")
+        if not any(self.all(form) for form in OUTPUT):
+            raise Bad(f"{self.name}: nothing of the output is checked")
+
+    def input(self) -> bytes:
+        """A file of the repository, and then the lines and octets."""
+        named = self.last("input")
+        lines = scenario(self) if self.words[:1] == ["replay"] and named is None else []
+        text = "".join(line + "\n" for line in lines + self.all("<")) + "".join(self.all("<<"))
+        octets = text.encode("latin-1") + bytes.fromhex("".join(self.all("file")))
+        return ((ROOT / named).read_bytes() if named else b"") + octets
+
+
+def spelled(text: str) -> str:
+    """N times TEXT for {N*TEXT}, `deliver A` to `deliver B` for `deliver A..B`, and the octet for \\xHH."""
+    count = 1 if "{" in text else 0
+    while count:
+        text, count = re.subn(r"\{(\d+)\*([^{}]*)\}", lambda found: found[2] * int(found[1]), text)
+    if "deliver " in text:
+        text = re.sub(r"deliver (\d+)\.\.(\d+)", lambda found: deliveries(int(found[1]), int(found[2])), text)
+    return re.sub(r"\\x([0-9a-f]{2})", lambda found: chr(int(found[1], 16)), text) if "\\" in text else text
+
+
+def deliveries(first: int, last: int) -> str:
+    return ";".join(f"deliver {number}" for number in range(first, last + 1))
+
+
+def scenario(case: Case) -> list[str]:
+    """The settings with the case's changes, or the first of them, and its events."""
+    changes = [change.partition("|")[::2] for change in case.all("set")]
+    settings = [next((line for front, line in changes if setting.startswith(front)), setting) for setting in SETTINGS]
+    settings = [line for line in settings if line]
+    taken = case.last("take")
+    events = [event for events in case.all("run") for event in events.split(";")]
+    return settings[: len(settings) if taken is None else int(taken)] + events
+
+
+def whole_lines(path: Path) -> Iterator[tuple[int, str]]:
+    """The lines of a file with their numbers; one that ends with a backslash goes on in the next."""
+    front, first = "", 1
+    for number, line in enumerate(path.read_text("latin-1").split("\n"), 1):
+        first = first if front else number
+        if line.endswith("\\"):
+            front += line[:-1]
+        else:
+            yield first, front + line
+            front = ""
+
+
+def read(path: Path) -> list[Case]:
+    """The cases of a file, each row of one for itself, with what is written short spelled out."""
+    head: list[tuple[str, str]] = []
+    cases: list[Case] = []
+    for number, line in whole_lines(path):
+        if not line.strip() or line.startswith("#"):
+            continue
+        if line.startswith("case "):
+            cases.append(Case(f"{path.name}:{number}: {line[5:]}", list(head)))
+        elif found := FORM.fullmatch(line):
+            (cases[-1].lines if cases else head).append((found[1] or found[3], found[2] or found[4] or ""))
+        else:
+            raise Bad(f"{path.name}:{number}: no line of a case: {line}")
+    if not cases:
+        raise Bad(f"{path.name}: it has no case")
+    cases = [each for case in cases for each in case.rows()]
+    for case in cases:
+        case.check()
+    return [case.expanded() for case in cases]
+
+
+# ---- The program at a case.
+
+Stream = Union[int, IO[bytes]]
+
+
+def answer_to(case: Case) -> tuple[int, str, str]:
+    """The status, the output and the errors of the program for a case; of the script, at a terminal, where the errors are
+    looked at."""
+    words = [word.encode("latin-1") for word in case.words]
+    with tempfile.TemporaryFile() as file, tempfile.TemporaryFile() as out:
+        file.write(case.input())
+        file.seek(0)
+        folder = os.open("/", os.O_RDONLY)  # each read of a folder fails
+        try:
+            given: Stream = file if case.last("unreadable") is None else folder
+            if case.all("!") or case.all("quiet"):
+                status, errors = at_terminal([SCRIPT, *words], given, out)
+            else:
+                program = os.environ.get("EAP_LOGIN") or SCRIPT
+                run = subprocess.run([program, *words], stdin=given, stdout=out, stderr=subprocess.PIPE, timeout=SECONDS)
+                status, errors = run.returncode, run.stderr
+        finally:
+            os.close(folder)
+        out.seek(0)
+        return status, out.read().decode("latin-1"), errors.decode("latin-1")
+
+
+def at_terminal(words: Sequence[Union[Path, bytes]], given: Stream, out: Stream) -> tuple[int, bytes]:
+    """The status and the errors of a run whose standard error is a terminal."""
+    near, far = pty.openpty()
+    errors = b""
+    try:
+        tty.setraw(far)
+        try:
+            status = subprocess.run(words, stdin=given, stdout=out, stderr=far, timeout=SECONDS).returncode
+        finally:
+            os.close(far)
+        with contextlib.suppress(OSError):  # so it ends
+            while piece := os.read(near, 4096):
+                errors += piece
+        return status, errors
+    finally:
+        os.close(near)
+
+
+def program_faults(cases: Sequence[Case]) -> Iterator[Optional[str]]:
+    """What is wrong with the program's answer to each case, None for nothing."""
+    def look(case: Case) -> Optional[str]:
+        try:
+            return fault_in(case, *answer_to(case))
+        except (OSError, subprocess.TimeoutExpired, ValueError) as error:
+            return str(error)
+
+    with concurrent.futures.ThreadPoolExecutor(len(os.sched_getaffinity(0))) as pool:
+        yield from pool.map(look, cases)
+
+
+# ---- What is wrong with an answer.
+
+
+def fault_in(case: Case, status: int, output: str, errors: str) -> Optional[str]:
+    lines = output.split("\n")
+    ended = lines.pop() == ""
+    faults = [status_fault(case, status), None if ended else "the last line has no LF", *(check(case, lines) for check in CHECKS)]
+    faults.append(error_fault(case, errors))
+    return next((fault for fault in faults if fault), None)
+
+
+def octets_in(lines: list[str], event: str) -> Optional[str]:
+    return next((line.split(" ")[2] for line in lines if line.startswith(f"{event} octets ")), None)
+
+
+def first_difference(wanted: list[str], lines: list[str]) -> Optional[str]:
+    for at, line in enumerate(wanted):
+        if at >= len(lines) or line != lines[at]:
+            return f"line {at + 1}: wanted {line!r}, found {lines[at] if at < len(lines) else 'the end'!r}"
+    return f"line {len(wanted) + 1}: wanted 'the end', found {lines[len(wanted)]!r}" if len(lines) > len(wanted) else None
+
+
+def error_fault(case: Case, errors: str) -> Optional[str]:
+    """Lines of standard error, in their order; the one on proofs that weren't checked aside."""
+    lines = [it for it in errors.split("\n")[:-1] if "proofs of this program were not checked" not in it]
+    if case.last("quiet") is not None and lines:
+        return f"wanted nothing on standard error, found {lines[0]!r}"
+    rest = iter(lines)
+    missing = next((line for line in case.all("!") if line not in rest), None)
+    return f"wanted {missing!r} on standard error, found {lines}" if missing else None
+
+
+def status_fault(case: Case, status: int) -> Optional[str]:
+    return None if str(status) == case.last("=") else f"wanted the status {case.last('=')}, found {status}"
+
+
+def whole_fault(case: Case, lines: list[str]) -> Optional[str]:
+    wanted = case.all(">")
+    return first_difference(wanted, lines) if wanted or case.last("empty") is not None else None
+
+
+def file_fault(case: Case, lines: list[str]) -> Optional[str]:
+    name = case.last("is")
+    return first_difference((ROOT / name).read_text("latin-1").split("\n")[:-1], lines) if name else None
+
+
+def order_fault(case: Case, lines: list[str]) -> Optional[str]:
+    rest = iter(lines)
+    return next((f"wanted {line!r} in its order, found no such line" for line in case.all("|") if line not in rest), None)
+
+
+def last_fault(case: Case, lines: list[str]) -> Optional[str]:
+    wanted = case.all("last")
+    return first_difference(wanted, lines[-len(wanted) :]) if wanted else None
+
+
+def never_fault(case: Case, lines: list[str]) -> Optional[str]:
+    return next((f"wanted no line {line!r}, found one" for line in case.all("never") if line in lines), None)
+
+
+def sent_fault(case: Case, lines: list[str]) -> Optional[str]:
+    wanted, found = case.last("sent"), " ".join(line.partition(" length ")[2] for line in lines if " length " in line)
+    return None if wanted in (None, found) else f"wanted the lengths {wanted}, found {found}"
+
+
+def same_fault(case: Case, lines: list[str]) -> Optional[str]:
+    for events in case.all("same"):
+        one, other = (octets_in(lines, event) for event in events.split(" "))
+        if one is None or one != other:
+            return f"events {events} don't send the same"
+    return None
+
+
+CHECKS = (whole_fault, file_fault, order_fault, last_fault, never_fault, sent_fault, same_fault)
