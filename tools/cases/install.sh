@@ -164,7 +164,7 @@ mkdir -p "$copy/share" "$copy/docs" "$copy/c/examples" "$copy/c/hostapd" "$copy/
 cp tools/install tools/why tools/page tools/chart tools/capture-of tools/by-station "$copy/tools"
 cp -r tools/lib "$copy/tools"
 cp -r c/python c/rust "$copy/c"
-cp share/* "$copy/share"
+cp -r share/* "$copy/share"
 cp docs/*.md "$copy/docs"
 cp c/tuvaddri.h c/README.md c/NOTICE c/spdx.json c/numbers.txt c/*.c "$copy/c"
 cp c/examples/* "$copy/c/examples"
