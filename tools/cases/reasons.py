@@ -15,42 +15,24 @@ from cases.lib import wire
 from cases.lib.small import Run, holds
 from cases.lib.wire import GROUP, KEY, OTHER_KEY, START, SWITCH, Item, Login, altered, eap
 from lib import listening, reasons
+from lib.cases import spelled
 
-# By its name, what a sentence is known by.
-SENTENCES = {
-    "cut": "octets: so what failed can't be said", "cut good": "octets: so no MAC that rests on it is judged",
-    "fragment": "isn't whole, being a fragment", "unsure": "of several stations are left out", "long": "packets more, which are left out",
-    "echo": "compares them refuses it, whatever its MAC", "repeats": "the peer takes it for a repetition of packet",
-    "altered": "it was altered on its way, for it came again with a right one", "first right": "though this login's first MAC is right",
-    "unsure MAC": "which isn't sure to be that of its own login", "other right": "of this login has a right one under the key given",
-    "took": "both ends have another key than that", "wrong key": "the peer has another key, or an octet was changed",
-    "refused": "the server ended the login with packet", "received": "received [0-9a-f]{64}, computed ([0-9a-f]{64}) by the key named",
-    "no key": "its MAC isn't judged: no key is given", "other method": "its MAC isn't judged: the key given for alice is one of",
-    "malformed": "it is malformed", "no context": "isn't judged, since the message that it rests on isn't in the capture",
-    "again": "again after .* s: no answer is here", "again answered": "hadn't come to it, or it discarded it",
-    "ignored": "by Error-Cause 202", "twice": "ms later: captured twice", "no user": "Fail, PSK Not Found: the server has no key",
-    "barred": "Authorization Failure: the server knows alice, and bars it", "says barred": "it says that the server knows alice",
-    "forged end": "the server didn't send it\\. Nothing", "maybe forged": "or what came between isn't in the capture",
-    "peer on": "the peer went on with", "nothing before": "what came before it isn't in the capture",
-    "gap": "packets between both aren't in the capture", "at once": "at once: it has no such user, no method for it, or bars",
-    "given": "the users given are", "no method": "no method in common", "outer": "whose name isn't the Identity's",
-    "server's key": "the server itself has another key", "some key": "it has another key, or no such user, or bars it, or",
-    "policy": "or its policy refuses, or it got another", "policy or MAC": "or its policy refuses, or it found its MAC wrong",
-    "unanswered": "to which no answer is here: none came", "began again": "the station began again by EAPOL-Start",
-    "radius silent": "no answer of the RADIUS server", "next": "another login begins: an end was restarted",
-    "no gpsk2": "the peer allows no ciphersuite of the list", "server silent": "behind the access point, didn't answer",
-    "no supplicant": "no supplicant runs at the station", "peer silent": "the peer discarded it, is gone",
-    "ended": "or the capture ended before", "no suites": "the peer accepts another", "no last": "no PSK-4|no GPSK-4 is before it", "method": "alone are judged", "expanded": "\\(Expanded Types\\), whose MACs",
-    "nonce": "in another login: a nonce has to be fresh", "starts": "sent EAPOL-Start, \\d+ times, and no Request is here",
-    "interfaces": "at several interfaces, each taken once", "end of file": "it ends within record", "secret": "is wrong under the secret given",
-    "good": "ended with Success, and each MAC that was judged is right", "proxy": "that a proxy passed on",
-    "says wrong": "the server found the MAC wrong", "says code": "the server ends the method by the code 9", "near": "with its case, its",
-    "no name": "a user without a name", "many": "2 more packets are cut so", "odd radius": "around it isn't well-formed \\(",
-}
+
+def rows_of(name: str) -> Iterator[list[str]]:
+    """The rows of a table beside this file."""
+    lines = Path("tools/cases", name).read_text().splitlines()
+    return (line.split(" | ") for line in lines if not line.startswith("#"))
+
+
+SENTENCES: dict[str, str] = dict(rows_of("reasons.sentences"))  # what each is known by
 GOOD, BAD, BOB = Login(), Login(psk=OTHER_KEY), Login(user=b"bob", rand_p=b"\x33" * 32, rand_s=b"\x44" * 32, at=40)
-LATER = Login(rand_p=b"\x55" * 32, rand_s=b"\x66" * 32, at=90)
 FAILURE, STATION_FRAME = eap(4, 2), wire.framed(BAD.gpsk2)[:14]
-NAK = eap(2, 2, b"\3\x2f")
+LOGINS = {
+    "": GOOD, "bad": BAD, "later": Login(rand_p=b"\x55" * 32, rand_s=b"\x66" * 32, at=90),
+    "same": Login(rand_p=b"\x55" * 32, at=90), "other": Login(rand_p=b"\x77" * 32),
+}
+OTHERS = {"start": START, "failure": FAILURE}
+KEYS = {"key": KEY, "other": OTHER_KEY, "short": KEY[:16]}
 WRONG = [*BAD.front, BAD.gpsk2, FAILURE]
 REFUSED = "wrong key, refused, received"
 
@@ -73,80 +55,31 @@ def to_group(items: list[tuple[bytes, bytes]]) -> list[tuple[float, bytes]]:
             for at, (station, it) in enumerate(items) for _, frame in framed(it)]
 
 
-# What the packets of a login are, one after the other; what is to be said; the users, where they aren't alice.
-LOGINS: list[tuple[str, list[Item], str, str]] = [
-    ("a good login", [*GOOD.whole], "good", ""),
-    ("a wrong key", [*WRONG], REFUSED, ""),
-    ("the same by the peer's key", [*WRONG], "server's key", "alice 51 " + OTHER_KEY.hex()),
-    ("the same without a key", [*WRONG], "no key, some key", ""),
-    ("a key of the other method", [*GOOD.whole], "other method", "alice 47 " + KEY[:16].hex()),
-    ("another user is given", [*WRONG], "no key, given, some key", "alicia 51 " + KEY.hex()),
-    ("both ends have another key", [*BAD.whole], "took, received", ""),
-    ("a wrong name", [Login(b"alicia").asked, Login(b"alicia").named, eap(4, 1)], "at once, given", ""),
-    ("a name of another case", [Login(b"Alice").asked, Login(b"Alice").named, eap(4, 1)], "at once, given, near", ""),
-    ("no name, without a key", [GOOD.asked, eap(2, 1, b"\1"), GOOD.gpsk1, Login(b"").gpsk2, FAILURE], "no key, no name, some key", ""),
-    ("a name that is given", [GOOD.asked, GOOD.named, eap(4, 1)], "at once", ""),
-    ("another name outside", [GOOD.asked, eap(2, 1, b"\1anonymous"), GOOD.gpsk1, GOOD.gpsk2, FAILURE], "outer", ""),
-    ("no method in common", [*GOOD.front, NAK, FAILURE], "no method", ""),
-    ("a Nak, and then a method that goes on", [*GOOD.front[:2], eap(1, 9, b"\x2f\0" + bytes(16) + b"srv"), eap(2, 9, b"\3\x33"),
-                                               GOOD.gpsk1, BAD.gpsk2, FAILURE], REFUSED, ""),
-    ("another method", [*GOOD.front[:2], eap(1, 2, b"\4\x10" + bytes(16)), eap(2, 2, b"\4\x10" + bytes(16)), eap(3, 2)], "method", ""),
-    ("an altered GPSK-1", [*GOOD.front[:2], altered(GOOD.gpsk1, 20), GOOD.gpsk2, FAILURE], "echo", ""),
-    ("an altered GPSK-2", [*GOOD.front, altered(GOOD.gpsk2, -1), FAILURE], REFUSED, ""),
-    ("an altered GPSK-2, then the right one", [*GOOD.front, altered(GOOD.gpsk2, -1), 3.0, GOOD.gpsk1, *GOOD.whole[3:]],
-     "altered, received, again answered", ""),
-    ("a right GPSK-2, then an altered one", [*GOOD.whole[:4], altered(GOOD.gpsk2, -1), *GOOD.whole[4:]], "other right, received", ""),
-    ("an altered GPSK-3", [*GOOD.whole[:4], altered(GOOD.gpsk3, -1), 9.0], "first right, received, peer silent, ended", ""),
-    ("a GPSK-3 of another login", [*GOOD.whole[:4], LATER.gpsk3], "echo, peer silent, ended", ""),
-    ("an altered GPSK-4", [*GOOD.whole[:5], altered(GOOD.gpsk4, -1), eap(4, 3)], "first right, received", ""),
-    ("a GPSK-4 behind two GPSK-2", [*GOOD.front, GOOD.gpsk2, Login(rand_p=b"\x77" * 32).gpsk2, altered(GOOD.gpsk4, -1)],
-     "unsure MAC, received, server silent, ended", ""),
-    ("the server's policy", [*GOOD.whole[:6], eap(4, 3)], "policy", ""),
-    ("the same without a key", [*GOOD.whole[:6], eap(4, 3)], "no key, policy or MAC", ""),
-    ("a barred user", [*GOOD.whole[:4], GOOD.fail(3, GOOD.sk), eap(2, 3, GOOD.fail(3, GOOD.sk)[4:]), eap(4, 3)], "barred", ""),
-    ("the same without a key", [*GOOD.whole[:4], GOOD.fail(3, GOOD.sk), eap(4, 3)], "no key, says barred", ""),
-    ("a MAC that the server finds wrong", [*GOOD.whole[:4], GOOD.fail(2), eap(4, 3)], "says wrong", ""),
-    ("a code that no standard has", [*GOOD.whole[:4], GOOD.fail(9), eap(4, 3)], "says code", ""),
-    ("an unknown user", [*GOOD.whole[:4], GOOD.fail(1), eap(2, 3, GOOD.fail(1)[4:]), eap(4, 3)], "no user", ""),
-    ("a lost answer", [*GOOD.whole[:3], 3.0, *GOOD.whole[2:]], "good, again", ""),
-    ("a doubled Request", [*GOOD.whole[:3], -0.009, *GOOD.whole[2:]], "good, twice", ""),
-    ("a forged Failure", [*GOOD.front, eap(4, 2), GOOD.gpsk2, GOOD.gpsk3, 3.0, GOOD.gpsk3], "forged end, again", ""),
-    ("a forged Success", [*GOOD.front[:2], eap(3, 1), GOOD.gpsk1], "forged end", ""),
-    ("a Failure, and a login whose begin isn't there", [GOOD.asked, GOOD.named, eap(4, 1), LATER.gpsk1, LATER.gpsk2], "maybe forged", ""),
-    ("an answer that crosses the Failure", [*GOOD.front, FAILURE, GOOD.gpsk2], "peer on", ""),
-    ("a Failure alone", [FAILURE], "nothing before", ""),
-    ("packets that aren't there before the Failure", [*GOOD.front[:2], eap(4, 3)], "gap", ""),
-    ("a first message without an answer", [*GOOD.front, FAILURE], "unanswered", ""),
-    ("the end isn't there", [*GOOD.whole[:4]], "server silent, ended", ""),
-    ("the peer is silent", [*GOOD.whole[:5]], "peer silent, ended", ""),
-    ("the peer takes no offer", [*GOOD.front], "no gpsk2, ended", ""),
-    ("the same by EAP-PSK", [*GOOD.front[:2], eap(1, 2, b"\x2f\0" + bytes(16) + b"srv")], "no suites, ended", ""),
-    ("a Success before the last message", [*GOOD.whole[:4], eap(3, 2)], "good, no last", ""),
-    ("a malformed GPSK-2", [*GOOD.front, GOOD.gpsk2[:2] + b"\3\0" + GOOD.gpsk2[4:], FAILURE], "malformed", ""),
-    ("nobody answers", [GOOD.asked, 3.0, GOOD.asked], "no supplicant, ended, again", ""),
-    ("a station that begins again", [*GOOD.whole[:4], 2.4, START, *LATER.whole], "began again, good", ""),
-    ("the same without EAPOL-Start", [*GOOD.whole[:4], *LATER.whole], "next, good", ""),
-    ("an EAPOL-Start at the begin", [GOOD.asked, START, *GOOD.whole], "good", ""),
-    ("nobody does IEEE 802.1X", [START, 3.0, START], "starts", ""),
-    ("a Notification that uses the Identifier of GPSK-1", [*GOOD.front[:2], eap(1, 2, b"\2x"), eap(2, 2, b"\2"), GOOD.gpsk1, eap(2, 2, b"\2")],
-     "repeats, server silent, ended", ""),
-    ("a forged Identity Request in the middle", [*GOOD.front, eap(1, 9, b"\1"), eap(2, 9, b"\1alice"), *GOOD.whole[3:]], "good", ""),
-    ("a nonce twice", [*GOOD.whole, *Login(rand_p=b"\x55" * 32, at=90).whole], "nonce, good", ""),
-    ("two logins", [*GOOD.whole, *LATER.whole], "good", ""),
-    ("two tries, and then the right key", [*WRONG, *LATER.whole], REFUSED + ", good", ""),
-    ("begun in the middle", [BAD.gpsk2, FAILURE], REFUSED, ""),
-    ("begun behind GPSK-2", [GOOD.gpsk3, GOOD.gpsk4, GOOD.success], "no context", ""),
-    ("a short Failure-Code", [*GOOD.whole[:4], eap(1, 3, b"\x33\5\0"), eap(4, 3)], "malformed", ""),
-    ("Expanded Types", [*GOOD.front[:2], *map(expanded, GOOD.whole[2:6]), GOOD.success], "expanded", ""),
-    ("over 4,096 packets", [*GOOD.front, *[GOOD.gpsk1] * 4200], "long", ""),
-]
+def packets_of(word: str) -> list[Item]:
+    """The packets, or the wait, that a word of reasons.logins stands for."""
+    word = spelled(word)
+    if word in OTHERS:
+        return [OTHERS[word]]
+    if re.fullmatch(r"[+-][\d.]+", word):
+        return [float(word)]
+    if re.fullmatch("([0-9a-f]{2})+", word):
+        return [bytes.fromhex(word)]
+    found = re.fullmatch(r"(?:([\w-]+)\.)?(\w+)(?:\[(\d*):(\d*)\])?(?:~(-?\d+))?(/expanded)?(?:\*(\d+))?", word)
+    assert found, word
+    name = found[1] or ""
+    of = getattr(LOGINS.get(name) or Login(name.strip("-").encode()), found[2])
+    packets = of[slice(*(int(it) if it else None for it in found.group(3, 4)))] if isinstance(of, list) else [of]
+    packets = [altered(it, int(found[5])) if found[5] else expanded(it) if found[6] else it for it in packets]
+    return packets * int(found[7] or 1)
 
 
 def files() -> Iterator[tuple[str, bytes, str, str]]:
     """The files of captures, each by its name, with what is to be said of it and the words of `why`."""
     key = "alice 51 " + KEY.hex()
-    for name, items, wanted, users in LOGINS:
-        yield name, wire.pcap(framed(*items)), wanted, "" if "without a key" in name else users or key
+    for name, words, wanted, *users in rows_of("reasons.logins"):
+        user, _, its_key = (users or ["alice 51 key"])[0].rpartition(" ")
+        items = [it for word in words.split() for it in packets_of(word)]
+        yield name, wire.pcap(framed(*items)), wanted, user and f"{user} {KEYS[its_key].hex()}"
     wrong = framed(*WRONG)
     broken = (STATION_FRAME, b"\1\0\0\x99" + BAD.gpsk2)
     yield "a Failure in the middle of what is cut", wire.pcap(framed(*BAD.front, FAILURE, broken, BAD.gpsk3)), "fragment", key

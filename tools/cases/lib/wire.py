@@ -47,11 +47,9 @@ class Login:
         self.gpsk3 = eap(1, at + 2, b"\x33\3" + two + mac(sk, two))
         self.gpsk4 = eap(2, at + 2, b"\x33\4" + sized(b"") + mac(sk, sized(b"")))
         self.success = eap(3, at + 2)
-
-    def fail(self, code: int, key: Optional[bytes] = None) -> bytes:
-        """GPSK-Fail, or with a key GPSK-Protected-Fail."""
-        text = struct.pack(">I", code)
-        return eap(1, self.at + 2, b"\x33\5" + text if key is None else b"\x33\6" + text + mac(key, text))
+        # GPSK-Protected-Fail, Authorization Failure, and the peer's, which is the same
+        barred = b"\x33\6" + struct.pack(">I", 3)
+        self.barred, self.answer_to_barred = (eap(code, at + 2, barred + mac(sk, barred[2:])) for code in (1, 2))
 
     @property
     def front(self) -> list[bytes]:
