@@ -4,6 +4,7 @@ from __future__ import annotations
 
 import concurrent.futures
 import contextlib
+import itertools
 import os
 import pty
 import re
@@ -40,8 +41,9 @@ user alice 47 000102030405060708090a0b0c0d0e0f allowed
 events
 """.splitlines()
 
-OUTPUT = (">", "|", "last", "never", "sent", "same", "empty", "is", "!", "quiet")
-FORMS = ("from", "row", "$", "set", "take", "run", "<", "file", "input", "unreadable", "=", "in", "at", "old", "new", *OUTPUT)
+# (that a line isn't there says little of an output)
+OUTPUT = (">", "|", "last", "sent", "same", "empty", "is", "!", "quiet")
+FORMS = ("from", "row", "$", "set", "take", "run", "<", "file", "input", "unreadable", "=", "in", "at", "old", "new", "never", *OUTPUT)
 # (a last line that ends without LF follows its form without a space, too)
 FORM = re.compile(rf"({'|'.join(map(re.escape, FORMS))})(?: (.*))?|(<<)(.*)")
 
@@ -221,73 +223,49 @@ def program_faults(cases: Sequence[Case]) -> Iterator[Optional[str]]:
 
 
 def fault_in(case: Case, status: int, output: str, errors: str) -> Optional[str]:
+    return next((fault for fault in faults_in(case, status, output, errors) if fault), None)
+
+
+def faults_in(case: Case, status: int, output: str, errors: str) -> Iterator[Optional[str]]:
+    """What each form finds wrong, None for nothing."""
     lines = output.split("\n")
-    ended = lines.pop() == ""
-    faults = [status_fault(case, status), None if ended else "the last line has no LF", *(check(case, lines) for check in CHECKS)]
-    faults.append(error_fault(case, errors))
-    return next((fault for fault in faults if fault), None)
-
-
-def octets_in(lines: list[str], event: str) -> Optional[str]:
-    return next((line.split(" ")[2] for line in lines if line.startswith(f"{event} octets ")), None)
+    if str(status) != case.last("="):
+        yield f"wanted the status {case.last('=')}, found {status}"
+    if lines.pop():
+        yield "the last line has no LF"
+    if (whole := case.all(">")) or case.last("empty") is not None:
+        yield first_difference(whole, lines)
+    if name := case.last("is"):
+        yield first_difference((ROOT / name).read_text("latin-1").split("\n")[:-1], lines)
+    if (line := first_lost(case.all("|"), lines)) is not None:
+        yield f"wanted {line!r} in its order, found no such line"
+    if ends := case.all("last"):
+        yield first_difference(ends, lines[-len(ends) :])
+    yield from (f"wanted no line {line!r}, found one" for line in case.all("never") if line in lines)
+    sent = " ".join(line.partition(" length ")[2] for line in lines if " length " in line)
+    if case.last("sent") not in (None, sent):
+        yield f"wanted the lengths {case.last('sent')}, found {sent}"
+    octets = {event: rest for event, _, rest in (line.partition(" octets ") for line in reversed(lines)) if rest}
+    for one, other in (events.split(" ") for events in case.all("same")):
+        if one not in octets or octets[one] != octets.get(other):
+            yield f"events {one} {other} don't send the same"
+    # (the line on proofs that weren't checked is none of a case)
+    more = [it for it in errors.split("\n")[:-1] if "proofs of this program were not checked" not in it]
+    if case.last("quiet") is not None and more:
+        yield f"wanted nothing on standard error, found {more[0]!r}"
+    if (line := first_lost(case.all("!"), more)) is not None:
+        yield f"wanted {line!r} on standard error, found {more}"
 
 
 def first_difference(wanted: list[str], lines: list[str]) -> Optional[str]:
-    for at, line in enumerate(wanted):
-        if at >= len(lines) or line != lines[at]:
-            return f"line {at + 1}: wanted {line!r}, found {lines[at] if at < len(lines) else 'the end'!r}"
-    return f"line {len(wanted) + 1}: wanted 'the end', found {lines[len(wanted)]!r}" if len(lines) > len(wanted) else None
-
-
-def error_fault(case: Case, errors: str) -> Optional[str]:
-    """Lines of standard error, in their order; the one on proofs that weren't checked aside."""
-    lines = [it for it in errors.split("\n")[:-1] if "proofs of this program were not checked" not in it]
-    if case.last("quiet") is not None and lines:
-        return f"wanted nothing on standard error, found {lines[0]!r}"
-    rest = iter(lines)
-    missing = next((line for line in case.all("!") if line not in rest), None)
-    return f"wanted {missing!r} on standard error, found {lines}" if missing else None
-
-
-def status_fault(case: Case, status: int) -> Optional[str]:
-    return None if str(status) == case.last("=") else f"wanted the status {case.last('=')}, found {status}"
-
-
-def whole_fault(case: Case, lines: list[str]) -> Optional[str]:
-    wanted = case.all(">")
-    return first_difference(wanted, lines) if wanted or case.last("empty") is not None else None
-
-
-def file_fault(case: Case, lines: list[str]) -> Optional[str]:
-    name = case.last("is")
-    return first_difference((ROOT / name).read_text("latin-1").split("\n")[:-1], lines) if name else None
-
-
-def order_fault(case: Case, lines: list[str]) -> Optional[str]:
-    rest = iter(lines)
-    return next((f"wanted {line!r} in its order, found no such line" for line in case.all("|") if line not in rest), None)
-
-
-def last_fault(case: Case, lines: list[str]) -> Optional[str]:
-    wanted = case.all("last")
-    return first_difference(wanted, lines[-len(wanted) :]) if wanted else None
-
-
-def never_fault(case: Case, lines: list[str]) -> Optional[str]:
-    return next((f"wanted no line {line!r}, found one" for line in case.all("never") if line in lines), None)
-
-
-def sent_fault(case: Case, lines: list[str]) -> Optional[str]:
-    wanted, found = case.last("sent"), " ".join(line.partition(" length ")[2] for line in lines if " length " in line)
-    return None if wanted in (None, found) else f"wanted the lengths {wanted}, found {found}"
-
-
-def same_fault(case: Case, lines: list[str]) -> Optional[str]:
-    for events in case.all("same"):
-        one, other = (octets_in(lines, event) for event in events.split(" "))
-        if one is None or one != other:
-            return f"events {events} don't send the same"
+    for at, pair in enumerate(itertools.zip_longest(wanted, lines), 1):
+        if pair[0] != pair[1]:
+            line, found = ("the end" if it is None else it for it in pair)
+            return f"line {at}: wanted {line!r}, found {found!r}"
     return None
 
 
-CHECKS = (whole_fault, file_fault, order_fault, last_fault, never_fault, sent_fault, same_fault)
+def first_lost(wanted: list[str], lines: list[str]) -> Optional[str]:
+    """The first of these lines that doesn't come in its order, with any others between."""
+    rest = iter(lines)
+    return next((line for line in wanted if line not in rest), None)
