@@ -10,17 +10,18 @@ import tempfile
 from pathlib import Path
 from typing import Iterator, Optional
 
+from cases.lib import wire
 from cases.lib.small import Run, holds
+from cases.lib.wire import GROUP, START, SWITCH
 from lib.common import answer
 
-KEY = "000102030405060708090a0b0c0d0e0f101112131415161718191a1b1c1d1e1f"
-AUTHENTICATOR, STATIONS = "020000000001", ("02000000000a", "02000000000b", "02000000000c")
-GROUP = "0180c2000003"
+KEY = wire.KEY.hex()
+STATIONS = [bytes.fromhex(f"02000000000{it}") for it in "abc"]
 # Between the frames of both logins: one with a VLAN tag, one of ARP, a Request of the authenticator to the group, and an
 # EAPOL-Start of a third station to the group; the first is that too.
-OTHERS = (STATIONS[2] + "8100000a888e01010000", STATIONS[2] + "0806", AUTHENTICATOR + "888e010000050100000501")
-START = STATIONS[2] + "888e01010000"
-FILE = bytes.fromhex("a1b2c3d40002000400000000000000000000ffff00000001")
+OTHERS = [GROUP + sender + bytes.fromhex(rest) for sender, rest in (
+    (STATIONS[2], "8100000a888e01010000"), (STATIONS[2], "0806"), (SWITCH, "888e010000050100000501"))]
+STARTS = GROUP + STATIONS[2] + b"\x88\x8e" + START
 
 
 def packets_in(text: str) -> list[str]:
@@ -54,43 +55,38 @@ def case_capture_of(run: Run) -> Iterator[Optional[str]]:
 def case_file_of(run: Run) -> Iterator[Optional[str]]:
     """With -w the same packets come from frames, and the words are those of the users; so of a file that `pcap` refuses,
     of frames with a VLAN tag, of EAP in RADIUS packets, of pcapng and of nanoseconds."""
-    with tempfile.TemporaryDirectory() as folder:
-        made = f"{folder}/made.pcap"
-        users = run(["capture-of", "-w", made, "examples/altered.scenario"])[1].split()
-        status, lines = answer(["pcap", *users], Path(made).read_bytes())
+    with tempfile.NamedTemporaryFile() as file:
+        def judged(*words: str, given: bytes = b"") -> tuple[int, list[str]]:
+            """What the program says of the file that is made, with the users that are told."""
+            users = run(["capture-of", "-w", file.name, *words], given)[1].split()
+            return answer(["pcap", *users], Path(file.name).read_bytes())
+
+        status, lines = judged("examples/altered.scenario")
         _, wanted = answer(["check"], run(["capture-of", "examples/altered.scenario"])[1].encode())
         yield holds(status == 7 and lines[:-1] == wanted[:-1], f"pcap says {lines}")
-        for name, judged in (("cooked", "4 tag-bad"), ("vlan", "4 tag-bad"), ("radius", "3 tag-good alice")):
-            users = run(["capture-of", f"examples/failing/{name}.pcap", "alice", "51", KEY, "-w", made])[1].split()
-            _, lines = answer(["pcap", *users], Path(made).read_bytes())
-            yield holds(judged in lines, f"pcap of {name} says {lines}")
+        for name, line in (("cooked", "4 tag-bad"), ("vlan", "4 tag-bad"), ("radius", "3 tag-good alice")):
+            _, lines = judged(f"examples/failing/{name}.pcap", "alice", "51", KEY)
+            yield holds(line in lines, f"pcap of {name} says {lines}")
         for name, octets in others_of(Path("examples/login.pcap").read_bytes()):
-            run(["capture-of", "-", "-w", made], octets)
-            _, lines = answer(["pcap", "alice", "51", KEY], Path(made).read_bytes())
+            _, lines = judged("-", "alice", "51", KEY, given=octets)
             yield holds(lines[-1] == "records 7 eap 7 findings 0" and "4 tag-good alice" in lines, f"{name}: {lines}")
 
 
-def block(order: str, kind: int, body: bytes) -> bytes:
-    size = struct.pack(order + "I", len(body) + 12)
-    return struct.pack(order + "I", kind) + size + body + size
+def frames_of(octets: bytes) -> list[tuple[float, bytes]]:
+    """The frames of a pcap file, one each second."""
+    found, at = list[tuple[float, bytes]](), 24
+    while at < len(octets):
+        size = struct.unpack_from("<I", octets, at + 8)[0]
+        found.append((float(len(found)), octets[at + 16 : at + 16 + size]))
+        at += 16 + size
+    return found
 
 
 def others_of(octets: bytes) -> Iterator[tuple[str, bytes]]:
-    """A pcap file with times in nanoseconds, and as pcapng in both orders of octets (draft-ietf-opsawg-pcapng)."""
-    nano, frames, at = bytes.fromhex("4d3cb2a1") + octets[4:24], [], 24
-    while at < len(octets):
-        seconds, micros, size, wire = struct.unpack_from("<IIII", octets, at)
-        frames.append(octets[at + 16 : at + 16 + size])
-        nano += struct.pack("<IIII", seconds, micros * 1000, size, wire) + frames[-1]
-        at += 16 + size
-    yield "nanoseconds", nano
+    """A pcap file with times in nanoseconds, and as pcapng in both orders of octets, with an option on the times."""
+    yield "nanoseconds", wire.pcap(frames_of(octets), magic=0xA1B23C4D)
     for order in "<>":
-        made = block(order, 0x0A0D0D0A, struct.pack(order + "IHHq", 0x1A2B3C4D, 1, 0, -1))
-        made += block(order, 1, struct.pack(order + "HHI", 1, 0, 0) + struct.pack(order + "HHIHH", 9, 1, 9, 0, 0)[:12])
-        for frame in frames:
-            padded = frame + bytes(-len(frame) % 4)
-            made += block(order, 6, struct.pack(order + "IIIII", 0, 0, 5, len(frame), len(frame)) + padded)
-        yield f"pcapng {order}", made
+        yield f"pcapng {order}", wire.pcapng([(0, *it) for it in frames_of(octets)], order, is_nano=True)
 
 
 # ---- decode-fields and keys-of.
@@ -161,40 +157,24 @@ def case_keys_of(run: Run) -> Iterator[Optional[str]]:
 # ---- by-station.
 
 
-def frames_of(octets: bytes) -> Iterator[bytes]:
-    at = 24
-    while at < len(octets):
-        size = struct.unpack_from("<I", octets, at + 8)[0]
-        yield octets[at + 16 : at + 16 + size]
-        at += 16 + size
-
-
 def addressed(frame: bytes, number: int) -> bytes:
     """A frame of a login with the addresses of its station; the fifth octet of EAPOL is EAP's Code."""
-    is_response = frame[18] == 2
-    to = (AUTHENTICATOR if number == 0 else GROUP) if is_response else STATIONS[number]
-    source = STATIONS[number] if is_response else AUTHENTICATOR
-    return bytes.fromhex(to + source) + frame[12:]
-
-
-def record_of(second: int, frame: bytes) -> bytes:
-    return struct.pack(">IIII", second, 500, len(frame), len(frame)) + frame
+    if frame[18] == 2:
+        return (GROUP if number else SWITCH) + STATIONS[number] + frame[12:]
+    return STATIONS[number] + SWITCH + frame[12:]
 
 
 def interleaved(one: bytes, other: bytes) -> tuple[bytes, dict[str, bytes]]:
     """The frames of two logins as of two stations at one authenticator, a frame of the one, one of the other, with
     others between; and those of each station alone, by the name that tools/by-station gives its file."""
-    both, alone = FILE, [FILE, FILE, FILE]
-    for second, pair in enumerate(zip(frames_of(one), frames_of(other))):
-        frames = [*(addressed(frame, number) for number, frame in enumerate(pair)), bytes.fromhex(GROUP + START)]
-        for number, frame in enumerate(frames):
-            both += record_of(second, frame)
-            alone[number] += record_of(second, frame)
-        for it in OTHERS:
-            both += record_of(second, bytes.fromhex(GROUP + it))
-        alone[2] += record_of(second, bytes.fromhex(GROUP + START))
-    names = ["_".join(bytes.fromhex(it).hex("-") for it in (station, AUTHENTICATOR)) + ".pcap" for station in STATIONS]
-    return both, dict(zip(names, alone))
+    both, alone = list[tuple[float, bytes]](), [list[tuple[float, bytes]]() for _ in STATIONS]
+    for (second, first), (_, last) in zip(frames_of(one), frames_of(other)):
+        frames = [addressed(first, 0), addressed(last, 1), STARTS]
+        for number, frame in enumerate([*frames, STARTS]):
+            alone[min(number, 2)].append((second, frame))
+        both += [(second, it) for it in [*frames, *OTHERS]]
+    names = [f"{it.hex('-')}_{SWITCH.hex('-')}.pcap" for it in STATIONS]
+    return wire.pcap(both, order=">"), {name: wire.pcap(it, order=">") for name, it in zip(names, alone)}
 
 
 def case_by_station(run: Run) -> Iterator[Optional[str]]:

@@ -86,24 +86,25 @@ def frames_of(items: Iterable[Item]) -> list[tuple[float, bytes]]:
     return found
 
 
-def pcap(found: list[tuple[float, bytes]], snap: int = 65535, link: int = 1, magic: int = 0xA1B2C3D4) -> bytes:
-    parts, out = 10**9 if magic == 0xA1B23C4D else 10**6, struct.pack("<IHHiIII", magic, 2, 4, 0, 0, snap, link)
+def pcap(found: list[tuple[float, bytes]], snap: int = 65535, link: int = 1, magic: int = 0xA1B2C3D4, order: str = "<") -> bytes:
+    parts, out = 10**9 if magic == 0xA1B23C4D else 10**6, struct.pack(order + "IHHiIII", magic, 2, 4, 0, 0, snap, link)
     for at, frame in found:
-        out += struct.pack("<IIII", int(at), int(at % 1 * parts), len(frame[:snap]), len(frame)) + frame[:snap]
+        out += struct.pack(order + "IIII", int(at), int(at % 1 * parts), len(frame[:snap]), len(frame)) + frame[:snap]
     return out
 
 
-def pcapng(found: list[tuple[int, float, bytes]]) -> bytes:
-    """A file of two interfaces, of which each frame names its own."""
-    def block(kind: int, body: bytes) -> bytes:
-        size = struct.pack("<I", len(body) + 12)
-        return struct.pack("<I", kind) + size + body + size
+def pcapng(found: list[tuple[int, float, bytes]], order: str = "<", is_nano: bool = False) -> bytes:
+    """A file of two interfaces, of which each frame names its own (draft-ietf-opsawg-pcapng)."""
+    def block(kind: int, form: str, *fields: int, rest: bytes = b"") -> bytes:
+        body = struct.pack(order + form, *fields) + rest + bytes(-len(rest) % 4)
+        size = struct.pack(order + "I", len(body) + 12)
+        return struct.pack(order + "I", kind) + size + body + size
 
-    out = block(0x0A0D0D0A, struct.pack("<IHHq", 0x1A2B3C4D, 1, 0, -1)) + block(1, struct.pack("<HHI", 1, 0, 0)) * 2
+    # (the option 9, if_tsresol: by how many digits a second is parted)
+    options = struct.pack(order + "HH", 9, 1) + b"\x09\0\0\0" + bytes(4)
+    out = block(0x0A0D0D0A, "IHHq", 0x1A2B3C4D, 1, 0, -1) + block(1, "HHI", 1, 0, 0, rest=options if is_nano else b"") * 2
     for interface, at, frame in found:
-        high, low = divmod(int(at * 10**6), 1 << 32)
-        body = struct.pack("<IIIII", interface, high, low, len(frame), len(frame)) + frame + bytes(-len(frame) % 4)
-        out += block(6, body)
+        out += block(6, "IIIII", interface, *divmod(int(at * 10 ** (9 if is_nano else 6)), 1 << 32), len(frame), len(frame), rest=frame)
     return out
 
 
