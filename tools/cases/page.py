@@ -205,14 +205,3 @@ def case_names(run: Run) -> Iterator[Optional[str]]:
     page = page_of(run, "-", given=re.sub("(?m)^(# .*)", r"\1 <img src=x>", text).encode())
     yield page.wrong[0] if page.wrong else None
     yield None if any("<script>" in it.get("top", "") for it in page.rows) else "the name isn't there"
-
-
-def case_refused(run: Run) -> Iterator[Optional[str]]:
-    for words, status, said in (
-        (["examples/bad-number.scenario"], 2, "refused line 4 BadNumber"),
-        (["examples/keys.txt"], 2, "it is requests of `keys`"),
-        (["no-file"], 2, "no-file can't be read"),
-        (["--nothing"], 1, "unrecognized arguments: --nothing"),
-    ):
-        found = run(["page", *words])
-        yield None if found[0] == status and said in found[2] and not found[1] else f"{words} gives {found}"

@@ -5,7 +5,6 @@ tools/cases/lib/common.sh. Tools in Python run within this interpreter."""
 from __future__ import annotations
 
 import functools
-import importlib.util
 import io
 import os
 import re
@@ -26,20 +25,16 @@ from lib.common import ROOT, Parser, said_by, this_python
 HERE = ROOT
 # What needs no program: it is begun first, while that may still be built.
 ALONE = "first_run"
-loaded: dict[str, ModuleType] = {}
 
 
+@functools.lru_cache(maxsize=None)
 def module_of(path: Path) -> ModuleType:
     """A script as a module, which is loaded once."""
-    name = str(path)
-    if name not in loaded:
-        loader = SourceFileLoader(re.sub(r"\W", "_", path.name), name)
-        spec = importlib.util.spec_from_loader(loader.name, loader)
-        assert spec
-        loaded[name] = importlib.util.module_from_spec(spec)
-        sys.modules[loader.name] = loaded[name]
-        loader.exec_module(loaded[name])
-    return loaded[name]
+    loader = SourceFileLoader(re.sub(r"\W", "_", path.name), str(path))
+    module = sys.modules[loader.name] = ModuleType(loader.name)
+    module.__file__ = str(path)
+    loader.exec_module(module)
+    return module
 
 
 def run_tool(words: Sequence[str], given: bytes = b"", root: Path = ROOT) -> tuple[int, str, str]:
