@@ -10,17 +10,10 @@ from typing import Iterator, Optional
 
 from cases.lib.small import Run
 from lib import words
+from lib.cases import SETTINGS
 from lib.common import answer
 from lib.words import TEXTS, Field, Line
 
-# A setting of each keyword, for the texts in which the others stand.
-SETTINGS = {
-    "mode": "mode alone", "first-id": "first-id 0", "max-retrans": "max-retrans 4", "peer-name": "peer-name alice",
-    "peer-server": "peer-server srv", "peer-methods": "peer-methods 51 47", "peer-suites": "peer-suites 1 2",
-    "peer-psk 51": f"peer-psk 51 {'00' * 32}", "peer-psk 47": f"peer-psk 47 {'00' * 16}", "peer-nonce": f"peer-nonce {'11' * 32}",
-    "server-name": "server-name srv", "server-methods": "server-methods 51", "server-suites": "server-suites 1 2",
-    "server-nonce": f"server-nonce {'22' * 32}", "user": f"user alice 51 {'00' * 32} allowed",
-}
 # What is wrong with a word wherever it stands.
 NUMBERS = [("00", "BadNumber"), ("+1", "BadNumber"), ("one", "BadNumber")]
 ANYWHERE = {"first-id": NUMBERS, "peer-nonce": [("5a5", "BadHex"), ("5g", "BadHex")]}
@@ -97,16 +90,17 @@ def bad_lines(line: Line) -> list[tuple[str, str]]:
 # ---- Texts.
 
 
-def settings_with(form: str, line: str) -> list[str]:
-    """The settings of a text with this line in the place of its own."""
-    first, kind = line.split(" ")[0], (line.split(" ") + [""])[1]
+def settings_of(form: str) -> list[str]:
+    """A setting of each keyword that this text has."""
     own = {it.keyword for it in TEXTS[form].lines + TEXTS[form].later}
-    found = []
-    for key, it in SETTINGS.items():
-        same = it.split(" ")[0] == first and (first != "peer-psk" or kind == key[9:] or kind not in words.METHODS)
-        if it.split(" ")[0] in own and not same:
-            found.append(it)
-    return [*found, line] if first in own else found
+    return [it for it in SETTINGS if it.split(" ")[0] in own]
+
+
+def settings_with(form: str, line: str) -> list[str]:
+    """The settings of a text with this line in the place of its own; of two keys of a peer in the place of its method's."""
+    keyword, kind = (line.split(" ") + [""])[:2]
+    front = f"{keyword} {kind}" if keyword == "peer-psk" and kind in words.METHODS else keyword
+    return [*(it for it in settings_of(form) if not f"{it} ".startswith(f"{front} ")), line]
 
 
 def text_with(form: str, row: Line, lines: list[str], is_later: bool = False) -> bytes:
@@ -114,7 +108,7 @@ def text_with(form: str, row: Line, lines: list[str], is_later: bool = False) ->
     header = [] if form in ("keys", "decode") else [TEXTS[form].headers[-1 if is_later else 0]]
     is_setting = row.keyword in {it.keyword for it in words.SETTINGS + words.LATER_SETTINGS}
     if form in ("replay", "peer", "server"):
-        front = settings_with(form, lines[0]) if is_setting else settings_with(form, "none")
+        front = settings_with(form, lines[0]) if is_setting else settings_of(form)
         made = [*front, "events", *([] if is_setting else lines), "end"]
     elif form == "check":
         made = [*lines, "packets", "end"] if row.keyword == "user" else ["packets", *lines, "end"]
@@ -166,7 +160,7 @@ def case_needed(run: Run) -> Iterator[Optional[str]]:
     """What is needed is missed, and what has a default has that."""
     for form in ("replay", "peer", "server"):
         own = {it.keyword: it for it in TEXTS[form].settings}
-        front = [it for it in SETTINGS.values() if it.split(" ")[0] in own]
+        front = settings_of(form)
         whole = answer([form], whole_text(form, front))[1]
         for keyword, row in own.items():
             rest = [it for it in front if it.split(" ")[0] != keyword]
