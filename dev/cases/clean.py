@@ -22,6 +22,15 @@ def scripts() -> dict[str, str]:
     return {str(it): it.open(encoding="latin-1").readline() for it in files}
 
 
+def case_checkers(run: Run) -> Iterator[Optional[str]]:
+    shell = [it for it, line in scripts().items() if line.startswith(SHELL)]
+    python = [it for it, line in scripts().items() if it.endswith(".py") or line.startswith("#!") and "python3" in line]
+    typed = [str(it.relative_to("tools")) for folder in ("lib", "cases/lib") for it in sorted(Path("tools", folder).glob("*.py"))]
+    yield from finds_nothing(("shellcheck",), ["-x", "-S", "warning", "-f", "gcc", *shell])
+    yield from finds_nothing(("pyflakes", "pyflakes3"), python)
+    yield from finds_nothing(("mypy",), ["--strict", "--explicit-package-bases", "--python-version", "3.9", "--cache-dir", "../out/mypy", *typed], "tools")
+
+
 def finds_nothing(names: tuple[str, ...], words: list[str], folder: str = ".") -> Iterator[Optional[str]]:
     """The first of these commands that is installed finds nothing with these words."""
     command = next((path for it in names if (path := shutil.which(it))), None)
@@ -40,19 +49,3 @@ def finds_nothing(names: tuple[str, ...], words: list[str], folder: str = ".") -
     yield f"{command}: {said[-2000:]}" if done.returncode else None
     if not done.returncode and kept.parent.exists():
         kept.write_text(total.hexdigest())
-
-
-def case_shell(run: Run) -> Iterator[Optional[str]]:
-    words = [it for it, line in scripts().items() if line.startswith(SHELL)]
-    yield from finds_nothing(("shellcheck",), ["-x", "-S", "warning", "-f", "gcc", *words])
-
-
-def case_python(run: Run) -> Iterator[Optional[str]]:
-    words = [it for it, line in scripts().items() if it.endswith(".py") or line.startswith("#!") and "python3" in line]
-    yield from finds_nothing(("pyflakes", "pyflakes3"), words)
-
-
-def case_types(run: Run) -> Iterator[Optional[str]]:
-    words = ["--strict", "--explicit-package-bases", "--python-version", "3.9", "--cache-dir", "../out/mypy"]
-    files = [str(it.relative_to("tools")) for folder in ("lib", "cases/lib") for it in sorted(Path("tools", folder).glob("*.py"))]
-    yield from finds_nothing(("mypy",), [*words, *files], "tools")

@@ -7,7 +7,9 @@ from __future__ import annotations
 
 import re
 from pathlib import Path
-from typing import Callable, Iterator, Optional
+from typing import Iterator, Optional
+
+from cases.lib.small import Run
 
 FIELD = re.compile(r" *\d+ .{24,}? ([0-9a-f]+|-)(?:  .*)?")
 NAMES = ("gpsk-suite2", "psk-login", "barred")
@@ -29,29 +31,19 @@ def changed(packet: bytes) -> Iterator[bytes]:
     yield packet[:2] + (len(packet) + 1).to_bytes(2, "big") + packet[4:] + b"\0"
 
 
-Told = tuple[str, list[str], list[str]]
+def parts_of(out: str) -> Iterator[tuple[str, str, bool]]:
+    """What is told of each packet: decode's line, the octets of its fields, whether something is wrong."""
+    for part in re.split(r"^(?=\d)", out, flags=re.M)[1:]:
+        line, *rest = [it for it in part.splitlines() if it[0].isdigit() or it[0] == " "]
+        fields = [FIELD.fullmatch(it) for it in rest if not it.startswith("     ! ")]
+        yield line, "".join(it[1].strip("-") if it else "?" for it in fields), len(fields) < len(rest)
 
 
-def told(lines: list[str]) -> list[Told]:
-    """What is told of each packet: decode's line, the fields, the faults."""
-    found: list[Told] = []
-    for line in lines:
-        if line[0].isdigit():
-            found.append((line, [], []))
-        elif line.startswith("     ! "):
-            found[-1][2].append(line)
-        elif line[0] == " ":
-            field = FIELD.fullmatch(line)
-            found[-1][1].append(field[1].strip("-") if field else "?")
-    return found
-
-
-def case_fields(run: Callable[..., tuple[int, str, str]]) -> Iterator[Optional[str]]:
+def case_fields(run: Run) -> Iterator[Optional[str]]:
     packets = [other for name in NAMES for packet in packets_of(name) for other in changed(packet)]
     text = "".join(f"{packet.hex() or '-'}\n" for packet in packets)
-    _, out, _ = run(["decode-fields"], text.encode())
-    found = told(out.splitlines())
+    found = list(parts_of(run(["decode-fields"], text.encode())[1]))
     yield None if len(found) == len(packets) > 1000 else f"{len(found)} packets are told of {len(packets)}"
-    wrong = [line for packet, (line, fields, faults) in zip(packets, found) if "".join(fields) != packet.hex()
-             or (re.search("malformed|Shape|ListTooLong", line) is not None) != bool(faults)]
+    wrong = [line for packet, (line, fields, is_wrong) in zip(packets, found) if fields != packet.hex()
+             or (re.search("malformed|Shape|ListTooLong", line) is not None) != is_wrong]
     yield f"other fields or faults: {wrong[0]} and {len(wrong) - 1} more" if wrong else None

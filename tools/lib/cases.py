@@ -12,7 +12,7 @@ import subprocess
 import tempfile
 import tty
 from pathlib import Path
-from typing import IO, Iterator, Optional, Sequence, Union
+from typing import IO, Iterator, Optional, Sequence
 
 from lib.common import ROOT
 
@@ -164,39 +164,33 @@ def read(path: Path) -> list[Case]:
 
 # ---- The program at a case.
 
-Stream = Union[int, IO[bytes]]
-
-
 def answer_to(case: Case) -> tuple[int, str, str]:
     """The status, the output and the errors of the program for a case; of the script, at a terminal, where the errors are
     looked at."""
-    words = [word.encode("latin-1") for word in case.words]
+    is_script = bool(case.all("!") or case.all("quiet"))
+    command = [str(SCRIPT if is_script else os.environ.get("EAP_LOGIN") or SCRIPT).encode(), *(it.encode("latin-1") for it in case.words)]
+    if case.last("unreadable") is not None:  # each read of a folder fails
+        command = [b"sh", b"-c", b'exec "$0" "$@" </', *command]
     with tempfile.TemporaryFile() as file, tempfile.TemporaryFile() as out:
         file.write(case.input())
         file.seek(0)
-        folder = os.open("/", os.O_RDONLY)  # each read of a folder fails
-        try:
-            given: Stream = file if case.last("unreadable") is None else folder
-            if case.all("!") or case.all("quiet"):
-                status, errors = at_terminal([SCRIPT, *words], given, out)
-            else:
-                program = os.environ.get("EAP_LOGIN") or SCRIPT
-                run = subprocess.run([program, *words], stdin=given, stdout=out, stderr=subprocess.PIPE, timeout=SECONDS)
-                status, errors = run.returncode, run.stderr
-        finally:
-            os.close(folder)
+        if is_script:
+            status, errors = at_terminal(command, file, out)
+        else:
+            run = subprocess.run(command, stdin=file, stdout=out, stderr=subprocess.PIPE, timeout=SECONDS)
+            status, errors = run.returncode, run.stderr
         out.seek(0)
         return status, out.read().decode("latin-1"), errors.decode("latin-1")
 
 
-def at_terminal(words: Sequence[Union[Path, bytes]], given: Stream, out: Stream) -> tuple[int, bytes]:
+def at_terminal(command: list[bytes], given: IO[bytes], out: IO[bytes]) -> tuple[int, bytes]:
     """The status and the errors of a run whose standard error is a terminal."""
     near, far = pty.openpty()
     errors = b""
     try:
         tty.setraw(far)
         try:
-            status = subprocess.run(words, stdin=given, stdout=out, stderr=far, timeout=SECONDS).returncode
+            status = subprocess.run(command, stdin=given, stdout=out, stderr=far, timeout=SECONDS).returncode
         finally:
             os.close(far)
         with contextlib.suppress(OSError):  # so it ends
