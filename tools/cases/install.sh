@@ -27,39 +27,48 @@ without_kit sh "$work/commands" >"$work/said" 2>"$work/errors" || true
     cat bulk-1-100.out gpsk-login.peer-told gpsk-login.server-told
 ) >"$work/wanted"
 is_file "$work/wanted" "the man page's examples"
-# Nothing in it is wrong for groff.
-if command -v groff >/dev/null; then
-    groff -man -ww -Tutf8 "$page" >"$work/rendered" 2>"$work/said" || true
-    is_file /dev/null "groff -ww of the man page"
-else
-    echo "tools/check: groff on the man page is passed over: it isn't installed" >&2
-fi
+# Whether a command is installed; where it isn't, what is passed over is told.
+has() {
+    ! command -v "$1" >/dev/null || return 0
+    echo "tools/check: $2 is passed over: $3 isn't installed" >&2
+    return 1
+}
+
+# Nothing in a man page is wrong for groff.
+is_right_for_groff() {
+    has groff "groff on the man page" it || return 0
+    groff -man -ww -Tutf8 "$1" >"$work/rendered" 2>"$work/said" || true
+    is_file /dev/null "groff -ww of ${1##*/}"
+}
+is_right_for_groff "$page"
+
+# By this command `eap_login WORDS` is completed so, by each line of the input; the word behind a last space is empty.
+completes() {
+    while IFS=: read -r words wanted; do
+        count=$((count + 1))
+        got=$(IFS=' ' && set -- "$@" eap_login $words && case $words in '' | *' ') set -- "$@" '' ;; esac && "$@")
+        [ "$got" = "$wanted" ] || fail "$1 completes 'eap_login $words' by '$got', and not by '$wanted'"
+    done
+}
 
 # bash completes the forms, and of pcap's users the kinds.
-if command -v bash >/dev/null; then
-    cat >"$work/complete" <<'TEXT'
+cat >"$work/complete" <<'TEXT'
 . "$1"
 shift
 COMP_WORDS=("$@") COMP_CWORD=$(($# - 1))
 _eap_login
 echo "${COMPREPLY[*]}"
 TEXT
-    for case in ':replay decode keys check pcap radius bulk peer server' 'p:pcap peer' 'replay :names' 'check :' \
-        'pcap alice 5:51' 'pcap alice 51 :'; do
-        count=$((count + 1))
-        # (the word that stands last may be empty)
-        words=${case%%:*}
-        set -- $words
-        case $words in '' | *' ') set -- "$@" '' ;; esac
-        got=$(bash "$work/complete" "$there/share/bash-completion/completions/$name" eap_login "$@")
-        [ "$got" = "${case#*:}" ] || fail "bash completes 'eap_login $words' by '$got', and not by '${case#*:}'"
-    done
-else
-    echo "tools/check: bash's completion is passed over: bash isn't installed" >&2
-fi
+! has bash "bash's completion" bash || completes bash "$work/complete" "$there/share/bash-completion/completions/$name" <<'TEXT'
+:replay decode keys check pcap radius bulk peer server
+p:pcap peer
+replay :names
+check :
+pcap alice 5:51
+pcap alice 51 :
+TEXT
 # zsh does too, with stand-ins for its own functions that write what they are given.
-if command -v zsh >/dev/null; then
-    cat >"$work/complete.zsh" <<'TEXT'
+cat >"$work/complete.zsh" <<'TEXT'
 _describe() { print -r -- ${(P)2%%:*} }
 compadd() { print -r -- $@ }
 _default() { print files }
@@ -68,17 +77,13 @@ shift
 words=("$@") CURRENT=$#
 . $file
 TEXT
-    for case in ':replay decode keys check pcap radius bulk peer server' 'replay :names' 'check :files' \
-        'pcap alice :47 51' 'pcap alice 51 :files'; do
-        count=$((count + 1))
-        words=${case%%:*}
-        set -- $words ''
-        got=$(zsh -f "$work/complete.zsh" "$there/share/zsh/site-functions/_$name" eap_login "$@")
-        [ "$got" = "${case#*:}" ] || fail "zsh completes 'eap_login $words' by '$got', and not by '${case#*:}'"
-    done
-else
-    echo "tools/check: zsh's completion is passed over: zsh isn't installed" >&2
-fi
+! has zsh "zsh's completion" zsh || completes zsh -f "$work/complete.zsh" "$there/share/zsh/site-functions/_$name" <<'TEXT'
+:replay decode keys check pcap radius bulk peer server
+replay :names
+check :files
+pcap alice :47 51
+pcap alice 51 :files
+TEXT
 
 # The tools in Python by their command, without the repository: each word is answered by --help with status 0, the bad ones
 # aren't; they call the program beside them, and each other by the names that they have there.
@@ -104,10 +109,7 @@ cp "$work/out" "$work/said"
 is_file "$work/wanted" "tuvaddri why"
 "$command" --version >"$work/said"
 has_line "tuvaddri: $(env -u EAP_LOGIN tools/why --version | sed 's/^[^:]*: //')" "tuvaddri --version"
-if command -v groff >/dev/null; then
-    groff -man -ww -Tutf8 "$there/share/man/man1/tuvaddri.1" >"$work/rendered" 2>"$work/said" || true
-    is_file /dev/null "groff -ww of the man page of tuvaddri"
-fi
+is_right_for_groff "$there/share/man/man1/tuvaddri.1"
 for it in $words; do
     count=$((count + 1))
     sed 's/\\-/-/g' "$there/share/man/man1/tuvaddri.1" | grep -qxF "\\fB$it\\fR" && grep -qF "$it" "$there/share/bash-completion/completions/tuvaddri" &&
@@ -116,7 +118,7 @@ done
 
 # As Debian packages, unpacked elsewhere: the program runs there, and asks for what it is linked with and no more; so do
 # the tools, which are in Python.
-if command -v dpkg-deb >/dev/null; then
+if has dpkg-deb "install --deb" dpkg-deb; then
     mkdir "$work/debs"
     DPKG_DEB_COMPRESSOR_LEVEL=1 tools/install --unchecked --deb "$work/debs" >"$work/said" 2>"$work/errors" ||
         fail "install --deb ends with a failure: $(head -n 1 "$work/errors")"
@@ -135,8 +137,6 @@ if command -v dpkg-deb >/dev/null; then
     cp "$work/depends" "$work/said"
     is_file "$work/wanted" "the package's Depends"
     "$work/unpacked/usr/bin/tuvaddri" --version >"$work/said" || fail "the command of the package fails"
-else
-    echo "tools/check: install --deb is passed over: dpkg-deb isn't installed" >&2
 fi
 
 # What is refused, and that nothing is there then.
@@ -186,14 +186,12 @@ holds "install of its shared object" cmp -s "$copy/c/out/libtuvaddri.so.$number"
 for it in EMBEDDING.md NOTICE examples/both.c hostapd/server_method.c; do
     holds "install of $it" [ -s "$work/with/share/doc/tuvaddri/$it" ]
 done
-if command -v pkg-config >/dev/null; then
+if has pkg-config pkg-config it; then
     found=$(PKG_CONFIG_PATH=$work/with/lib/pkgconfig pkg-config --cflags --libs tuvaddri | tr -s ' ' | sed 's/ $//')
     holds "pkg-config finds '$found'" [ "$found" = "-I$work/with/include -L$work/with/lib -ltuvaddri" ]
-else
-    echo "tools/check: pkg-config is passed over: it isn't installed" >&2
 fi
 # CMake's find_package has both forms, which a program is linked with, of this version alone.
-if command -v cmake >/dev/null; then
+if has cmake CMake it; then
     mkdir "$work/cmake"
     cat >"$work/cmake/program.c" <<'TEXT'
 #include <tuvaddri.h>
@@ -216,8 +214,6 @@ TEXT
     holds "CMake links both forms" cmake --build "$work/cmake/out"
     holds "what CMake has linked with the shared object" "$work/cmake/out/by-tuvaddri"
     holds "what CMake has linked with the archive" "$work/cmake/out/by-static"
-else
-    echo "tools/check: CMake is passed over: it isn't installed" >&2
 fi
 for it in lib/python3/dist-packages/tuvaddri/__init__.py share/tuvaddri/rust/src/lib.rs; do
     holds "install of $it" [ -s "$work/with/$it" ]
