@@ -3,72 +3,51 @@ well-formed, needs nothing else, and has enough contrast (WCAG 2: 4.5) in its li
 
 from __future__ import annotations
 
+import html
 import re
-from html.parser import HTMLParser
+from collections import Counter
 from pathlib import Path
-from typing import Iterator, Optional
+from typing import Iterable, Iterator, Optional
+from xml.etree import ElementTree
 
 from cases.lib import wire
 from cases.lib.small import Run
 from lib.common import answer
 
-EMPTY = {"meta", "input"}
 FETCHING = {"src", "srcset", "action", "data", "poster", "background", "onclick", "onload"}
 LIVE = {"script", "link", "img", "iframe", "object", "embed", "base", "form"}
 TEXTS, GROUNDS = ("text", "dim", "plain", "good", "bad", "open", "key0", "key1", "key2"), ("ground", "card")
+# Where the parts of a row stand.
+PARTS = {"number": ".//*[@class='number']", "top": ".//summary", "body": ".//*[@class='body']", "pre": ".//pre", "mark": ".//mark"}
 
 
-class Page(HTMLParser):
-    """The elements that are open, and the text of each row by the class or the name of what it stands in."""
+def said_in(elements: Iterable[ElementTree.Element]) -> str:
+    return "".join("".join(it.itertext()) for it in elements)
+
+
+class Page:
+    """The rows of a page, each by its parts, its verdicts, and what is wrong with it."""
 
     def __init__(self, text: str) -> None:
-        super().__init__()
-        self.open: list[tuple[str, str]] = []
-        self.rows: list[dict[str, str]] = []
-        self.verdicts: list[str] = []
-        self.style, self.wrong, self.names, self.links = "", list[str](), set[str](), set[str]()
-        self.feed(text)
-        self.close()
-        self.wrong += [f"<{name}> stays open" for name, _ in self.open]
-        if re.search(r"https?:|url\(|@import", text):
-            self.wrong.append("it names something elsewhere")
-        if self.links - self.names:
-            self.wrong.append(f"no row is {self.links - self.names}")
-
-    def handle_starttag(self, name: str, given: list[tuple[str, Optional[str]]]) -> None:
-        words = {key: value or "" for key, value in given}
-        if name in LIVE or FETCHING & set(words):
-            self.wrong.append(f"<{name}> isn't wanted")
-        if "href" in words:
-            self.links.add(words["href"].removeprefix("#"))
-        if "id" in words and words["id"] in self.names:
-            self.wrong.append(f"two are named {words['id']}")
-        self.names.add(words.get("id", ""))
-        classes = words.get("class", "")
-        if name == "li" and ("ol", "") in self.open and not any(it == "li" for it, _ in self.open):
-            self.rows.append({"id": words.get("id", "")})
-        if "verdict" in classes:
-            self.verdicts.append("")
-        if name not in EMPTY:
-            self.open.append((name, classes))
-
-    def handle_endtag(self, name: str) -> None:
-        if not self.open or self.open.pop()[0] != name:
-            self.wrong.append(f"</{name}> closes nothing")
-
-    def handle_data(self, text: str) -> None:
-        names = [name for name, _ in self.open]
-        classes = " ".join(it for _, it in self.open)
-        if "style" in names:
-            self.style += text
-        elif "verdict" in classes:
-            self.verdicts[-1] += text
-        elif self.rows and "ol" in names and "li" in names:
-            part = next((it for it in ("number", "body") if it in classes), "top")
-            part = "pre" if "pre" in names else "mark" if "mark" in names else part
-            self.rows[-1][part] = self.rows[-1].get(part, "") + text
-            if "pre" in names and "mark" in names:
-                self.rows[-1]["mark"] = self.rows[-1].get("mark", "") + text
+        # (as XML: what has no end is closed, and the entities that XML doesn't have are spelled out)
+        text = re.sub(r"<(meta|input)\b([^>]*)>", r"<\1\2/>", text.removeprefix("<!doctype html>"))
+        text = re.sub(r"&(?!amp;|lt;|gt;|quot;)\w+;", lambda found: html.unescape(found[0]), text)
+        self.wrong = ["it names something elsewhere"] if re.search(r"https?:|url\(|@import", text) else []
+        try:
+            root = ElementTree.fromstring(text)
+        except ElementTree.ParseError as fault:
+            self.wrong.append(f"it isn't well-formed: {fault}")
+            root = ElementTree.Element("html")
+        every = list(root.iter())
+        self.wrong += [f"<{it.tag}> isn't wanted" for it in every if it.tag in LIVE or FETCHING.intersection(it.keys())]
+        names = Counter(it.get("id", "") for it in every)
+        self.wrong += [f"two are named {name}" for name, count in names.items() if name and count > 1]
+        self.links = {it.get("href", "").removeprefix("#") for it in every} - {""}
+        self.wrong += [f"no row is {it}" for it in self.links if it not in names]
+        self.style = said_in(root.iter("style"))
+        self.verdicts = [said_in([it]) for it in every if "verdict" in it.get("class", "")]
+        rows = [(it, {name: it.findall(place) for name, place in PARTS.items()}) for each in root.iter("ol") for it in each]
+        self.rows = [{"id": it.get("id", ""), **{name: said_in(found) for name, found in parts.items() if found}} for it, parts in rows]
 
 
 def light_of(color: str) -> float:
