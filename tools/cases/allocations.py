@@ -23,20 +23,13 @@ WITHOUT = {
     f"pcap alice 51 {KEY}": "login.pcap", "peer": "gpsk-login.peer", "server": "gpsk-login.server",
 }
 WITH = {"replay": "gpsk-login.scenario", "replay names": "through.scenario", "bulk 1 3": "gpsk-login.scenario"}
-COUNTING = """
-#include <stdio.h>
-void *__libc_malloc(unsigned long size);
-static unsigned long calls;
-void *malloc(unsigned long size) { calls++; return __libc_malloc(size); }
-__attribute__((destructor)) static void tell(void) { fprintf(stderr, "malloced by %lu calls\\n", calls); }
-"""
 
 
 def case_allocations(run: Run) -> Iterator[Optional[str]]:
     with tempfile.TemporaryDirectory() as folder:
         shared, compiler = f"{folder}/counting.so", shutil.which("cc") or shutil.which("gcc")
         if compiler:
-            subprocess.run([compiler, "-shared", "-fPIC", "-o", shared, "-x", "c", "-"], input=COUNTING.encode(), check=True)
+            subprocess.run([compiler, "-shared", "-fPIC", "-o", shared, "tools/cases/lib/counting.c"], check=True)
 
         @functools.lru_cache(maxsize=None)
         def counted(words: tuple[str, ...], given: bytes) -> int:

@@ -20,26 +20,7 @@ SCRIPT = ROOT / "eap_login"
 SECONDS = 60
 
 # A peer and a server that share a key of each method, up to the events.
-SETTINGS = """\
-eap-scenario 1
-mode alone
-first-id 0
-max-retrans 4
-peer-name alice
-peer-server srv
-peer-methods 51 47
-peer-suites 1 2
-peer-psk 51 000102030405060708090a0b0c0d0e0f101112131415161718191a1b1c1d1e1f
-peer-psk 47 000102030405060708090a0b0c0d0e0f
-peer-nonce 1111111111111111111111111111111111111111111111111111111111111111
-server-name srv
-server-methods 51 47
-server-suites 1 2
-server-nonce 2222222222222222222222222222222222222222222222222222222222222222
-user alice 51 000102030405060708090a0b0c0d0e0f101112131415161718191a1b1c1d1e1f allowed
-user alice 47 000102030405060708090a0b0c0d0e0f allowed
-events
-""".splitlines()
+SETTINGS = (ROOT / "cases/settings").read_text().splitlines()
 
 # (that a line isn't there says little of an output)
 OUTPUT = (">", "|", "last", "sent", "same", "empty", "is", "!", "quiet")
