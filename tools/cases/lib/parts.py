@@ -79,11 +79,14 @@ def fault_of(case: Case, folder: str) -> Optional[str]:
     root, named = ROOT, case.last("in")
     if named:
         small = small_of(folder, named)
+        root = small.root
         small.again()
         if file := case.last("at"):
             # (a case's text is read as octets, and these files are in UTF-8)
-            small.turn(file, *((case.last(it) or "").encode("latin-1").decode() for it in ("old", "new")))
-        root = small.root
+            try:
+                small.turn(file, *((case.last(it) or "").encode("latin-1").decode() for it in ("old", "new")))
+            except ValueError as fault:
+                return str(fault)
     status, *texts = run_tool(case.words, case.input(), root)
     return fault_in(case, status, *(it.encode().decode("latin-1") for it in texts))
 

@@ -63,7 +63,8 @@ class Small:
         file = self.root / name
         was = file.read_text() if file.exists() else ""
         text = re.sub(old, lambda _: new, was, count=1, flags=re.M) if old else was + new
-        assert text != was, f"{name} doesn't have {old}"
+        if text == was:
+            raise ValueError(f"{name} doesn't have {old}")
         self.write(name, text)
 
     def run(self, *words: str) -> Said:
