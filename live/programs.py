@@ -10,7 +10,7 @@ import shutil
 import subprocess
 import sys
 import time
-from typing import List, Optional, Sequence, Union
+from typing import Dict, Iterator, List, Mapping, Optional, Sequence, Tuple, Union
 
 import ends
 
@@ -37,16 +37,11 @@ def lacks(*programs: str) -> List[str]:
 class Process:
     """A program whose output goes into a file of the folder. It has MOST_SECONDS, if nobody stops it before."""
 
-    BOUNDS = ("timeout", "-k", "5", str(MOST_SECONDS))
-
-    def __init__(
-        self, folder: str, name: str, words: Sequence[str], where: Sequence[str] = (), bounds: Sequence[str] = BOUNDS
-    ) -> None:
-        self.log = f"{folder}/{name}.log"
+    def __init__(self, folder: str, name: str, words: Sequence[str], where: Sequence[str] = ()) -> None:
+        self.name, self.log = name, f"{folder}/{name}.log"
+        words = [*where, "timeout", "-k", "5", str(MOST_SECONDS), *words]
         with open(self.log, "wb") as log:
-            self.process = subprocess.Popen(
-                [*where, *bounds, *words], stdin=subprocess.DEVNULL, stdout=log, stderr=subprocess.STDOUT, cwd=folder
-            )
+            self.process = subprocess.Popen(words, stdin=subprocess.DEVNULL, stdout=log, stderr=subprocess.STDOUT, cwd=folder)
         started.append(self)
 
     def text(self) -> str:
@@ -64,19 +59,18 @@ class Process:
                 return False
             time.sleep(0.05)
 
-    def wait(self, seconds: float) -> None:
+    def ended(self, seconds: float) -> Process:
+        """The same, which has ended by itself within so many seconds, or is stopped then."""
         try:
             self.process.wait(seconds)
         except subprocess.TimeoutExpired:
-            pass
+            self.stop()
+        return self
 
     def stop(self) -> None:
-        if self.process.poll() is None:
-            self.process.terminate()
-            self.wait(10)
-        if self.process.poll() is None:
-            self.process.kill()
-            self.process.wait()
+        # (what doesn't end by this is killed by `timeout`)
+        self.process.terminate()
+        self.process.wait()
 
 
 class Cable:
@@ -85,9 +79,10 @@ class Cable:
     NEAR, FAR = "live0", "live1"
 
     def __init__(self, folder: str) -> None:
-        holder = Process(folder, "namespace", ["unshare", "-n", "sleep", str(MOST_SECONDS)], bounds=())
-        pid = str(holder.process.pid)
-        self.await_namespace(pid)
+        holder = Process(folder, "namespace", ["unshare", "-n", "sh", "-c", "echo $$; exec sleep infinity"])
+        if not holder.wait_for("^[0-9]+$", 5):
+            raise ends.Failed("a second network namespace can't be made")
+        pid = holder.text().strip()
         self.far = ["nsenter", "-t", pid, "-n"]
         run("ip", "link", "add", "name", self.NEAR, "type", "veth", "peer", "name", self.FAR)
         started.append(self)
@@ -95,18 +90,6 @@ class Cable:
         run("ip", "link", "set", self.NEAR, "up")
         run(*self.far, "ip", "link", "set", self.FAR, "up")
         run(*self.far, "ip", "link", "set", "lo", "up")
-
-    def await_namespace(self, pid: str) -> None:
-        until = time.monotonic() + 5
-        own = os.readlink("/proc/self/ns/net")
-        while time.monotonic() < until:
-            try:
-                if os.readlink(f"/proc/{pid}/ns/net") != own:
-                    return
-            except OSError:
-                break
-            time.sleep(0.02)
-        raise ends.Failed("a second network namespace can't be made")
 
     def stop(self) -> None:
         # (the pair goes at once so, and not when the kernel comes to the far namespace)
@@ -122,10 +105,18 @@ def stop_all() -> None:
         started.pop().stop()
 
 
+def answer(words: Sequence[str], environment: Optional[Mapping[str, str]] = None) -> Tuple[int, str]:
+    """The status with which a command ends, and what it says."""
+    done = subprocess.run(
+        words, stdin=subprocess.DEVNULL, stdout=subprocess.PIPE, stderr=subprocess.STDOUT, text=True, errors="replace", env=environment
+    )
+    return done.returncode, done.stdout
+
+
 def run(*words: str) -> None:
-    done = subprocess.run(words, stdout=subprocess.PIPE, stderr=subprocess.STDOUT)
-    if done.returncode:
-        raise ends.Failed(f"{' '.join(words)}: {done.stdout.decode(errors='replace').strip()}")
+    status, text = answer(words)
+    if status:
+        raise ends.Failed(f"{' '.join(words)}: {text.strip()}")
 
 
 def enter_namespace(script_words: Sequence[str]) -> Optional[str]:
@@ -138,11 +129,11 @@ def enter_namespace(script_words: Sequence[str]) -> Optional[str]:
         return f"{', '.join(missing)} isn't installed"
     # (who isn't root, or isn't allowed to, is root in a user namespace)
     for enter in (["unshare", "-n"], ["unshare", "-rn"]):
-        tried = subprocess.run([*enter, "ip", "link", "set", "lo", "up"], stdout=subprocess.DEVNULL, stderr=subprocess.PIPE)
-        if not tried.returncode:
+        status, text = answer([*enter, "ip", "link", "set", "lo", "up"])
+        if not status:
             break
     else:
-        return f"no network namespace can be made: {tried.stderr.decode(errors='replace').strip()}"
+        return f"no network namespace can be made: {text.strip()}"
     again = 'LIVE_NAMESPACE=$(readlink /proc/self/ns/net) && export LIVE_NAMESPACE && exec "$@"'
     sys.stdout.flush()
     os.execvp("unshare", [*enter, "sh", "-c", again, "sh", *script_words])
@@ -153,17 +144,29 @@ def script(name: str, *words: str) -> List[str]:
     return [sys.executable, "-B", f"{HERE}/{name}", *words]
 
 
+def table(name: str) -> Iterator[str]:
+    """The lines of a text of this folder; in one, {NAME} stands for what a line `NAME = TEXT` above it has set."""
+    texts: Dict[str, str] = {}
+    with open(f"{HERE}/{name}") as file:
+        for line in file.read().splitlines():
+            line = re.sub(r"\{([a-z ]+)\}", lambda it: texts[it[1]], line)
+            if found := re.fullmatch("([a-z ]+) = (.*)", line):
+                texts[found[1]] = found[2]
+            elif line and not line.startswith("#"):
+                yield line
+
+
 def write(folder: str, name: str, *lines: str) -> str:
     with open(f"{folder}/{name}", "w") as text:
         text.write("\n".join(lines) + "\n")
     return f"{folder}/{name}"
 
 
-def need(process: Process, pattern: str) -> None:
-    """Fails where a program doesn't say that it is ready."""
+def need(process: Process, pattern: str) -> Process:
+    """A program that says that it is ready."""
     if not process.wait_for(pattern, 30):
-        last = process.text().strip().splitlines()[-3:]
-        raise ends.Failed(f"{os.path.basename(process.log)[:-4]} doesn't begin: {' / '.join(last)}")
+        raise ends.Failed(f"{process.name} doesn't begin: {' / '.join(process.text().strip().splitlines()[-3:])}")
+    return process
 
 
 def prepare() -> None:

@@ -11,22 +11,25 @@ from __future__ import annotations
 
 import dataclasses
 import re
-from typing import Callable, Dict, Iterator, List, Optional, Sequence, Tuple
+from string import Template
+from typing import Any, Callable, Dict, Iterator, List, Optional, Sequence, Tuple
 
 import ends
 from login_keys import name_of
-from programs import Cable, Process, need, script, stop_all, write
+from programs import HERE, Cable, Process, need, script, stop_all, table, write
 
 SECRET, WRONG_SECRET = "testing123", "testing124"
-PORT = 1812
+PORT = "1812"
 KEYS = {"GPSK": bytes(range(32)).hex(), "PSK": bytes(range(16)).hex()}
 WRONG_KEYS = {"GPSK": bytes(range(1, 33)).hex(), "PSK": bytes(range(1, 17)).hex()}
-TYPES = {"GPSK": 51, "PSK": 47}
+TYPES = {"GPSK": "51", "PSK": "47"}
+# How long a login may last, in seconds.
+MOST_SECONDS = 40
 # What logs say of the keys with -K -dd, and what our scripts say.
 THEIR_KEY = re.compile(r"EAP-G?PSK: (E?MSK) - hexdump\(len=64\):((?: [0-9a-f]{2}){64})")
 LINK_KEY = re.compile(r"^MS-MPPE-(Recv|Send)-Key.* - hexdump\(len=32\):((?: [0-9a-f]{2}){32})$", re.M)
 OUR_LINK = re.compile(r"^link (\S+)$", re.M)
-OUR_VERDICT = re.compile(r"^(?:login 1 )?state (\S+)(?: msk (\S+) emsk (\S+))?$", re.M)
+OUR_VERDICT = re.compile(r"^(?:login \d+ )?state (\S+)(?: msk (\S+) emsk (\S+))?$", re.M)
 THEIR_SUCCESS = "EAP: EAP entering state SUCCESS"
 # What eapol_test says of the link keys, without the word -n.
 EQUAL_LINK_KEYS = "MPPE keys OK: 1  mismatch: 0"
@@ -38,266 +41,199 @@ class Login:
 
     name: str
     method: str = "GPSK"  # the one that the peer allows
-    suite: int = 1  # the one that the peer allows
+    suite: str = "1"  # the one that the peer allows
     proposed: str = ""  # what the server proposes, parted by commas; the peer's where nothing is said
     peer: str = "alice"
-    has_wrong_key: bool = False  # at the peer
-    has_wrong_secret: bool = False  # where RADIUS comes from
-    is_barred: bool = False  # where the server is ours
-    is_expanded: bool = False  # whether our ends read Expanded Types
     server: str = "any"  # the name that our peer accepts; servers are called srv
-    lose: int = 0  # which packet our end doesn't send, which twice, and which packet of our peer is altered where
-    repeat: int = 0
-    alter: Optional[Tuple[int, int]] = None
-    proxy_states: Sequence[str] = ()  # what each request carries, in hex
-    is_traced: bool = True  # whether our end says what passes
+    wrong_key: bool = False  # at the peer
+    wrong_secret: bool = False  # where RADIUS comes from
+    barred: bool = False  # where the server is ours
+    expanded: bool = False  # whether our ends read Expanded Types
+    lose: str = "0"  # which packet our end doesn't send, which twice, and which packet of our peer is altered where
+    repeat: str = "0"
+    alter: str = ""
+    proxy_states: str = ""  # what each request carries, in hex, parted by commas
+    untraced: bool = False  # whether our end doesn't say what passes
+    unheard: bool = False  # whether the real end gives up before our server comes to an end
     state: str = "SUCCESS"  # in which our end is to stand at last; "none" where no login begins
-    is_heard: bool = True  # whether our server comes to an end before the real end gives up
-    seconds: int = 40
-    seen: str = ""  # what our end says: a pattern
-    their_seen: str = ""  # what the other end says: a pattern
+    here: str = ""  # what our end says: a pattern
+    there: str = ""  # what the other end says: a pattern
 
     def methods(self) -> List[str]:
         return (self.proposed or self.method).split(",")
 
     def key(self) -> str:
-        return (WRONG_KEYS if self.has_wrong_key else KEYS)[self.method]
+        return (WRONG_KEYS if self.wrong_key else KEYS)[self.method]
 
     def secret(self) -> str:
-        return WRONG_SECRET if self.has_wrong_secret else SECRET
+        return WRONG_SECRET if self.wrong_secret else SECRET
 
 
-@dataclasses.dataclass
-class Outcome:
-    """How both ends stand after a login: the state of ours, whether the other succeeded, and the names of (MSK, EMSK);
-    what both have said; and the name of the link keys as the access point has them, None where the way has none."""
+def logins() -> Dict[str, List[Login]]:
+    """The logins of logins.txt, by the ways that try them."""
+    found: Dict[str, List[Login]] = {way: [] for way in WAYS}
+    login, its_ways = Login(""), [""]
+    for line in table("logins.txt"):
+        word, _, rest = line.strip().partition(" ")
+        if word == "ways":
+            its_ways = rest.split(" ")
+        elif line.startswith(" "):
+            setattr(login, word, rest)
+        else:
+            name, _, rest = line.partition(":")
+            fields: Dict[str, Any] = {key: value or True for key, _, value in (it.partition("=") for it in rest.split())}
+            login = Login(name, **fields)
+            for way in its_ways:
+                found[way].append(login)
+    return found
 
-    state: str
-    our_keys: Optional[ends.Names]
-    is_success: bool
-    their_keys: Optional[ends.Names]
-    trace: str
-    their_text: str
-    link: Optional[str]
+
+def configured(folder: str, login: Login, name: str, source: str = "") -> str:
+    """The file of this name, as the one of configurations/ has it for a login."""
+    values: Dict[str, str] = {**vars(login), **KEYS, "folder": folder, "key": login.key(), "right_key": KEYS[login.method]}
+    values.update(secret=login.secret(), secret_in_hex=login.secret().encode().hex(), type=TYPES[login.method])
+    values.update(methods=",".join(login.methods()), types=" ".join(TYPES[it] for it in login.methods()))
+    values.update(may="barred" if login.barred else "allowed", is_expanded="yes" if login.expanded else "no")
+    with open(f"{HERE}/configurations/{source or name}") as text:
+        return write(folder, name, Template(text.read()).substitute(values).rstrip())
 
 
 # Our ends.
 
 
-def expanded(word: str, login: Login) -> List[str]:
-    return [f"{word}-expanded yes"] if login.is_expanded else []
-
-
-def peer_settings(folder: str, login: Login) -> str:
-    return write(
-        folder,
-        "peer.settings",
-        f"peer-name {login.peer}",
-        f"peer-server {login.server}",
-        f"peer-methods {TYPES[login.method]}",
-        f"peer-suites {login.suite}",
-        f"peer-psk {TYPES[login.method]} {login.key()}",
-        *expanded("peer", login),
-        f"secret {login.secret().encode().hex()}",
-    )
-
-
-def server_settings(folder: str, login: Login) -> str:
-    may = "barred" if login.is_barred else "allowed"
-    return write(
-        folder,
-        "server.settings",
-        "server-name srv",
-        f"server-methods {' '.join(str(TYPES[it]) for it in login.methods())}",
-        "server-suites 1 2",
-        "max-retrans 4",
-        *(f"user alice {TYPES[it]} {KEYS[it]} {may}" for it in KEYS),
-        *expanded("server", login),
-        f"secret {SECRET.encode().hex()}",
-    )
-
-
 def faults(login: Login) -> List[str]:
-    return ["--lose", str(login.lose), "--repeat", str(login.repeat), *(["--trace"] if login.is_traced else [])]
+    return ["--lose", login.lose, "--repeat", login.repeat, *["--trace"] * (not login.untraced)]
 
 
 def peer_faults(login: Login) -> List[str]:
-    return faults(login) + (["--alter", *map(str, login.alter)] if login.alter else [])
+    return faults(login) + (["--alter", *login.alter.split(",")] if login.alter else [])
 
 
 def radius_server(folder: str, login: Login, where: Sequence[str] = ()) -> Process:
-    words = [server_settings(folder, login), "127.0.0.1", str(PORT), *faults(login)]
-    server = Process(folder, "radius_server", script("radius_server", *words), where)
-    need(server, "^ready ")
-    return server
+    words = script("radius_server", configured(folder, login, "server.settings"), "127.0.0.1", PORT, *faults(login))
+    return need(Process(folder, "radius_server", words, where), "^ready ")
 
 
 def start_client(folder: str, login: Login, name: str = "radius_client") -> Process:
-    tries = "8" if login.state == "SUCCESS" else "4"
-    words = [peer_settings(folder, login), "127.0.0.1", str(PORT), "--timer", "0.7", "--tries", tries]
-    for it in login.proxy_states:
+    words = script("radius_client", configured(folder, login, "peer.settings"), "127.0.0.1", PORT, "--timer", "0.7")
+    words += ["--tries", "8" if login.state == "SUCCESS" else "4"]
+    for it in re.findall("[0-9a-f]+", login.proxy_states):
         words += ["--proxy-state", it]
-    return Process(folder, name, script("radius_client", *words, *peer_faults(login)))
+    return Process(folder, name, words + peer_faults(login))
 
 
 def radius_client(folder: str, login: Login) -> Process:
-    client = start_client(folder, login)
-    client.wait(login.seconds)
-    client.stop()
-    return client
+    return start_client(folder, login).ended(MOST_SECONDS)
 
 
 def wired(folder: str, login: Login) -> Process:
     # (hostapd sends a Request again after three seconds)
     idle = "8" if login.state == "SUCCESS" else "2"
-    words = [peer_settings(folder, login), Cable.NEAR, "--idle", idle, *peer_faults(login)]
-    peer = Process(folder, "wired", script("wired", *words))
-    peer.wait(login.seconds)
-    peer.stop()
-    return peer
+    words = script("wired", configured(folder, login, "peer.settings"), Cable.NEAR, "--idle", idle, *peer_faults(login))
+    return Process(folder, "wired", words).ended(MOST_SECONDS)
 
 
 # The other programs.
 
 
-def station(folder: str, login: Login) -> str:
-    """A configuration of wpa_supplicant and eapol_test."""
-    return write(
-        folder,
-        "station.conf",
-        "ap_scan=0",
-        "network={",
-        "    key_mgmt=IEEE8021X",
-        "    eapol_flags=0",
-        f"    eap={login.method}",
-        f'    phase1="cipher={login.suite}"',
-        f'    identity="{login.peer}"',
-        f"    password={login.key()}",
-        "}",
-    )
-
-
-def users(folder: str, login: Login) -> str:
-    """hostapd's file of users; it has one key for all methods of a user, and that of the peer's method is the one."""
-    return write(folder, "users", f'"alice" {",".join(login.methods())} {KEYS[login.method]}')
-
-
-WIRED = (
-    f"interface={Cable.FAR}",
-    "driver=wired",
-    "ieee8021x=1",
-    "eapol_version=2",
-    "eap_reauth_period=0",
-    "use_pae_group_addr=1",
-)
-
-
-def hostapd(folder: str, lines: Sequence[str], where: Sequence[str] = ()) -> Process:
-    config = write(folder, "hostapd.conf", "logger_stdout=-1", "logger_stdout_level=0", *lines)
-    made = Process(folder, "hostapd", ["hostapd", "-K", "-dd", config], where)
-    need(made, "AP-ENABLED")
-    return made
-
-
-def hostapd_server(folder: str, login: Login) -> List[str]:
-    return ["eap_server=1", f"eap_user_file={users(folder, login)}", "server_id=srv"]
-
-
-def hostapd_radius(folder: str, login: Login) -> Process:
-    clients = write(folder, "clients", f"127.0.0.1 {SECRET}")
-    lines = ["driver=none", "interface=lo0", f"radius_server_clients={clients}", f"radius_server_auth_port={PORT}"]
-    return hostapd(folder, [*lines, *hostapd_server(folder, login)])
-
-
-def hostapd_wired(folder: str, login: Login, where: Sequence[str]) -> Process:
-    return hostapd(folder, [*WIRED, *hostapd_server(folder, login)], where)
-
-
-def hostapd_authenticator(folder: str, login: Login, where: Sequence[str]) -> Process:
-    lines = [
-        "own_ip_addr=127.0.0.1",
-        "nas_identifier=live",
-        "auth_server_addr=127.0.0.1",
-        f"auth_server_port={PORT}",
-        f"auth_server_shared_secret={login.secret()}",
-    ]
-    return hostapd(folder, [*WIRED, *lines], where)
+def hostapd(folder: str, login: Login, kind: str, where: Sequence[str] = ()) -> Process:
+    """hostapd's server has one key for all methods of a user, and that of the peer's method is the one."""
+    for name in {"radius": ("users", "clients"), "wired": ("users",)}.get(kind, ()):
+        configured(folder, login, name)
+    words = ["hostapd", "-K", "-dd", configured(folder, login, "hostapd.conf", f"hostapd-{kind}.conf")]
+    return need(Process(folder, "hostapd", words, where), "AP-ENABLED")
 
 
 def eapol_test(folder: str, login: Login) -> Process:
-    words = ["-c", station(folder, login), "-a", "127.0.0.1", "-p", str(PORT), "-s", login.secret()]
-    for it in login.proxy_states:
-        words.append(f"-N33:x:{it}")
-    return Process(folder, "eapol_test", ["eapol_test", *words, "-t", str(login.seconds)])
+    words = ["-c", configured(folder, login, "station.conf"), "-a", "127.0.0.1", "-p", PORT, "-s", login.secret()]
+    words += ["-t", str(MOST_SECONDS), *(f"-N33:x:{it}" for it in re.findall("[0-9a-f]+", login.proxy_states))]
+    return Process(folder, "eapol_test", ["eapol_test", *words])
 
 
 # The ways.
 
 
+@dataclasses.dataclass
+class Outcome:
+    """How both ends stand after a login: what ours has said, and by that its state and the names of its (MSK, EMSK); what the
+    other has said, whether it succeeded, and the names of its keys; and the name of the link keys as the access point has
+    them, None where the way has none."""
+
+    trace: str
+    their_text: str
+    is_success: bool
+    their_keys: Optional[ends.Names]
+    link: Optional[str]
+
+    @property
+    def state(self) -> str:
+        return verdicts(self.trace)[0][0]
+
+    @property
+    def our_keys(self) -> Optional[ends.Names]:
+        return verdicts(self.trace)[0][1]
+
+
 def by_radius(folder: str, login: Login) -> Outcome:
     server = radius_server(folder, login)
-    client = radius_client(folder, dataclasses.replace(login, lose=0, repeat=0))
+    client = radius_client(folder, dataclasses.replace(login, lose="0", repeat="0")).text()
     server.stop()
-    state, keys = our_verdict(client)
-    return Outcome(*our_verdict(server), state == "SUCCESS", keys, server.text(), client.text(), our_link(client))
+    state, keys = verdicts(client)[0]
+    return Outcome(server.text(), client, state == "SUCCESS", keys, our_link(client))
 
 
 def keys_of_many(folder: str, login: Login, count: int) -> Tuple[List[ends.Names], List[ends.Names]]:
     """Several clients at once at one server: the names of the keys that each holds, there and here, in order."""
     server = radius_server(folder, login)
     clients = [start_client(folder, login, f"radius_client{it}") for it in range(count)]
-    for client in clients:
-        client.wait(login.seconds)
+    here = [verdicts(it.ended(MOST_SECONDS).text())[0] for it in clients]
     server.stop()
-    there = re.findall(r"^login \d+ state SUCCESS msk (\S+) emsk (\S+)$", server.text(), re.M)
-    return sorted(there), sorted(our_verdict(client)[1] or ("", "") for client in clients)
+    there = [it for it in verdicts(server.text()) if it[0] == "SUCCESS"]
+    return sorted(keys or ("", "") for _, keys in there), sorted(keys or ("", "") for _, keys in here)
 
 
 def by_eapol_test(folder: str, login: Login) -> Outcome:
     server = radius_server(folder, login)
     tester = eapol_test(folder, login)
     await_end(server, tester, login)
-    tester.wait(5 if login.state == "SUCCESS" else 0)
-    tester.stop()
+    there = tester.ended(5 if login.state == "SUCCESS" else 0).text()
     server.stop()
     # (one that is ended by a signal writes SUCCESS as its last line, whatever came before)
-    is_success = tester.process.returncode == 0 and THEIR_SUCCESS in tester.text() and EQUAL_LINK_KEYS in tester.text()
-    return Outcome(*our_verdict(server), is_success, their_keys(tester), server.text(), tester.text(), their_link(tester))
+    is_success = tester.process.returncode == 0 and THEIR_SUCCESS in there and EQUAL_LINK_KEYS in there
+    return Outcome(server.text(), there, is_success, their_keys(there), their_link(there))
 
 
 def await_end(server: Process, other: Process, login: Login) -> None:
     """Waits for the verdict of our server, or for what it is to show where it comes to none, and then for what the real
     end makes of it."""
-    server.wait_for("^login 1 " if login.is_heard else login.seen, login.seconds)
+    server.wait_for(login.here if login.unheard else "^login 1 ", MOST_SECONDS)
     if login.state in ("SUCCESS", "FAILURE"):
         other.wait_for("EAP: EAP entering state (SUCCESS|FAILURE)", 5)
     else:
-        other.wait_for(login.their_seen or THEIR_SUCCESS, 0.5)
+        other.wait_for(login.there or THEIR_SUCCESS, 0.5)
 
 
 def by_hostapd_radius(folder: str, login: Login) -> Outcome:
-    server = hostapd_radius(folder, login)
-    client = radius_client(folder, login)
+    server = hostapd(folder, login, "radius")
+    client = radius_client(folder, login).text()
     return outcome_at(server, client, our_link(client))
 
 
 def by_hostapd_wired(folder: str, login: Login) -> Outcome:
-    cable = Cable(folder)
-    server = hostapd_wired(folder, login, cable.far)
-    return outcome_at(server, wired(folder, login), None)
+    server = hostapd(folder, login, "wired", Cable(folder).far)
+    return outcome_at(server, wired(folder, login).text(), None)
 
 
-def outcome_at(server: Process, ours: Process, link: Optional[str]) -> Outcome:
-    state, keys = our_verdict(ours)
-    is_success = server.wait_for(THEIR_SUCCESS, 2 if state == "SUCCESS" else 0)
-    return Outcome(state, keys, is_success, their_keys(server), ours.text(), server.text(), link)
+def outcome_at(server: Process, ours: str, link: Optional[str]) -> Outcome:
+    is_success = server.wait_for(THEIR_SUCCESS, 2 if verdicts(ours)[0][0] == "SUCCESS" else 0)
+    return Outcome(ours, server.text(), is_success, their_keys(server.text()), link)
 
 
 def by_wpa_supplicant(folder: str, login: Login) -> Outcome:
-    cable = Cable(folder)
-    server = radius_server(folder, login, cable.far)
-    authenticator = hostapd_authenticator(folder, login, cable.far)
-    words = ["-D", "wired", "-i", cable.NEAR, "-c", station(folder, login), "-dd", "-K"]
+    far = Cable(folder).far
+    server = radius_server(folder, login, far)
+    authenticator = hostapd(folder, login, "authenticator", far)
+    words = ["-D", "wired", "-i", Cable.NEAR, "-c", configured(folder, login, "station.conf"), "-dd", "-K"]
     supplicant = Process(folder, "wpa_supplicant", ["wpa_supplicant", *words])
     await_end(server, supplicant, login)
     is_success = "CTRL-EVENT-EAP-SUCCESS" in supplicant.text()
@@ -306,42 +242,31 @@ def by_wpa_supplicant(folder: str, login: Login) -> Outcome:
     for it in (supplicant, authenticator, server):
         it.stop()
     there = supplicant.text() + authenticator.text()
-    keys = their_keys(supplicant)
-    return Outcome(*our_verdict(server), is_success, keys, server.text(), there, their_link(authenticator))
+    return Outcome(server.text(), there, is_success, their_keys(supplicant.text()), their_link(authenticator.text()))
 
 
-def our_verdict(process: Process) -> Tuple[str, Optional[ends.Names]]:
-    """The state and the names of the keys that one of our scripts tells."""
-    found = OUR_VERDICT.search(process.text())
-    if not found:
-        return "none", None
-    return found[1], (found[2], found[3]) if found[2] else None
+def verdicts(text: str) -> List[Tuple[str, Optional[ends.Names]]]:
+    """The states and the names of the keys that one of our scripts tells of its logins; "none" where it tells of none."""
+    found = [(it[1], (it[2], it[3]) if it[2] else None) for it in OUR_VERDICT.finditer(text)]
+    return found or [("none", None)]
 
 
-def our_link(client: Process) -> str:
+def our_link(text: str) -> str:
     """The name of the link keys that came to our client; none where none came."""
-    found = OUR_LINK.search(client.text())
+    found = OUR_LINK.search(text)
     return found[1] if found else ""
 
 
-def octets(dump: str) -> bytes:
-    return bytes.fromhex(dump)
-
-
-def their_keys(process: Process) -> Optional[ends.Names]:
+def their_keys(text: str) -> Optional[ends.Names]:
     """The names of the last MSK and EMSK in a log."""
-    found = dict(THEIR_KEY.findall(process.text()))
-    if set(found) != {"MSK", "EMSK"}:
-        return None
-    return name_of(octets(found["MSK"])), name_of(octets(found["EMSK"]))
+    found = {name: name_of(bytes.fromhex(dump)) for name, dump in THEIR_KEY.findall(text)}
+    return (found["MSK"], found["EMSK"]) if len(found) == 2 else None
 
 
-def their_link(process: Process) -> str:
+def their_link(text: str) -> str:
     """The name of the link keys in a log, one behind the other."""
-    found = dict(LINK_KEY.findall(process.text()))
-    if set(found) != {"Recv", "Send"}:
-        return ""
-    return name_of(octets(found["Recv"]) + octets(found["Send"]))
+    found = dict(LINK_KEY.findall(text))
+    return name_of(bytes.fromhex(found["Recv"] + found["Send"])) if len(found) == 2 else ""
 
 
 # Each way: what runs it, and the programs that it takes.
@@ -370,10 +295,10 @@ def complaints(login: Login, outcome: Outcome) -> Iterator[str]:
         yield f"our end stands in {outcome.state}, and not in {login.state}"
     if outcome.is_success != (login.state == "SUCCESS"):
         yield "the other end succeeds" if outcome.is_success else "the other end doesn't succeed"
-    if not re.search(login.seen, outcome.trace, re.M):
-        yield f"our end doesn't say {login.seen}"
-    if not re.search(login.their_seen, outcome.their_text, re.M):
-        yield f"the other end doesn't say {login.their_seen}"
+    if not re.search(login.here, outcome.trace, re.M):
+        yield f"our end doesn't say {login.here}"
+    if not re.search(login.there, outcome.their_text, re.M):
+        yield f"the other end doesn't say {login.there}"
     yield from wrong_keys(login, outcome)
 
 
