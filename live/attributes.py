@@ -9,45 +9,42 @@ from __future__ import annotations
 import hashlib
 import hmac
 import secrets
-from typing import Iterator, Optional
+from typing import Dict, Iterator, List, Optional, Tuple
 
 STATE, VENDOR_SPECIFIC, PROXY_STATE, MESSAGE_AUTHENTICATOR, ERROR_CAUSE = 24, 26, 33, 80, 101
-# "Invalid EAP Packet (Ignored)".
-INVALID_EAP_PACKET = 202
 # The vendor's number, and its types MS-MPPE-Send-Key and MS-MPPE-Recv-Key.
-MICROSOFT, SEND_KEY, RECV_KEY = 311, 16, 17
+MICROSOFT, SEND_KEY, RECV_KEY = (311).to_bytes(4, "big"), 16, 17
 # The most octets of a RADIUS packet (RFC 2865 section 3).
 MOST_OCTETS = 4096
-
-
-def parts(octets: bytes, at: int, end: int) -> Iterator[bytes]:
-    """What stands there as a type, a length and a value, each as it is; it ends where the lengths don't fit."""
-    while at + 2 <= end and 2 <= octets[at + 1] <= end - at:
-        yield octets[at : at + octets[at + 1]]
-        at += octets[at + 1]
-
-
-def attributes(packet: bytes) -> Iterator[bytes]:
-    """The attributes of a packet, each with its type and its length."""
-    return parts(packet, 20, int.from_bytes(packet[2:4], "big"))
-
-
-def values(packet: bytes, kind: int) -> list[bytes]:
-    """The values of all attributes of a type, in their order."""
-    return [it[2:] for it in attributes(packet) if it[0] == kind]
-
-
-def value(packet: bytes, kind: int) -> bytes:
-    """The value of the first attribute of a type; no octets where there is none."""
-    return next(iter(values(packet, kind)), b"")
 
 
 def attribute(kind: int, octets: bytes) -> bytes:
     return bytes([kind, len(octets) + 2]) + octets
 
 
-def error_cause(number: int) -> bytes:
-    return attribute(ERROR_CAUSE, number.to_bytes(4, "big"))
+# "Invalid EAP Packet (Ignored)".
+IGNORED = attribute(ERROR_CAUSE, (202).to_bytes(4, "big"))
+
+
+def parts(octets: bytes) -> Iterator[Tuple[int, bytes]]:
+    """The types and values of attributes, one behind the other; they end where a length doesn't fit."""
+    while len(octets) >= 2 and 2 <= octets[1] <= len(octets):
+        yield octets[0], octets[2 : octets[1]]
+        octets = octets[octets[1] :]
+
+
+def attributes(packet: bytes) -> Iterator[Tuple[int, bytes]]:
+    return parts(packet[20 : int.from_bytes(packet[2:4], "big")])
+
+
+def values(packet: bytes, kind: int) -> List[bytes]:
+    """The values of all attributes of a type, in their order."""
+    return [octets for its_kind, octets in attributes(packet) if its_kind == kind]
+
+
+def state(packet: bytes) -> bytes:
+    """The attribute State; no octets where there is none."""
+    return next(iter(values(packet, STATE)), b"")
 
 
 def proxy_states(packet: bytes) -> bytes:
@@ -61,13 +58,13 @@ def proxy_states(packet: bytes) -> bytes:
 def tagged(secret: bytes, packet: bytes, asked: bytes, more: bytes) -> bytes:
     """A packet with more attributes before its Message-Authenticator, which is made anew over the Request Authenticator
     (RFC 3579 section 3.2)."""
-    body = b"".join(it for it in attributes(packet) if it[0] != MESSAGE_AUTHENTICATOR) + more
-    length = 20 + len(body) + 18
+    body = b"".join(attribute(*it) for it in attributes(packet) if it[0] != MESSAGE_AUTHENTICATOR) + more
+    body += bytes([MESSAGE_AUTHENTICATOR, 18])
+    length = 20 + len(body) + 16
     if length > MOST_OCTETS:
         raise ValueError(f"a packet of {length} octets")
-    body += bytes([MESSAGE_AUTHENTICATOR, 18])
-    tag = hmac.digest(secret, packet[:2] + length.to_bytes(2, "big") + asked + body + bytes(16), "md5")
-    return packet[:2] + length.to_bytes(2, "big") + packet[4:20] + body + tag
+    head = packet[:2] + length.to_bytes(2, "big")
+    return head + packet[4:20] + body + hmac.digest(secret, head + asked + body + bytes(16), "md5")
 
 
 def request_with(secret: bytes, request: bytes, more: bytes) -> bytes:
@@ -86,51 +83,44 @@ def reply_with(secret: bytes, reply: bytes, asked: bytes, more: bytes) -> bytes:
 # The link keys.
 
 
-def combined(secret: bytes, before: bytes, octets: bytes) -> bytes:
-    """16 octets, each combined with the MD5 over the secret and what stands sealed before them (RFC 2548 section 2.4.2)."""
-    return bytes(a ^ b for a, b in zip(octets, hashlib.md5(secret + before).digest()))
-
-
-def seal(secret: bytes, asked: bytes, salt: bytes, key: bytes) -> bytes:
-    """A key behind its length, padded by zeros to a multiple of 16 octets, and sealed."""
-    plain = bytes([len(key)]) + key
-    plain += bytes(-len(plain) % 16)
-    text, before = b"", asked + salt
-    for at in range(0, len(plain), 16):
-        before = combined(secret, before, plain[at : at + 16])
-        text += before
-    return text
-
-
-def unseal(secret: bytes, asked: bytes, salt: bytes, text: bytes) -> Optional[bytes]:
-    """The key in it; None where it isn't one that was sealed so."""
-    plain, before = b"", asked + salt
-    for at in range(0, len(text), 16):
-        plain += combined(secret, before, text[at : at + 16])
-        before = text[at : at + 16]
-    if not plain or len(text) % 16 or plain[0] >= len(plain):
-        return None
-    return plain[1 : plain[0] + 1]
-
-
-def link_keys(secret: bytes, asked: bytes, msk: bytes) -> bytes:
-    """MS-MPPE-Recv-Key, the first 32 octets of the MSK, and MS-MPPE-Send-Key, the others (RFC 5216 section 2.3). The salts
-    begin with a one bit and differ."""
-    first = 0x8000 + secrets.randbelow(0x4000)
+def combined(secret: bytes, before: bytes, octets: bytes, is_sealed: bool) -> bytes:
+    """Octets that are sealed here, or opened: each 16 are combined with the MD5 over the secret and what stands sealed before
+    them (RFC 2548 section 2.4.2)."""
     made = b""
-    for kind, salt, key in ((RECV_KEY, first, msk[:32]), (SEND_KEY, first + 0x4000, msk[32:])):
-        octets = salt.to_bytes(2, "big")
-        inner = attribute(kind, octets + seal(secret, asked, octets, key))
-        made += attribute(VENDOR_SPECIFIC, MICROSOFT.to_bytes(4, "big") + inner)
+    for at in range(0, len(octets), 16):
+        block = octets[at : at + 16]
+        other = bytes(a ^ b for a, b in zip(block, hashlib.md5(secret + before).digest()))
+        made, before = made + other, block if is_sealed else other
     return made
 
 
-def link_key(secret: bytes, asked: bytes, reply: bytes, kind: int) -> Optional[bytes]:
-    """The link key of a type that a reply carries: no octets where it has none, None where it isn't sealed rightly."""
-    for it in values(reply, VENDOR_SPECIFIC):
-        if it[:4] != MICROSOFT.to_bytes(4, "big"):
-            continue
-        for part in parts(it, 4, len(it)):
-            if part[0] == kind:
-                return unseal(secret, asked, part[2:4], part[4:])
-    return b""
+def link_keys(secret: bytes, asked: bytes, msk: bytes) -> bytes:
+    """MS-MPPE-Recv-Key, the first 32 octets of the MSK, and MS-MPPE-Send-Key, the others (RFC 5216 section 2.3). A key stands
+    behind its length, padded by zeros to a multiple of 16 octets. The salts begin with a one bit and differ."""
+    first = 0x8000 + secrets.randbelow(0x4000)
+    made = b""
+    for kind, number, key in ((RECV_KEY, first, msk[:32]), (SEND_KEY, first + 0x4000, msk[32:])):
+        salt, plain = number.to_bytes(2, "big"), bytes([len(key)]) + key
+        sealed = combined(secret, asked + salt, plain + bytes(-len(plain) % 16), False)
+        made += attribute(VENDOR_SPECIFIC, MICROSOFT + attribute(kind, salt + sealed))
+    return made
+
+
+def opened(secret: bytes, before: bytes, sealed: bytes) -> bytes:
+    """The key that was sealed so; no octets where it wasn't."""
+    plain = combined(secret, before, sealed, True)
+    is_right = plain and len(plain) % 16 == 0 and plain[0] < len(plain)
+    return plain[1 : plain[0] + 1] if is_right else b""
+
+
+def link_of(secret: bytes, asked: bytes, reply: bytes) -> Optional[bytes]:
+    """The link keys of a reply, one behind the other; None where it has none, and no octets where one of them isn't there or
+    isn't sealed rightly."""
+    found: Dict[int, bytes] = {}
+    for vendor in values(reply, VENDOR_SPECIFIC):
+        for kind, it in parts(vendor[4:]) if vendor[:4] == MICROSOFT else ():
+            found.setdefault(kind, opened(secret, asked + it[:2], it[2:]))
+    keys = [found.get(it, b"") for it in (RECV_KEY, SEND_KEY)]
+    if not {RECV_KEY, SEND_KEY} & set(found):
+        return None
+    return b"".join(keys) if all(keys) else b""

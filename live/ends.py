@@ -236,9 +236,6 @@ class End:
                 self.take_keys(words)
         return self.state
 
-    def stop(self) -> None:
-        self.words.stop()
-
     def show(self, line: str, turn: Turn) -> None:
         self.trace(f"{self.word} < {line}")
         self.trace(f"{self.word} {' '.join(turn.path)}{' cause ' + turn.cause if turn.cause else ''}")
@@ -259,10 +256,9 @@ class Read:
     """What `radius` says of a packet: its kind, Identifier, EAP packet and verdict; or a cause alone."""
 
     def __init__(self, words: List[str]) -> None:
-        self.kind, self.identifier, self.eap = "", 0, b""
-        self.verdict = words[1]
-        if len(words) > 2:
-            self.kind, self.identifier, self.eap, self.verdict = words[1], int(words[3]), octets_of(words[5]), words[6]
+        is_whole = len(words) > 2
+        self.kind, self.identifier = (words[1], int(words[3])) if is_whole else ("", 0)
+        self.eap, self.verdict = (octets_of(words[5]), words[6]) if is_whole else (b"", words[1])
 
     def is_good(self, *kinds: str) -> bool:
         return self.verdict == "good" and self.kind in kinds
@@ -295,9 +291,6 @@ class Radius:
     def reply(self, kind: str, state: bytes, eap: bytes) -> bytes:
         """The answer to the Access-Request that was read last."""
         return bytes.fromhex(self.ask("reply", kind, hex_of(state), hex_of(eap))[1])
-
-    def stop(self) -> None:
-        self.words.stop()
 
 
 def hex_of(octets: bytes) -> str:
@@ -348,24 +341,15 @@ class Parser(argparse.ArgumentParser):
         self.exit(1, f"{self.prog}: {message}\n")
 
 
-def whole(least: int, most: int) -> Callable[[str], int]:
-    """A number in decimal digits, with its bounds."""
-
-    def read(word: str) -> int:
-        if not re.fullmatch("[0-9]{1,9}", word) or not least <= int(word) <= most:
-            raise argparse.ArgumentTypeError(f"{word[:40]!a} is no number of {least} to {most}")
-        return int(word)
-
-    return read
-
-
-def seconds(least: float, most: float) -> Callable[[str], float]:
-    """Seconds, as 2 or 0.25, with their bounds."""
+def number(least: float, most: float, unit: str = "") -> Callable[[str], float]:
+    """A number in decimal digits, or of a unit with parts, as 2 or 0.25; with its bounds."""
+    form = r"[0-9]{1,9}(\.[0-9]{1,9})?" if unit else "[0-9]{1,9}"
+    value: Callable[[str], float] = float if unit else int
 
     def read(word: str) -> float:
-        if not re.fullmatch(r"[0-9]{1,9}(\.[0-9]{1,9})?", word) or not least <= float(word) <= most:
-            raise argparse.ArgumentTypeError(f"{word[:40]!a} is no number of {least} to {most} seconds")
-        return float(word)
+        if not re.fullmatch(form, word) or not least <= value(word) <= most:
+            raise argparse.ArgumentTypeError(f"{word[:40]!a} is no number of {least} to {most}{unit}")
+        return value(word)
 
     return read
 
@@ -390,7 +374,7 @@ def parser(name: str, text: Optional[str]) -> Parser:
 
 
 def add_faults(made: Parser, is_peer: bool) -> None:
-    count = whole(0, 1000000)
+    count = number(0, 1000000)
     made.add_argument("--lose", type=count, default=0, metavar="N", help="the N-th packet isn't sent")
     made.add_argument("--repeat", type=count, default=0, metavar="N", help="the N-th packet is sent twice")
     if is_peer:
@@ -410,11 +394,6 @@ def tracer(is_wanted: bool) -> Trace:
 
 def say(line: str) -> None:
     print(line, file=sys.stderr, flush=True)
-
-
-def text_of(octets: bytes) -> str:
-    """What the network says, as it may be shown."""
-    return ascii(octets.decode("latin-1"))
 
 
 def run(name: str, main: Callable[[], Optional[int]]) -> NoReturn:

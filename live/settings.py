@@ -7,7 +7,7 @@ from __future__ import annotations
 import os
 import re
 import subprocess
-from typing import Dict, List, Match, Optional, Tuple
+from typing import Dict, List, Optional, Tuple
 
 import ends
 
@@ -20,36 +20,44 @@ class Settings:
     """Lines of a scenario that begin with `peer-` or `server-`, `user` and `max-retrans`, and `secret HEX` for RADIUS. There
     is no nonce: each login draws its own."""
 
-    def __init__(self, path: str) -> None:
-        self.path, self.count = path, 0
-        # (the lines of each text of the program, with their numbers in the file)
-        self.numbered: Dict[str, List[Tuple[int, str]]] = {"peer": [], "server": [], "radius": []}
-        for line in read_file(path).decode("latin-1").split("\n"):
-            self.count += 1
-            self.take(line.rstrip("\r"))
+    def __init__(self, path: str, *wanted: str) -> None:
+        """Fails where the program refuses a line, or where one is missing of the texts that are wanted."""
+        self.path = path
+        # (in each text of the program the lines of the others are empty, so that its lines have the numbers of the file's)
+        self.texts: Dict[str, List[str]] = {text: [] for text in HEADERS}
+        for number, line in enumerate(read_file(path).decode("latin-1").split("\n"), 1):
+            own = self.text_of(number, line.rstrip("\r"))
+            for text, lines in self.texts.items():
+                lines.append(line.rstrip("\r") if text == own else "")
+        for text in HEADERS:
+            if text in wanted or self.lines(text):
+                self.judge(text, text in wanted)
 
-    def take(self, line: str) -> None:
-        if line == "" or line.startswith("#"):
-            return
+    def text_of(self, number: int, line: str) -> str:
+        """The text of the program in which a line stands."""
         keyword = line.partition(" ")[0]
+        if line == "" or line.startswith("#"):
+            return ""
         if keyword in ("peer-nonce", "server-nonce"):
-            raise self.fault(self.count, "a nonce is no setting of a live login, each draws its own")
-        text = text_with(keyword)
-        if text is None:
-            told = f"{ends.shown(keyword)!a} is no setting of a live login; live/README.md has them"
-            raise self.fault(self.count, told)
-        self.numbered[text].append((self.count, line))
+            raise self.fault(number, "a nonce is no setting of a live login, each draws its own")
+        if keyword == "secret":
+            return "radius"
+        if keyword in ("user", "max-retrans") or keyword.startswith("server-"):
+            return "server"
+        if not keyword.startswith("peer-"):
+            raise self.fault(number, f"{ends.shown(keyword)!a} is no setting of a live login; live/README.md has them")
+        return "peer"
 
     def fault(self, number: int, text: str) -> ends.Failed:
         return ends.Failed(f"{self.path} line {number}: {text}")
 
     def lines(self, text: str) -> List[str]:
-        return [line for _, line in self.numbered[text]]
+        return list(filter(None, self.texts[text]))
 
-    def value(self, keyword: str) -> str:
+    def value(self, keyword: str) -> bytes:
         """What stands behind a keyword that the settings have."""
-        text = text_with(keyword) or ""
-        return next(line.partition(" ")[2] for line in self.lines(text) if line.partition(" ")[0] == keyword)
+        words = [line.partition(" ") for lines in self.texts.values() for line in lines]
+        return next(rest.encode("latin-1") for first, _, rest in words if first == keyword)
 
     def key_of(self, name: str, kind: int) -> Optional[Tuple[str, bool]]:
         """The key that the server's users have for a name and a method, and whether that user is allowed."""
@@ -59,31 +67,24 @@ class Settings:
                 return words[3], words[4] == "allowed"
         return None
 
-    def judge(self, *wanted: str) -> None:
-        """Fails where the program refuses a line, or where one is missing of the texts that are wanted."""
-        for text in self.numbered:
-            if text in wanted or self.numbered[text]:
-                self.judge_text(text, text in wanted)
-
-    def judge_text(self, text: str, is_wanted: bool) -> None:
-        if text == "radius" and not self.numbered[text]:
+    def judge(self, text: str, is_wanted: bool) -> None:
+        if text == "radius" and not self.lines(text):
             raise ends.Failed(f"{self.path} has no line `secret HEX`")
-        told = self.told(text)
-        number, fault = verdict(text, told)
-        if number > self.count + 1 and is_wanted:
-            raise ends.Failed(f"{self.path}: {missing_of(why(text, told)) or fault}")
-        if 0 < number <= self.count + 1:
-            line = ends.shown(dict(self.numbered[text])[number - 1])
-            reasons = [it for it in why(text, told) if not it.startswith(f"{fault}: ")]
-            raise self.fault(number - 1, "; ".join([f"{line!a} is refused ({fault})", *reasons]))
-
-    def told(self, text: str) -> str:
-        """The text in which each line of the file stands one line later, and those of the other texts are empty."""
-        lines = [""] * self.count
-        for number, line in self.numbered[text]:
-            lines[number - 1] = line
         rest = ["end"] if text == "radius" else [f"{text}-nonce {'00' * 32}", "events", "end"]
-        return "\n".join([HEADERS[text], *lines, *rest]) + "\n"
+        told = "\n".join([HEADERS[text], *self.texts[text], *rest]) + "\n"
+        last = ask([ends.program(), text], told)[-1:]
+        found = re.fullmatch("refused line ([0-9]+) ([A-Za-z]+)", "".join(last))
+        if not found:
+            return
+        # (the header stands before the file's first line)
+        number, fault = int(found[1]) - 1, found[2]
+        if number <= len(self.texts[text]):
+            line = ends.shown(self.texts[text][number - 1])
+            reasons = [it for it in why(text, told) if not it.startswith(f"{fault}: ")]
+            raise self.fault(number, "; ".join([f"{line!a} is refused ({fault})", *reasons]))
+        if is_wanted:
+            missing = (it for it in why(text, told) if it.startswith("missing: "))
+            raise ends.Failed(f"{self.path}: {next(missing, fault)}")
 
 
 def read_file(path: str) -> bytes:
@@ -97,27 +98,11 @@ def read_file(path: str) -> bytes:
     return octets
 
 
-def text_with(keyword: str) -> Optional[str]:
-    """The text of the program in which a setting stands."""
-    if keyword == "secret":
-        return "radius"
-    if keyword.startswith("server-") or keyword in ("user", "max-retrans"):
-        return "server"
-    return "peer" if keyword.startswith("peer-") else None
-
-
 def ask(words: List[str], told: str) -> List[str]:
     done = subprocess.run(
         words, input=told.encode("latin-1"), stdout=subprocess.PIPE, stderr=subprocess.DEVNULL, timeout=ends.ANSWER_SECONDS
     )
     return done.stdout.decode("latin-1").splitlines()
-
-
-def verdict(text: str, told: str) -> Tuple[int, str]:
-    """The number of the line that the program refuses, 0 where it refuses none, and the fault."""
-    lines = ask([ends.program(), text], told)
-    found = re.fullmatch("refused line ([0-9]+) ([A-Za-z]+)", lines[-1] if lines else "")
-    return (int(found[1]), found[2]) if found else (0, "")
 
 
 def why(text: str, told: str) -> List[str]:
@@ -128,12 +113,5 @@ def why(text: str, told: str) -> List[str]:
         lines = ask([f"{ends.ROOT}/tools/why", text], told)[1:]
     except (OSError, subprocess.SubprocessError):
         return []
-    return [re.sub("line ([0-9]+)", file_line, re.sub("([0-9A-Fa-f]{8})[0-9A-Fa-f]{9,}", r"\1..", it)) for it in lines]
-
-
-def file_line(found: Match[str]) -> str:
-    return f"line {int(found[1]) - 1}"
-
-
-def missing_of(reasons: List[str]) -> Optional[str]:
-    return next((it for it in reasons if it.startswith("missing: ")), None)
+    lines = [re.sub("([0-9A-Fa-f]{8})[0-9A-Fa-f]{9,}", r"\1..", it) for it in lines]
+    return [re.sub("line ([0-9]+)", lambda it: f"line {int(it[1]) - 1}", line) for line in lines]
