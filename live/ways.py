@@ -16,7 +16,7 @@ from typing import Any, Callable, Dict, Iterator, List, Optional, Sequence, Tupl
 
 import ends
 from login_keys import name_of
-from programs import HERE, Cable, Process, need, script, stop_all, table, write
+from programs import HERE, Cable, Process, enter_namespace, lacks, need, script, stop_all, table, write
 
 SECRET, WRONG_SECRET = "testing123", "testing124"
 PORT = "1812"
@@ -279,6 +279,12 @@ WAYS: Dict[str, Tuple[Callable[[str, Login], Outcome], Tuple[str, ...]]] = {
 }
 # The state in which our end is left by a wrong key: a server gives the peer up, a peer is refused.
 WITH_WRONG_KEY = {way: "FAILURE" if way.startswith("hostapd") else "TIMEOUT_FAILURE" for way in WAYS}
+
+
+def reason_against(way: str, script_words: Sequence[str]) -> Optional[str]:
+    """Why a way can't be tried on this machine, or None; then the script runs in a network namespace of its own."""
+    missing = lacks(*WAYS[way][1])
+    return f"{', '.join(missing)} isn't installed (live/install does that)" if missing else enter_namespace(script_words)
 
 
 def log_in(way: str, folder: str, login: Login) -> Outcome:
