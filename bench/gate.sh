@@ -41,52 +41,37 @@ git clone -q "$here" "$work/repository"
 # must-fail edit. A checker forks further processes, and a parent's count takes in the children that have ended.
 log=$work/log
 python3 - "$work/repository" "$log" <<'END'
-import collections, os, re, resource, subprocess, sys, time
+import collections, glob, os, re, resource, subprocess, sys, time
 
 TICK = os.sysconf("SC_CLK_TCK")
 
 
-def process(pid):
-    """The parent, the ticks used (those of ended children too) and the words of a process; None where it has ended."""
-    try:
-        with open(f"/proc/{pid}/stat", encoding="utf-8", errors="replace") as it:
-            fields = it.read().rpartition(")")[2].split()
-        with open(f"/proc/{pid}/cmdline", "rb") as it:
-            words = it.read().decode(errors="replace").split("\0")
-        return int(fields[1]), sum(map(int, fields[11:15])), words, os.readlink(f"/proc/{pid}/cwd")
-    except (OSError, IndexError, ValueError):
-        return None
-
-
-def crate_of(words):
-    return words[words.index("--crate-name") + 1] if "--crate-name" in words else None
-
-
-def part_of(words, folder):
-    if "/rt-edit-" in folder:
-        return "edits"
-    return "tests" if "--test" in words else "proof"
+def processes():
+    """Of each process the parent, the ticks used (those of ended children too), and the crate and part that it checks."""
+    for folder in glob.glob("/proc/[0-9]*"):
+        try:
+            with open(f"{folder}/stat", errors="replace") as stat, open(f"{folder}/cmdline", errors="replace") as line:
+                fields, words = stat.read().rpartition(")")[2].split(), line.read().split("\0")
+            at = os.readlink(f"{folder}/cwd")
+            parent, ticks = int(fields[1]), sum(map(int, fields[11:15]))
+        except (OSError, IndexError, ValueError):
+            continue
+        crate = words[words.index("--crate-name") + 1] if "--crate-name" in words else None
+        yield int(folder[6:]), (parent, ticks, crate, "edits" if "/rt-edit-" in at else "tests" if "--test" in words else "proof")
 
 
 def sample(used, root):
-    """Adds up what the checkers below this process have used so far."""
-    all = {int(pid): it for pid in os.listdir("/proc") if pid.isdigit() and (it := process(pid))}
-
-    def begins(pid):
-        """The checker that a process is or belongs to, if it is one below the root."""
+    """Adds up what the checkers below this process have used so far: each with all below it is the topmost of a crate."""
+    all, now = dict(processes()), collections.Counter()
+    for pid, (_, ticks, _, _) in all.items():
         first, at = None, pid
         while at in all and at != root:
-            first = at if crate_of(all[at][2]) else first
+            first = at if all[at][2] else first
             at = all[at][0]
-        return first if at == root else None
-
-    now = collections.Counter()
-    for pid, (_, ticks, _, _) in all.items():
-        if first := begins(pid):
+        if first and at == root:
             now[first] += ticks
     for pid, ticks in now.items():
-        label = crate_of(all[pid][2]), part_of(all[pid][2], all[pid][3])
-        used[pid] = label, max(ticks, used.get(pid, (label, 0))[1])
+        used[pid] = all[pid][2:], max(ticks, used.get(pid, (None, 0))[1])
 
 
 def free():
