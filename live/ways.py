@@ -12,7 +12,7 @@ from __future__ import annotations
 import dataclasses
 import re
 from string import Template
-from typing import Any, Callable, Dict, Iterator, List, Optional, Sequence, Tuple
+from typing import Any, Callable, Dict, List, Optional, Sequence, Tuple
 
 import ends
 from login_keys import name_of
@@ -237,8 +237,7 @@ def by_wpa_supplicant(folder: str, login: Login) -> Outcome:
     supplicant = Process(folder, "wpa_supplicant", ["wpa_supplicant", *words])
     await_end(server, supplicant, login)
     is_success = "CTRL-EVENT-EAP-SUCCESS" in supplicant.text()
-    if is_success:
-        is_success = authenticator.wait_for("AUTH_PAE entering state AUTHENTICATED", 2)
+    is_success = is_success and authenticator.wait_for("AUTH_PAE entering state AUTHENTICATED", 2)
     for it in (supplicant, authenticator, server):
         it.stop()
     there = supplicant.text() + authenticator.text()
@@ -295,28 +294,18 @@ def log_in(way: str, folder: str, login: Login) -> Outcome:
         stop_all()
 
 
-def complaints(login: Login, outcome: Outcome) -> Iterator[str]:
+def complaints(login: Login, outcome: Outcome) -> List[str]:
     """What isn't as it should be after a login."""
-    if outcome.state != login.state:
-        yield f"our end stands in {outcome.state}, and not in {login.state}"
-    if outcome.is_success != (login.state == "SUCCESS"):
-        yield "the other end succeeds" if outcome.is_success else "the other end doesn't succeed"
-    if not re.search(login.here, outcome.trace, re.M):
-        yield f"our end doesn't say {login.here}"
-    if not re.search(login.there, outcome.their_text, re.M):
-        yield f"the other end doesn't say {login.there}"
-    yield from wrong_keys(login, outcome)
-
-
-def wrong_keys(login: Login, outcome: Outcome) -> Iterator[str]:
-    if login.state != "SUCCESS":
-        if outcome.link:
-            yield "link keys come without a success"
-        return
-    if not outcome.our_keys or not outcome.their_keys:
-        yield f"{'the other' if outcome.our_keys else 'our'} end tells no keys"
-        return
-    if outcome.our_keys != outcome.their_keys:
-        yield f"the keys have the names {outcome.our_keys} here and {outcome.their_keys} there"
-    if outcome.link is not None and outcome.link != outcome.our_keys[0]:
-        yield f"the link keys have the name {outcome.link or '(none)'}, and the MSK {outcome.our_keys[0]}"
+    fails, ours, theirs, link = login.state != "SUCCESS", outcome.our_keys, outcome.their_keys, outcome.link
+    held = {
+        f"our end stands in {outcome.state}, and not in {login.state}": outcome.state == login.state,
+        "the other end succeeds" if fails else "the other end doesn't succeed": outcome.is_success != fails,
+        f"our end doesn't say {login.here}": re.search(login.here, outcome.trace, re.M),
+        f"the other end doesn't say {login.there}": re.search(login.there, outcome.their_text, re.M),
+        "link keys come without a success": not fails or not link,
+        "our end tells no keys": fails or ours,
+        "the other end tells no keys": fails or theirs,
+        f"the keys have the names {ours} here and {theirs} there": fails or ours == theirs,
+        f"the link keys have the name {link or '(none)'}, and the MSK {ours and ours[0]}": fails or link in (None, ours and ours[0]),
+    }
+    return [text for text, it in held.items() if not it]
