@@ -126,9 +126,8 @@ class Words:
 
 @dataclasses.dataclass
 class Turn:
-    """What an end made of a line: the states that it entered, why it discarded what came, and what it sends."""
+    """What an end made of a line: why it discarded what came, and what it sends."""
 
-    path: List[str]
     cause: Optional[str] = None
     sends: Optional[bytes] = None
 
@@ -178,8 +177,7 @@ class End:
         return self.state in OVER
 
     def turn(self, line: str) -> Turn:
-        path = self.next()
-        turn = Turn(path)
+        path, turn = self.next(), Turn()
         if path[0] == "skip":
             return turn
         if says_cause(self.word, line, path):
@@ -188,18 +186,20 @@ class End:
             turn.sends = bytes.fromhex(self.next("send")[0])
         if path != ["-"]:
             self.state = path[-1]
-        self.show(line, turn)
+        self.trace(f"{self.word} < {line}")
+        self.trace(f"{self.word} {' '.join(path)}{' cause ' + turn.cause if turn.cause else ''}")
+        if turn.sends:
+            self.trace(f"{self.word} > packet {turn.sends.hex()}")
         return turn
 
     def next(self, wanted: str = "") -> List[str]:
         """The words of the next line behind its number, and behind the word that is wanted."""
-        while True:
+        words = self.words.get()
+        # (an end holds its keys at any turn, so their line is read before the next path)
+        while words and self.take_keys(words):
             words = self.words.get()
-            if words is None:
-                raise Failed(f"{self.words.name} ended before its answer")
-            # (an end holds its keys at any turn, so their line is read before the next path)
-            if not self.take_keys(words):
-                break
+        if words is None:
+            raise Failed(f"{self.words.name} ended before its answer")
         if words[0] != str(self.count) or (wanted and words[1] != wanted):
             raise Failed(f"{self.words.name} says {' '.join(words)} where {self.count} {wanted or 'PATH'} was to come")
         return words[2:] if wanted else words[1:]
@@ -235,12 +235,6 @@ class End:
             else:
                 self.take_keys(words)
         return self.state
-
-    def show(self, line: str, turn: Turn) -> None:
-        self.trace(f"{self.word} < {line}")
-        self.trace(f"{self.word} {' '.join(turn.path)}{' cause ' + turn.cause if turn.cause else ''}")
-        if turn.sends:
-            self.trace(f"{self.word} > packet {turn.sends.hex()}")
 
     def verdict(self) -> str:
         """The state at the end, and the names of the keys where it holds some."""
