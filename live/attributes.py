@@ -12,6 +12,7 @@ import secrets
 from typing import Dict, Iterator, List, Optional, Tuple
 
 STATE, VENDOR_SPECIFIC, PROXY_STATE, MESSAGE_AUTHENTICATOR, ERROR_CAUSE = 24, 26, 33, 80, 101
+ACCESS_REQUEST = 1
 # The vendor's number, and its types MS-MPPE-Send-Key and MS-MPPE-Recv-Key.
 MICROSOFT, SEND_KEY, RECV_KEY = (311).to_bytes(4, "big"), 16, 17
 # The most octets of a RADIUS packet (RFC 2865 section 3).
@@ -52,32 +53,20 @@ def proxy_states(packet: bytes) -> bytes:
     return b"".join(attribute(PROXY_STATE, it) for it in values(packet, PROXY_STATE))
 
 
-# A packet with more attributes.
-
-
-def tagged(secret: bytes, packet: bytes, asked: bytes, more: bytes) -> bytes:
+def with_more(secret: bytes, packet: bytes, asked: bytes, more: bytes) -> bytes:
     """A packet with more attributes before its Message-Authenticator, which is made anew over the Request Authenticator
-    (RFC 3579 section 3.2)."""
+    (RFC 3579 section 3.2), as is the Response Authenticator of a reply (RFC 2865 section 3). That of an Access-Request is a
+    number drawn for it, and stays."""
+    if not more:
+        return packet
     body = b"".join(attribute(*it) for it in attributes(packet) if it[0] != MESSAGE_AUTHENTICATOR) + more
     body += bytes([MESSAGE_AUTHENTICATOR, 18])
     length = 20 + len(body) + 16
     if length > MOST_OCTETS:
         raise ValueError(f"a packet of {length} octets")
     head = packet[:2] + length.to_bytes(2, "big")
-    return head + packet[4:20] + body + hmac.digest(secret, head + asked + body + bytes(16), "md5")
-
-
-def request_with(secret: bytes, request: bytes, more: bytes) -> bytes:
-    """An Access-Request with more attributes; its Authenticator is a number drawn for it, and stays."""
-    return tagged(secret, request, request[4:20], more) if more else request
-
-
-def reply_with(secret: bytes, reply: bytes, asked: bytes, more: bytes) -> bytes:
-    """A reply with more attributes, and with the Response Authenticator that it then has (RFC 2865 section 3)."""
-    if not more:
-        return reply
-    made = tagged(secret, reply, asked, more)
-    return made[:4] + hashlib.md5(made[:4] + asked + made[20:] + secret).digest() + made[20:]
+    body += hmac.digest(secret, head + asked + body + bytes(16), "md5")
+    return head + (asked if packet[0] == ACCESS_REQUEST else hashlib.md5(head + asked + body + secret).digest()) + body
 
 
 # The link keys.

@@ -59,13 +59,13 @@ class Process:
                 return False
             time.sleep(0.05)
 
-    def ended(self, seconds: float) -> Process:
-        """The same, which has ended by itself within so many seconds, or is stopped then."""
+    def ended(self, seconds: float) -> str:
+        """All its output, once it has ended by itself within so many seconds, or is stopped then."""
         try:
             self.process.wait(seconds)
         except subprocess.TimeoutExpired:
             self.stop()
-        return self
+        return self.text()
 
     def stop(self) -> None:
         # (what doesn't end by this is killed by `timeout`)

@@ -101,36 +101,29 @@ def configured(folder: str, login: Login, name: str, source: str = "") -> str:
 # Our ends.
 
 
-def faults(login: Login) -> List[str]:
-    return ["--lose", login.lose, "--repeat", login.repeat, *["--trace"] * (not login.untraced)]
-
-
-def peer_faults(login: Login) -> List[str]:
-    return faults(login) + (["--alter", *login.alter.split(",")] if login.alter else [])
+def ours(folder: str, login: Login, name: str, settings: str, *words: str, where: Sequence[str] = (), log: str = "") -> Process:
+    """One of our scripts, and what is done to its packets."""
+    words = (configured(folder, login, settings), *words, "--lose", login.lose, "--repeat", login.repeat)
+    words += ("--trace",) * (not login.untraced)
+    if login.alter and settings == "peer.settings":
+        words += ("--alter", *login.alter.split(","))
+    return Process(folder, log or name, script(name, *words), where)
 
 
 def radius_server(folder: str, login: Login, where: Sequence[str] = ()) -> Process:
-    words = script("radius_server", configured(folder, login, "server.settings"), "127.0.0.1", PORT, *faults(login))
-    return need(Process(folder, "radius_server", words, where), "^ready ")
+    return need(ours(folder, login, "radius_server", "server.settings", "127.0.0.1", PORT, where=where), "^ready ")
 
 
-def start_client(folder: str, login: Login, name: str = "radius_client") -> Process:
-    words = script("radius_client", configured(folder, login, "peer.settings"), "127.0.0.1", PORT, "--timer", "0.7")
-    words += ["--tries", "8" if login.state == "SUCCESS" else "4"]
+def radius_client(folder: str, login: Login, log: str = "") -> Process:
+    words = ["127.0.0.1", PORT, "--timer", "0.7", "--tries", "8" if login.state == "SUCCESS" else "4"]
     for it in re.findall("[0-9a-f]+", login.proxy_states):
         words += ["--proxy-state", it]
-    return Process(folder, name, words + peer_faults(login))
-
-
-def radius_client(folder: str, login: Login) -> Process:
-    return start_client(folder, login).ended(MOST_SECONDS)
+    return ours(folder, login, "radius_client", "peer.settings", *words, log=log)
 
 
 def wired(folder: str, login: Login) -> Process:
     # (hostapd sends a Request again after three seconds)
-    idle = "8" if login.state == "SUCCESS" else "2"
-    words = script("wired", configured(folder, login, "peer.settings"), Cable.NEAR, "--idle", idle, *peer_faults(login))
-    return Process(folder, "wired", words).ended(MOST_SECONDS)
+    return ours(folder, login, "wired", "peer.settings", Cable.NEAR, "--idle", "8" if login.state == "SUCCESS" else "2")
 
 
 # The other programs.
@@ -176,7 +169,7 @@ class Outcome:
 
 def by_radius(folder: str, login: Login) -> Outcome:
     server = radius_server(folder, login)
-    client = radius_client(folder, dataclasses.replace(login, lose="0", repeat="0")).text()
+    client = radius_client(folder, dataclasses.replace(login, lose="0", repeat="0")).ended(MOST_SECONDS)
     server.stop()
     state, keys = verdicts(client)[0]
     return Outcome(server.text(), client, state == "SUCCESS", keys, our_link(client))
@@ -185,8 +178,8 @@ def by_radius(folder: str, login: Login) -> Outcome:
 def keys_of_many(folder: str, login: Login, count: int) -> Tuple[List[ends.Names], List[ends.Names]]:
     """Several clients at once at one server: the names of the keys that each holds, there and here, in order."""
     server = radius_server(folder, login)
-    clients = [start_client(folder, login, f"radius_client{it}") for it in range(count)]
-    here = [verdicts(it.ended(MOST_SECONDS).text())[0] for it in clients]
+    clients = [radius_client(folder, login, f"radius_client{it}") for it in range(count)]
+    here = [verdicts(it.ended(MOST_SECONDS))[0] for it in clients]
     server.stop()
     there = [it for it in verdicts(server.text()) if it[0] == "SUCCESS"]
     return sorted(keys or ("", "") for _, keys in there), sorted(keys or ("", "") for _, keys in here)
@@ -196,7 +189,7 @@ def by_eapol_test(folder: str, login: Login) -> Outcome:
     server = radius_server(folder, login)
     tester = eapol_test(folder, login)
     await_end(server, tester, login)
-    there = tester.ended(5 if login.state == "SUCCESS" else 0).text()
+    there = tester.ended(5 if login.state == "SUCCESS" else 0)
     server.stop()
     # (one that is ended by a signal writes SUCCESS as its last line, whatever came before)
     is_success = tester.process.returncode == 0 and THEIR_SUCCESS in there and EQUAL_LINK_KEYS in there
@@ -215,13 +208,13 @@ def await_end(server: Process, other: Process, login: Login) -> None:
 
 def by_hostapd_radius(folder: str, login: Login) -> Outcome:
     server = hostapd(folder, login, "radius")
-    client = radius_client(folder, login).text()
+    client = radius_client(folder, login).ended(MOST_SECONDS)
     return outcome_at(server, client, our_link(client))
 
 
 def by_hostapd_wired(folder: str, login: Login) -> Outcome:
     server = hostapd(folder, login, "wired", Cable(folder).far)
-    return outcome_at(server, wired(folder, login).text(), None)
+    return outcome_at(server, wired(folder, login).ended(MOST_SECONDS), None)
 
 
 def outcome_at(server: Process, ours: str, link: Optional[str]) -> Outcome:
