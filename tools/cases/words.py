@@ -1,4 +1,4 @@
-"""Each row of tools/lib/words.py beside the program, by running it: each word of each line at its limits, which is taken,
+"""Each row of tools/lib/words.txt beside the program, by running it: each word of each line at its limits, which is taken,
 and past them, which is refused with its fault; and that the program has no other causes, skips, statuses and forms."""
 
 from __future__ import annotations
