@@ -17,8 +17,6 @@ HEADERS = {b"eap-scenario": "replay", b"eap-capture": "check", b"eap-radius": "r
            b"eap-trace": "trace", b"bulk ": "bulk"}
 KEY = re.compile("([0-9a-fA-F]{2}){16}|([0-9a-fA-F]{2}){32,64}")
 FINDINGS = re.compile(rb"(packets|records) \d+ .*findings \d+\n?\Z")
-# The messages that name the user, with the field that does.
-NAMING = {"GPSK-2": ("ID_Peer", "51"), "PSK-2": ("ID_P", "47")}
 
 
 def form_of(octets: bytes) -> str:
@@ -87,22 +85,16 @@ def users_of(given: list[str], users_file: Optional[str]) -> tuple[list[User], s
 
 def named_in(capture: Capture) -> list[tuple[str, str]]:
     """The users that the packets name, with the method."""
-    found = []
-    for it in capture.packets:
-        reading = packets.read(it.octets)
-        if reading.message in NAMING and reading.get("Code") == b"\2":
-            field, kind = NAMING[reading.message]
-            found.append(((reading.get(field) or b"").decode("latin-1"), kind))
-    return list(dict.fromkeys(found))
+    read = [packets.read(it) for it in capture.packets.octets]
+    return list(dict.fromkeys((it.user, it.kind) for it in read if it.message in packets.SECOND and it.number["Code"] == 2))
 
 
 def give_users(capture: Capture, users: list[User], key: str) -> None:
     """Adds users to a capture; a key that stands alone is that of each user whom the packets name, as its size fits."""
     capture.users += users
     for name, kind in named_in(capture) if key else []:
-        least, most = words.KEY_SIZES[kind]
         is_plain = name and all("!" <= it <= "~" for it in name)
-        if least <= len(key) // 2 <= most and is_plain and len(capture.users) < words.MOST_USERS:
+        if words.is_key_size(kind, len(key) // 2) and is_plain and len(capture.users) < words.MOST_USERS:
             capture.users.append((name, kind, key))
     if key and not capture.users:
         capture.notes.append(f"no packet names a user whose method takes a key of {len(key) // 2} octets")

@@ -9,6 +9,7 @@ from typing import Iterator, Optional, Sequence
 from lib import frames, packets
 from lib.captures import NONE, Capture, Packets, User, text_of
 from lib.common import Refused, run
+from lib.packets import FIRST, LAST, SECOND, THIRD
 from lib.replays import Event, Replay, Sent
 
 MARKS = {
@@ -192,8 +193,7 @@ def captured(replay: Replay, passed: list[Row]) -> Capture:
 
 # ---- Captures.
 
-OF_PEER, OF_SERVER = ("GPSK-2", "GPSK-4", "PSK-2", "PSK-4"), ("GPSK-1", "GPSK-3", "PSK-1", "PSK-3")
-FIRST, SECOND, THIRD, LAST = ("GPSK-1", "PSK-1"), ("GPSK-2", "PSK-2"), ("GPSK-3", "PSK-3"), ("GPSK-4", "PSK-4")
+OF_PEER, OF_SERVER = SECOND + LAST, FIRST + THIRD
 OF_METHODS = {*OF_PEER, *OF_SERVER, "Nak"}
 GOES_ON = OF_METHODS - {*FIRST, "Nak"}
 

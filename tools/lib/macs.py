@@ -5,7 +5,7 @@ from __future__ import annotations
 from typing import Optional, Sequence
 
 from lib.common import answer
-from lib.packets import Reading
+from lib.packets import SECOND, Reading
 
 
 def keyed(*requests: str) -> list[str]:
@@ -21,8 +21,7 @@ def part(message: Reading, name: str) -> str:
 def of_gpsk(octets: bytes, message: Reading, second: Reading, key: str) -> tuple[str, str]:
     """What is told of the MAC of a message that follows a GPSK-2: as received, as computed."""
     suite, mac = second.number.get("CSuite_Sel", 0) & 0xFF, message.get("MAC") or b""
-    names = ("RAND_Peer", "ID_Peer", "RAND_Server", "ID_Server")
-    keys = keyed(f"gpsk {suite} {key} " + " ".join(part(second, it) or "-" for it in names))
+    keys = keyed(second.key_request(key))
     end = next(it.at for it in message.fields if it.name == "MAC")
     found = keyed(f"{'hmac' if suite == 2 else 'cmac'} {keys[3]} {octets[6:end].hex() or '-'}") if len(keys) > 3 else []
     return mac.hex(), "".join(found)
@@ -30,7 +29,7 @@ def of_gpsk(octets: bytes, message: Reading, second: Reading, key: str) -> tuple
 
 def of_psk(octets: bytes, message: Reading, first: Reading, second: Reading, key: str) -> tuple[str, str]:
     """The same by EAP-PSK: MAC_P, MAC_S, and where that is right, or isn't there, the tag of PCHANNEL."""
-    ak, _, tek, *_ = keyed(f"psk {key} {part(second, 'RAND_P')}") or [""] * 3
+    ak, _, tek, *_ = keyed(second.key_request(key)) or [""] * 3
     rand_s, rand_p, id_s, id_p = part(first, "RAND_S"), part(second, "RAND_P"), part(first, "ID_S"), part(second, "ID_P")
     covered = {"MAC_P": id_p + id_s + rand_s + rand_p, "MAC_S": id_s + rand_p}
     for name, text in covered.items():
@@ -52,7 +51,7 @@ def told(octets: bytes, message: Reading, before: Sequence[Reading], key: str) -
     def last(name: str) -> Optional[Reading]:
         return next((it for it in reversed(before) if it.message == name and not it.faults), None)
 
-    second = message if message.message in ("GPSK-2", "PSK-2") else last("GPSK-2") or last("PSK-2")
+    second = message if message.message in SECOND else last("GPSK-2") or last("PSK-2")
     first, name = last("PSK-1"), "".join(keyed(f"name {key}"))
     received = computed = ""
     if second and message.message.startswith("GPSK"):

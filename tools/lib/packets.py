@@ -19,8 +19,10 @@ FAILURES = {1: "PSK Not Found", 2: "Authentication Failure", 3: "Authorization F
 MAC_SIZES = {1: 16, 2: 32}
 MOST_SUITES, MOST_NAME, MOST_OCTETS = 20, 253, 1500
 # The field with the name of the end that a message names first.
-NAMING = {"Identity": "Type-Data", "GPSK-1": "ID_Server", "GPSK-2": "ID_Peer", "GPSK-3": "ID_Server"}
-NAMING.update({"PSK-1": "ID_S", "PSK-2": "ID_P"})
+NAMING = {"Identity": "Type-Data", "GPSK-1": "ID_Server", "GPSK-2": "ID_Peer", "GPSK-3": "ID_Server", "PSK-1": "ID_S",
+          "PSK-2": "ID_P"}
+KIND_OF = {"GPSK": "51", "PSK": "47"}
+FIRST, SECOND, THIRD, LAST = ("GPSK-1", "PSK-1"), ("GPSK-2", "PSK-2"), ("GPSK-3", "PSK-3"), ("GPSK-4", "PSK-4")
 
 
 @dataclass
@@ -57,10 +59,30 @@ class Reading:
         return {it.name: int.from_bytes(it.octets, "big") for it in self.fields}
 
     @cached_property
+    def kind(self) -> str:
+        """The method whose message it is."""
+        return KIND_OF.get(self.message.split("-")[0], "")
+
+    @property
+    def user(self) -> str:
+        """The name of an end that the message names."""
+        return (self.get(NAMING.get(self.message, "")) or b"").decode("latin-1")
+
+    @cached_property
     def identity(self) -> str:
-        """The name of an end that the message names, as it is shown."""
-        octets = self.get(NAMING.get(self.message, ""))
-        return shown(octets.decode("latin-1"), 60) if octets else ""
+        """The same, as it is shown."""
+        return shown(self.user, 60)
+
+    def hex(self, *names: str) -> str:
+        """The octets of fields as the program reads them."""
+        return " ".join((self.get(it) or b"").hex() or "-" for it in names)
+
+    def key_request(self, key: str) -> str:
+        """The line for `keys` that a GPSK-2 or a PSK-2 decides, since it has the nonce of the peer."""
+        if self.message == "PSK-2":
+            return f"psk {key} {self.hex('RAND_P')}"
+        suite = self.number.get("CSuite_Sel", 0) & 0xFF
+        return f"gpsk {suite} {key} {self.hex('RAND_Peer', 'ID_Peer', 'RAND_Server', 'ID_Server')}"
 
     @property
     def desired(self) -> str:
@@ -89,8 +111,9 @@ class Reading:
 Note = Callable[[bytes], str]
 
 
-class Short(Exception):
-    """The packet ends within a field."""
+def named(names: dict[int, str]) -> Note:
+    """Says a number by its name, where it has one."""
+    return lambda octets: names.get(int.from_bytes(octets, "big"), f"{int.from_bytes(octets, 'big')}")
 
 
 def text_of(octets: bytes) -> str:
@@ -98,17 +121,26 @@ def text_of(octets: bytes) -> str:
     return f'"{octets.decode()}"' if octets and all(0x20 <= it <= 0x7E for it in octets) else ""
 
 
+def suites_of(octets: bytes) -> str:
+    suites = [(int.from_bytes(octets[at : at + 4], "big"), octets[at + 4 : at + 6]) for at in range(0, len(octets), 6)]
+    return ", ".join(f"suite {int.from_bytes(it, 'big')}" + (f" of vendor {vendor}" if vendor else "") for vendor, it in suites)
+
+
+class Short(Exception):
+    """The packet ends within a field."""
+
+
 class Reader:
     """Takes one field after the other."""
 
-    def __init__(self, octets: bytes, end: int, reading: Reading) -> None:
-        self.octets, self.end, self.at, self.reading = octets, end, 0, reading
+    def __init__(self, octets: bytes) -> None:
+        self.octets, self.end, self.at, self.reading = octets, len(octets), 0, Reading()
 
     def left(self) -> int:
         return self.end - self.at
 
     def take(self, name: str, count: int, note: Optional[Note] = None) -> bytes:
-        """A field of so many octets. What it says is the note's value at them, or the text that they spell."""
+        """A field of so many octets. What it says is the note's value at them."""
         there = self.octets[self.at : min(self.at + count, self.end)]
         said = note(there) if note and len(there) == count else ""
         if there or count == 0:
@@ -122,134 +154,80 @@ class Reader:
     def fault(self, text: str) -> None:
         self.reading.faults.append(text)
 
-    def number(self, name: str, count: int, note: Callable[[int], str] = str) -> int:
-        return int.from_bytes(self.take(name, count, lambda it: note(int.from_bytes(it, "big"))), "big")
-
-    def sized(self, name: str, note: Optional[Note] = None) -> bytes:
-        """A field behind its length in two octets."""
-        return self.take(name, self.number(f"length({name})", 2), note)
+    def number(self, name: str, count: int, note: Note = named({})) -> int:
+        return int.from_bytes(self.take(name, count, note), "big")
 
     def rest(self, name: str, note: Optional[Note] = None) -> bytes:
         return self.take(name, self.left(), note)
 
 
-def identity(reader: Reader, name: str, take: Callable[[str, Note], bytes]) -> None:
-    if len(take(name, text_of)) > MOST_NAME:
-        reader.fault(f"{name} has over {MOST_NAME} octets")
+# The messages: RFC 5433 section 9, RFC 4764 section 5. Behind each field is how many octets it has: a number of them, those
+# of `sized` behind their length in two octets, of `suite` as many as the MAC of the suite before it, `rest` all that are left.
+
+CHANNEL = "PCHANNEL Nonce 4; PCHANNEL Tag 16; PCHANNEL R, E, Reserved 1"
+MESSAGES = {
+    "GPSK-1": "ID_Server sized; RAND_Server 32; CSuite_List sized",
+    "GPSK-2": "ID_Peer sized; ID_Server sized; RAND_Peer 32; RAND_Server 32; CSuite_List sized; CSuite_Sel 6; "
+              "PD_Payload_Block sized; MAC suite",
+    "GPSK-3": "RAND_Peer 32; RAND_Server 32; ID_Server sized; CSuite_Sel 6; PD_Payload_Block sized; MAC suite",
+    "GPSK-4": "PD_Payload_Block sized; MAC rest",
+    "GPSK-Fail": "Failure-Code 4",
+    "GPSK-Protected-Fail": "Failure-Code 4; MAC rest",
+    "PSK-1": "RAND_S 16; ID_S rest",
+    "PSK-2": "RAND_S 16; RAND_P 16; MAC_P 16; ID_P rest",
+    "PSK-3": f"RAND_S 16; MAC_S 16; {CHANNEL}",
+    "PSK-4": f"RAND_S 16; {CHANNEL}",
+}
+NOTES: dict[str, Note] = {
+    "ID_Server": text_of, "ID_Peer": text_of, "ID_S": text_of, "ID_P": text_of, "CSuite_List": suites_of, "CSuite_Sel": suites_of,
+    "Failure-Code": named(FAILURES), "PCHANNEL Nonce": named({}), "PCHANNEL R, E, Reserved": lambda _: "encrypted",
+}
 
 
-def named(names: dict[int, str]) -> Callable[[int], str]:
-    return lambda value: names.get(value, f"{value}")
+def fault_of(name: str, octets: bytes) -> str:
+    """What is wrong with a field of a message, which is whole."""
+    size = len(octets)
+    if name.startswith("ID_") and size > MOST_NAME:
+        return f"{name} has over {MOST_NAME} octets"
+    if name == "CSuite_List" and (size == 0 or size % 6):
+        return f"CSuite_List has {size} octets, and six for each suite are wanted"
+    if name == "CSuite_List" and size > 6 * MOST_SUITES:
+        return f"CSuite_List has over {MOST_SUITES} suites"
+    if name == "CSuite_Sel" and int.from_bytes(octets, "big") not in MAC_SIZES:
+        return f"CSuite_Sel is no suite of RFC 5433: {suites_of(octets)}"
+    if name == "MAC" and size not in MAC_SIZES.values():
+        return f"the MAC has {size} octets, and suite 1 has 16, suite 2 has 32"
+    return ""
 
 
-def suite_of(octets: bytes) -> str:
-    vendor, number = int.from_bytes(octets[:4], "big"), int.from_bytes(octets[4:], "big")
-    return f"suite {number}" if vendor == 0 else f"suite {number} of vendor {vendor}"
-
-
-def suites_of(octets: bytes) -> str:
-    return ", ".join(suite_of(octets[at : at + 6]) for at in range(0, len(octets), 6))
-
-
-# EAP-GPSK: RFC 5433 section 9.
-
-
-def take_suites(reader: Reader) -> None:
-    octets = reader.sized("CSuite_List", suites_of)
-    if not octets or len(octets) % 6:
-        reader.fault(f"CSuite_List has {len(octets)} octets, and six for each suite are wanted")
-    elif len(octets) > 6 * MOST_SUITES:
-        reader.fault(f"CSuite_List has over {MOST_SUITES} suites")
-
-
-def take_mac(reader: Reader, suite: Optional[int] = None) -> None:
-    """The MAC, of the size of its suite, where the message tells that; else what is left."""
-    mac = reader.take("MAC", MAC_SIZES.get(suite or 0, reader.left()))
-    if len(mac) not in MAC_SIZES.values():
-        reader.fault(f"the MAC has {len(mac)} octets, and suite 1 has 16, suite 2 has 32")
-
-
-def take_suite_and_mac(reader: Reader) -> None:
-    suite = reader.take("CSuite_Sel", 6, suite_of)
-    number = suite[5] if suite[:5] == bytes(5) else 0
-    if number not in MAC_SIZES:
-        reader.fault(f"CSuite_Sel is no suite of RFC 5433: {suite_of(suite)}")
-    reader.sized("PD_Payload_Block")
-    take_mac(reader, number)
-
-
-def take_gpsk1(reader: Reader) -> None:
-    identity(reader, "ID_Server", reader.sized)
-    reader.take("RAND_Server", 32)
-    take_suites(reader)
-
-
-def take_gpsk2(reader: Reader) -> None:
-    identity(reader, "ID_Peer", reader.sized)
-    identity(reader, "ID_Server", reader.sized)
-    reader.take("RAND_Peer", 32)
-    reader.take("RAND_Server", 32)
-    take_suites(reader)
-    take_suite_and_mac(reader)
-
-
-def take_gpsk3(reader: Reader) -> None:
-    reader.take("RAND_Peer", 32)
-    reader.take("RAND_Server", 32)
-    identity(reader, "ID_Server", reader.sized)
-    take_suite_and_mac(reader)
-
-
-def take_gpsk4(reader: Reader) -> None:
-    reader.sized("PD_Payload_Block")
-    take_mac(reader)
-
-
-def take_failure_code(reader: Reader) -> None:
-    reader.number("Failure-Code", 4, named(FAILURES))
-
-
-def take_protected_fail(reader: Reader) -> None:
-    take_failure_code(reader)
-    take_mac(reader)
-
-
-GPSK = {1: take_gpsk1, 2: take_gpsk2, 3: take_gpsk3, 4: take_gpsk4, 5: take_failure_code, 6: take_protected_fail}
+def take_message(reader: Reader, message: str) -> None:
+    suite = 0
+    for name, size in (it.rsplit(" ", 1) for it in MESSAGES[message].split("; ")):
+        if size.isdigit():
+            count = int(size)
+        elif size == "sized":
+            count = reader.number(f"length({name})", 2)
+        else:
+            count = MAC_SIZES.get(suite, reader.left()) if size == "suite" else reader.left()
+        octets = reader.take(name, count, NOTES.get(name))
+        suite = int.from_bytes(octets, "big") if name == "CSuite_Sel" else suite
+        if fault := fault_of(name, octets):
+            reader.fault(fault)
 
 
 def take_gpsk(reader: Reader) -> None:
     op = reader.number("OP-Code", 1, named(OP_CODES))
     reader.reading.name = OP_CODES.get(op, f"EAP-GPSK with OP-Code {op}")
-    if op not in GPSK:
+    if op not in OP_CODES:
         reader.fault(f"OP-Code {op} is none of 1 to 6")
     else:
-        GPSK[op](reader)
-
-
-# EAP-PSK: RFC 4764 section 5.
-
-
-def take_channel(reader: Reader) -> None:
-    """PCHANNEL (section 3.3): what is sealed has R and E in its first octet."""
-    reader.number("PCHANNEL Nonce", 4)
-    reader.take("PCHANNEL Tag", 16)
-    reader.take("PCHANNEL R, E, Reserved", 1, lambda it: "encrypted")
+        take_message(reader, OP_CODES[op])
 
 
 def take_psk(reader: Reader) -> None:
-    flags = reader.number("Flags", 1, lambda it: f"T = {it >> 6}")
-    name = reader.reading.name = f"PSK-{(flags >> 6) + 1}"
-    reader.take("RAND_S", 16)
-    if name == "PSK-1":
-        identity(reader, "ID_S", reader.rest)
-    elif name == "PSK-2":
-        reader.take("RAND_P", 16)
-        reader.take("MAC_P", 16)
-        identity(reader, "ID_P", reader.rest)
-    else:
-        if name == "PSK-3":
-            reader.take("MAC_S", 16)
-        take_channel(reader)
+    flags = reader.number("Flags", 1, lambda it: f"T = {it[0] >> 6}")
+    reader.reading.name = f"PSK-{(flags >> 6) + 1}"
+    take_message(reader, reader.reading.name)
 
 
 # The packet: RFC 3748 section 4.
@@ -269,7 +247,7 @@ def take_entries(reader: Reader) -> None:
 def take_expanded(reader: Reader) -> None:
     """Type 254 (section 5.7): of the IETF's Types the data of the Type inside."""
     vendor = reader.number("Vendor-Id", 3)
-    kind = reader.number("Vendor-Type", 4, lambda it: (vendor == 0 and TYPES.get(it)) or str(it))
+    kind = reader.number("Vendor-Type", 4, named(TYPES if vendor == 0 else {}))
     if vendor != 0 or kind in (0, 254) or kind > 255:
         reader.rest("Vendor data")
     elif kind == 3:
@@ -318,8 +296,7 @@ def take_header(reader: Reader) -> int:
 @lru_cache(maxsize=4096)
 def read(octets: bytes) -> Reading:
     """The fields of a packet; who is given them changes nothing."""
-    reading = Reading()
-    reader = Reader(octets, len(octets), reading)
+    reader = Reader(octets)
     try:
         code = take_header(reader)
         if code in (1, 2):
@@ -333,5 +310,5 @@ def read(octets: bytes) -> Reading:
         reader.fault(f"octets past the last field: {reader.left()}")
         reader.rest("(past the last field)")
     if reader.end < len(octets):
-        reading.fields.append(Field("(padding)", reader.end, octets[reader.end :], "past Length"))
-    return reading
+        reader.reading.fields.append(Field("(padding)", reader.end, octets[reader.end :], "past Length"))
+    return reader.reading

@@ -148,8 +148,7 @@ def lines_of(part: str, crates: List[str]) -> int:
 def cases() -> int:
     """How many cases cases/run runs: each `case` of a file, or each of its rows."""
     files = [re.split(r"^case ", it.read_text("latin-1"), flags=re.M) for it in (ROOT / "cases").glob("*.cases")]
-    rows = lambda text: len(re.findall(r"^row\b", text, re.M))
-    return sum(max(1, rows(front) + rows(it)) for front, *own in files for it in own)
+    return sum(max(1, len(re.findall(r"^row\b", front + it, re.M))) for front, *own in files for it in own)
 
 
 def refused() -> int:

@@ -10,12 +10,10 @@ from typing import Callable, Iterable, Iterator, Optional, Sequence
 
 from lib import macs, packets, words
 from lib.captures import Capture
-from lib.ladder import (FIRST, LAST, MARKS, MOST_ALTERED, OF_PEER, OF_SERVER, SECOND, THIRD, Ladder, Row, findings_of, logins_of,
-                        rows_of)
-from lib.packets import Reading
+from lib.ladder import MARKS, MOST_ALTERED, OF_PEER, OF_SERVER, Ladder, Row, findings_of, logins_of, rows_of
+from lib.packets import FIRST, LAST, SECOND, THIRD, Reading
 from lib.replays import Replay
 
-KIND_OF = {"GPSK": "51", "PSK": "47"}
 FAILS = {
     1: "the server has no key for {user}",
     2: "the server found the MAC wrong",
@@ -109,8 +107,8 @@ class Login:
     @property
     def kind(self) -> str:
         """The method that went on last."""
-        found = [it.split("-")[0] for it in self.messages if it in OF_PEER + OF_SERVER]
-        return KIND_OF[found[-1]] if found else ""
+        found = [it.kind for it in self.read if it.message in OF_PEER + OF_SERVER]
+        return found[-1] if found else ""
 
     @property
     def end(self) -> Optional[int]:
@@ -225,8 +223,7 @@ def mac_of(login: Login, at: int) -> str:
     """The MACs received and computed, where the key is known."""
     second = at if login.messages[at] in SECOND else login.last(*SECOND, before=at)
     name = login.read[second].identity if second is not None else ""
-    kind = KIND_OF.get(login.messages[at].split("-")[0], "")
-    key = next((key for user, its, key in login.users if (user, its) == (name, kind)), "")
+    key = next((key for user, kind, key in login.users if (user, kind) == (name, login.read[at].kind)), "")
     return macs.told(login.rows[at].octets or b"", login.read[at], login.read[:at], key) if key else ""
 
 
@@ -265,8 +262,8 @@ def plain(name: str) -> str:
 
 def without_key(login: Login, reading: Reading) -> str:
     """Why no key is there for a message, by the users that are given."""
-    kind = KIND_OF[reading.message.split("-")[0]]
-    name, other = reading.identity, "47" if kind == "51" else "51"
+    kind, name = reading.kind, reading.identity
+    other = "47" if kind == "51" else "51"
     given = [(user, its) for user, its, _ in login.users]
     if (name, other) in given:
         login.tries.append(f"`{name} {kind} KEY` in place of `{name} {other} KEY`")
@@ -623,7 +620,7 @@ def setting(replay: Replay, *front: str) -> str:
 
 def keys_differ(replay: Replay, reading: Reading) -> str:
     """Whether the two ends of a scenario have different keys for the user of a message."""
-    kind, user = KIND_OF.get(reading.message.split("-")[0], ""), setting(replay, "peer-name")
+    kind, user = reading.kind, setting(replay, "peer-name")
     one, other = setting(replay, "peer-psk", kind), setting(replay, "user", user, kind)
     if one and other and one.lower() != other.lower():
         return f": `peer-psk {kind}` and `user {user} {kind}` have different keys"

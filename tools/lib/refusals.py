@@ -46,13 +46,11 @@ def of_key(kind: str, key: str) -> str:
     wrong = is_of_hex(key)
     if wrong or kind not in METHODS:
         return wrong
-    least, most = words.KEY_SIZES[kind]
     size = len(key) // 2
-    if least <= size <= most:
+    if words.is_key_size(kind, size):
         return ""
-    fits = "".join(f"; it is a key for {it}" for it, (low, high) in words.KEY_SIZES.items() if low <= size <= high)
-    wanted = f"{least}" if least == most else f"{least} to {most}"
-    return f"it has {size} octets ({len(key)} digits), and a key for {kind} ({METHODS[kind]}) has {wanted}{fits}"
+    fits = "".join(f"; it is a key for {it}" for it in METHODS if words.is_key_size(it, size))
+    return f"it has {size} octets ({len(key)} digits), and a key for {kind} ({METHODS[kind]}) has {words.key_size(kind)}{fits}"
 
 
 def of_method(word: str) -> str:

@@ -17,6 +17,17 @@ KEY_SIZES = {"47": (16, 16), "51": (32, 64)}
 SUITES = ("1", "2")
 
 
+def is_key_size(kind: str, size: int) -> bool:
+    least, most = KEY_SIZES[kind]
+    return least <= size <= most
+
+
+def key_size(kind: str) -> str:
+    """The octets of a key in words."""
+    least, most = KEY_SIZES[kind]
+    return f"{least}" if least == most else f"{least} to {most}"
+
+
 def tables_of(name: str) -> dict[str, dict[str, list[str]]]:
     """The tables of a text beside this: the cells of each row, by the row's head."""
     texts: dict[str, dict[str, str]] = {}
