@@ -159,11 +159,14 @@ def scenarios() -> Iterator[str]:
 
 
 def sentences() -> Iterator[str]:
-    """The pieces of text in the functions that give reasons, but for what they say of themselves."""
+    """The pieces of text in reasons.txt, and in the functions that give reasons, but for what they say of themselves."""
+    for it in [it for cells in reasons.SENTENCES.values() for it in cells]:
+        yield from (piece.strip() for piece in re.split(r"\{[^}]*\}", it) if piece.count(" ") > 1)
     tree = ast.parse(Path(reasons.__file__).read_text())
     heads = {it.body[0].value for it in ast.walk(tree) if isinstance(it, (ast.Module, ast.ClassDef, ast.FunctionDef)) and isinstance(it.body[0], ast.Expr)}
     for it in ast.walk(tree):
-        if isinstance(it, ast.Constant) and isinstance(it.value, str) and it.value.count(" ") > 1 and it not in heads and "\\" not in it.value:
+        if isinstance(it, ast.Constant) and isinstance(it.value, str) and it.value.count(" ") > 1 and it not in heads and "\\" not in it.value and (
+                it.value not in reasons.SENTENCES):
             yield from (piece.strip() for piece in it.value.split("{user}") if piece.count(" ") > 1)
 
 

@@ -14,11 +14,12 @@ from lib.ladder import MARKS, MOST_ALTERED, OF_PEER, OF_SERVER, Ladder, Row, fin
 from lib.packets import FIRST, LAST, SECOND, THIRD, Reading
 from lib.replays import Replay
 
-FAILS = {
-    1: "the server has no key for {user}",
-    2: "the server found the MAC wrong",
-    3: "the server knows {user}, and bars it",
-}
+# Each sentence by its name, and what may help behind it.
+SENTENCES = {head: cells for rows in words.tables_of("reasons.txt").values() for head, cells in rows.items()}
+
+
+def said(sentence: str, **names: object) -> str:
+    return SENTENCES[sentence][0].format(**names)
 
 
 @dataclass
@@ -48,6 +49,11 @@ def named(user: str) -> str:
     return user or "a user without a name"
 
 
+def code_said(code: int, user: str) -> str:
+    """What the server says by a Failure-Code."""
+    return said(f"code {code}" if f"code {code}" in SENTENCES else "code", code=code, user=named(user))
+
+
 def joined(kind: str) -> str:
     return f"{words.METHODS[kind]} ({kind})"
 
@@ -74,6 +80,11 @@ class Login:
         self.next: Optional[int] = None
         self.until: Optional[float] = None
         self.is_other = False
+
+    def say(self, sentence: str, **names: object) -> str:
+        """A sentence, whose remedies are taken up."""
+        self.tries += [it.format(**names) for it in SENTENCES[sentence][1:]]
+        return said(sentence, **names)
 
     @property
     def is_whole(self) -> bool:
@@ -126,6 +137,9 @@ class Login:
         first, last = self.rows[0].number, self.rows[-1].number
         return f"packet {first}" if first == last else f"packets {first} to {last}"
 
+    def identifier(self, at: int) -> Optional[int]:
+        return self.read[at].number.get("Identifier")
+
     def called(self, at: int) -> str:
         return f"packet {self.rows[at].number}, {self.read[at].called}"
 
@@ -136,21 +150,14 @@ class Login:
 
 def of_missing(login: Login) -> Iterator[Reason]:
     """What the capture has a part of alone, so that nothing can be said of what isn't there."""
-    what = "so no MAC that rests on it is judged" if login.end is not None and login.messages[-1] == "Success" else (
-        "so what failed can't be said")
+    is_success = login.end is not None and login.messages[-1] == "Success"
+    what = said("not judged" if is_success else "not known")
     for number, kept, wire in login.cut[:MOST_CUT]:
-        if kept < wire:
-            login.tries.append("capture again by `tcpdump -s 0`, which keeps whole frames")
-            yield Reason(None, f"packet {number} is here with {kept} of its {wire} octets: {what}")
-        else:
-            yield Reason(None, f"packet {number} isn't whole, being a fragment, or shorter than it says: {what}")
-    if len(login.cut) > MOST_CUT:
-        yield Reason(None, f"{len(login.cut) - MOST_CUT} more packets are cut so")
-    if login.unsure:
-        yield Reason(None, f"frames to a group address that can be of several stations are left out ({login.unsure}): so of what "
-                           "isn't here nothing can be said")
-    if login.left:
-        yield Reason(None, f"it has {login.left} packets more, which are left out: a login is told by its first {MOST_ROWS}")
+        kind = "cut" if kept < wire else "fragment"
+        yield Reason(None, login.say(kind, number=number, kept=kept, wire=wire, what=what))
+    for kind, count in (("more cut", len(login.cut) - MOST_CUT), ("unsure", login.unsure), ("left", login.left)):
+        if count > 0:
+            yield Reason(None, said(kind, count=count, most=MOST_ROWS))
 
 
 # The fields of a message that an earlier one of the same login brought (RFC 5433 section 10, RFC 4764 section 5).
@@ -179,9 +186,7 @@ def of_echoes(login: Login) -> Iterator[Reason]:
         row.is_other = login.is_other = True
         wrong = [name for name, its, other in pairs if its != other]
         are = "are not those" if len(wrong) > 1 else "is not that"
-        yield Reason(row, f"its {' and '.join(wrong)} {are} of packet {login.rows[before].number}, {earlier}: one of both was "
-                     f"altered between the ends, or {message} is of another {earlier} than is here; an end that compares them "
-                     "refuses it, whatever its MAC")
+        yield Reason(row, said("echo", wrong=" and ".join(wrong), are=are, before=login.rows[before], earlier=earlier, message=message))
 
 
 def of_repeats(login: Login) -> Iterator[Reason]:
@@ -192,12 +197,11 @@ def of_repeats(login: Login) -> Iterator[Reason]:
         code, identifier = (row.octets or b"\0")[0], login.read[at].number.get("Identifier", -1)
         if code == 1:
             request = at
-        elif code == 2 and request >= 0 and login.read[request].number.get("Identifier") == identifier:
+        elif code == 2 and request >= 0 and login.identifier(request) == identifier:
             before, octets = answered.setdefault(identifier, (request, row.octets))
             if octets == row.octets and login.rows[before].octets != login.rows[request].octets:
-                yield Reason(login.rows[request], f"the peer takes it for a repetition of {login.called(before)}, which has its "
-                             f"Identifier, and sends that one's answer again (RETRANSMIT, packet {row.number}): one of both is forged, "
-                             "or the server uses an Identifier twice")
+                repeated = said("repeated", before=login.called(before), packet=f", packet {row.number}")
+                yield Reason(login.rows[request], repeated + said("one is forged"))
 
 
 def of_tags(login: Login) -> Iterator[Reason]:
@@ -205,18 +209,19 @@ def of_tags(login: Login) -> Iterator[Reason]:
     for at, row in enumerate(login.rows):
         message = login.messages[at]
         if row.word == "tag-bad" and not row.is_other:
-            said = mac_of(login, at) if message not in told else ""
+            computed = mac_of(login, at) if message not in told else ""
             told.add(message)
-            yield Reason(row, wrong_tag(login, at) + (f" ({said})" if said else ""))
+            yield Reason(row, wrong_tag(login, at) + (f" ({computed})" if computed else ""))
         elif row.word == "no-key":
             yield Reason(row, without_key(login, login.read[at]))
         elif row.word == "malformed":
             cause = row.finding.split(" ")[1]
-            yield Reason(row, f"it is malformed ({cause}): {words.cause_said(cause, party='other end', server='', user='')}")
+            why = words.cause_said(cause, party="other end", server="", user="")
+            yield Reason(row, said("malformed", cause=cause, why=why))
         elif row.word == "no-context" and login.is_whole and not row.is_other:
             rests = ("PSK-1",) if message == "PSK-2" else SECOND
             if login.last(*rests, before=at) is None:
-                yield Reason(row, "its MAC isn't judged, since the message that it rests on isn't in the capture")
+                yield Reason(row, said("no context"))
 
 
 def mac_of(login: Login, at: int) -> str:
@@ -232,27 +237,20 @@ def wrong_tag(login: Login, at: int) -> str:
     row, message = login.rows[at], login.messages[at]
     if row.was and row.octets:
         places = ", ".join(f"octet {it} is {row.octets[it]:02x} and then {row.was[it]:02x}" for it in row.altered[:4])
-        return f"its MAC is wrong: it was altered on its way, for it came again with a right one ({places})"
+        return said("altered", places=places)
     if message not in SECOND:
         second = {it.octets for it, its in zip(login.rows[:at], login.messages) if it.word == "tag-good" and its in SECOND}
-        if len(second) == 1:
-            return ("its MAC is wrong, though this login's first MAC is right under the key given: an octet was changed on its "
-                    "way, or it is forged")
-        return "its MAC is wrong beside the last message that it can rest on, which isn't sure to be that of its own login"
+        return said("first right" if len(second) == 1 else "unsure MAC")
     if login.has_good(*SECOND):
-        return (f"its MAC is wrong, and another {message} of this login has a right one under the key given: it was changed on "
-                "its way, is forged, or was made under another key")
-    after = login.first(*THIRD, "Failure", after=at)
-    said = f"its MAC is wrong under the key given for {named(login.read[at].identity)}"
+        return said("other right", message=message)
+    after, user = login.first(*THIRD, "Failure", after=at), named(login.read[at].identity)
     others = {it.octets for it, its in zip(login.rows, login.messages) if its in SECOND}
     if after is not None and login.messages[after] in THIRD and len(others) == 1:
-        login.tries.append("give the key that the server has for this user: the one given isn't the login's")
-        return f"{said}, and the server took it (packet {login.rows[after].number}): both ends have another key than that"
-    said += ": the peer has another key, or an octet was changed on its way"
+        return login.say("took", user=user, number=login.rows[after].number)
+    wrong = login.say("wrong key", user=user)
     if after is not None and login.messages[after] == "Failure" and login.is_whole:
-        said += f"; the server ended the login with packet {login.rows[after].number}, Failure"
-    login.tries.append("give the server's key, if the one given isn't it; else compare the peer's key with it, octet by octet")
-    return said
+        wrong += said("wrong key, ended", number=login.rows[after].number)
+    return wrong
 
 
 def plain(name: str) -> str:
@@ -266,21 +264,18 @@ def without_key(login: Login, reading: Reading) -> str:
     other = "47" if kind == "51" else "51"
     given = [(user, its) for user, its, _ in login.users]
     if (name, other) in given:
-        login.tries.append(f"`{name} {kind} KEY` in place of `{name} {other} KEY`")
-        return f"its MAC isn't judged: the key given for {name} is one of {joined(other)}, and this is {joined(kind)}"
+        return login.say("other method", name=name, kind=kind, given=other, other=joined(other), method=joined(kind))
     if not login.has_code:
-        login.tries.append(f"`{name} {kind} KEY` behind the file, with the key that the server has")
-    if not given:
-        return f"its MAC isn't judged: no key is given for {named(name)} by {joined(kind)}"
-    return f"its MAC isn't judged: no key is given for `{name}` by {joined(kind)}; {users_given(login, name)}"
+        login.tries.append(said("give a key", name=name, kind=kind))
+    no_key = said("no key", user=f"`{name}`" if given else named(name), method=joined(kind))
+    return no_key + (users_given(login, name) if given else "")
 
 
 def users_given(login: Login, name: str) -> str:
     """The users that are given, with the rule where one has nearly the name."""
-    said = ", ".join(dict.fromkeys(f"`{user}` ({kind})" for user, kind, _ in login.users[:4]))
+    users = ", ".join(dict.fromkeys(f"`{user}` ({kind})" for user, kind, _ in login.users[:4]))
     is_near = any(plain(user) == plain(name) for user, _, _ in login.users)
-    rule = "; a name is compared octet by octet, with its case, its realm, and without quotes" if is_near else ""
-    return f"the users given are {said}{rule}"
+    return said("given", users=users) + (said("near") if is_near else "")
 
 
 def of_lost(login: Login) -> Iterator[Reason]:
@@ -299,17 +294,11 @@ def of_lost(login: Login) -> Iterator[Reason]:
         first, was = login.rows[before], login.rows[before].at
         after = row.at - was if row.at is not None and was is not None else None
         if after is not None and after < TWICE_SECONDS and answer < before:
-            yield Reason(row, f"it is packet {first.number} again, {1000 * after:.1f} ms later: captured twice, as by a mirror "
-                              "port, or doubled on its way")
+            yield Reason(row, said("twice", first=first.number, after=1000 * after))
             continue
-        said = f"the server sent packet {first.number} again" + (f" after {after:.1f} s" if after is not None else "")
-        if answer < before:
-            said += ": no answer is here; a packet was lost or not captured, or the peer discarded it"
-        elif row.is_ignored:
-            said += f": it says by Error-Cause 202 that it ignored the answer, packet {login.rows[answer].number}"
-        else:
-            said += f": the answer, packet {login.rows[answer].number}, hadn't come to it, or it discarded it"
-        yield Reason(row, said)
+        again = said("again", first=first.number) + (f" after {after:.1f} s" if after is not None else "")
+        what = "no answer" if answer < before else "ignored" if row.is_ignored else "answered"
+        yield Reason(row, again + said(f"again, {what}", answer=login.rows[answer].number))
 
 
 def of_failure(login: Login) -> Iterator[Reason]:
@@ -319,7 +308,7 @@ def of_failure(login: Login) -> Iterator[Reason]:
         row, code = login.rows[at], reading.number.get("Failure-Code")
         if code is not None:
             if row.sender == "server" and row.octets not in told and row.word != "malformed":
-                yield Reason(row, code_said(login, at, code))
+                yield Reason(row, code_told(login, at, code))
             told.add(row.octets)
         elif reading.message in ("Failure", "Success"):
             ended = {"Failure": failure, "Success": success}[reading.message]
@@ -327,12 +316,12 @@ def of_failure(login: Login) -> Iterator[Reason]:
                 yield Reason(row, why)
 
 
-def code_said(login: Login, at: int, code: int) -> str:
+def code_told(login: Login, at: int, code: int) -> str:
     """What the server says by a message that ends the method."""
-    said = FAILS.get(code, f"the server ends the method by the code {code}").format(user=named(login.user))
+    text = code_said(code, login.user)
     if login.messages[at] == "GPSK-Fail":
-        return said + "; a GPSK-Fail has no MAC, so anybody can have sent it"
-    return said if login.rows[at].word == "tag-good" else f"it says that {said}; its MAC isn't known to be right"
+        return text + said("without a MAC")
+    return text if login.rows[at].word == "tag-good" else said("without a right MAC", said=text)
 
 
 def is_old(login: Login, at: int, end: int) -> bool:
@@ -360,18 +349,15 @@ def early_end(login: Login, at: int) -> str:
     message, goes_on = login.messages[at], next_of_server(login, at)
     later = login.first(*OF_PEER, after=at)
     if goes_on is None:
-        return "" if later is None else (f"the peer went on with {login.called(later)}, after it: it didn't take the {message}, or had "
-                                         "sent that before it came")
+        return "" if later is None else said("went on", later=login.called(later), message=message)
     if not login.is_whole:
         return ""
-    before = login.last(*OF_SERVER, "Identity", before=at)
-    follows = is_old(login, goes_on, at) or before is not None and (login.read[before].number.get("Identifier", -2) + 1) % 256 == login.read[goes_on].number.get("Identifier")
-    said = f"a {message} in the middle of the login, and the server went on with {login.called(goes_on)}: "
-    said += ("the server didn't send it" if follows or login.messages[goes_on] == "Success" else
-             "the server didn't send it, or what came between isn't in the capture")
-    said += f". Nothing authenticates a {message}, so anybody can send one"
-    is_silent = login.messages[goes_on] != "Success" and login.first(*OF_PEER, after=goes_on) is None
-    return said + ("; the peer may have believed it, for no more answer of it is here" if is_silent else "")
+    before, on = login.last(*OF_SERVER, "Identity", before=at), login.messages[goes_on]
+    follows = before is not None and ((login.identifier(before) or 0) + 1) % 256 == login.identifier(goes_on)
+    is_forged = is_old(login, goes_on, at) or follows or on == "Success"
+    middle = said("middle", message=message, next=login.called(goes_on)) + ("" if is_forged else said("or a gap"))
+    is_silent = on != "Success" and login.first(*OF_PEER, after=goes_on) is None
+    return middle + said("nobody vouches", message=message) + (said("believed") if is_silent else "")
 
 
 def failure(login: Login, at: int) -> str:
@@ -381,55 +367,40 @@ def failure(login: Login, at: int) -> str:
         return ""
     last = login.last(*{*login.places} - {"Success", "Failure", "Notification"}, before=at)
     if last is None:
-        return "what came before it isn't in the capture, so what failed can't be said"
-    here, ended = login.read[last], f"the server ended the login after {login.called(last)}"
-    is_next = login.rows[at].exchange and login.rows[at].exchange == login.rows[last].exchange
-    if here.number.get("Identifier") != login.read[at].number.get("Identifier") and not is_next:
-        return (f"its Identifier is {login.read[at].number.get('Identifier')}, and that of packet {login.rows[last].number}, the last "
-                f"before it, {here.number.get('Identifier')}: packets between both aren't in the capture, or the server sets it otherwise, so what failed can't be said")
-    if login.rows[last].word == "malformed":
+        return said("nothing before")
+    here, row, ended = login.read[last], login.rows[last], said("ended", last=login.called(last))
+    is_next = login.rows[at].exchange and login.rows[at].exchange == row.exchange
+    if login.identifier(last) != login.identifier(at) and not is_next:
+        return said("gap", identifier=login.identifier(at), last=row.number, before=login.identifier(last))
+    if row.word == "malformed":
         return ended
-    if here.message == "Identity" and login.rows[last].sender == "peer":
+    if here.message == "Identity" and row.sender == "peer":
         is_given = any(user == here.identity for user, _, _ in login.users)
-        rule = f"; {users_given(login, here.identity)}" if login.users and not is_given else ""
-        return f"the server refused {named(here.identity)} at once: it has no such user, no method for it, or bars it{rule}"
+        given = users_given(login, here.identity) if login.users and not is_given else ""
+        return said("at once", user=named(here.identity)) + given
     if here.message == "Nak":
         return no_method(login, last)
     outer = login.outer(at)
     if here.message in SECOND and outer and outer != here.identity:
-        login.tries.append("let the station give one name, or the server take the name inside (FreeRADIUS: `inner_identity = yes`)")
-        return (f"{ended}, whose name isn't the Identity's, `{outer}`: it may refuse that, have another key or no such user, or bar "
-                "it, or the name was altered")
-    if here.message in SECOND and login.rows[last].word == "tag-good":
-        login.tries.append("give the key that the server has: a wrong MAC under it says that the peer's is another")
-        return (f"{ended}, whose MAC is right under the key given: the server itself has another key for this user, or no such "
-                "user, or bars it, or what it sent or got is other than what is here")
+        return ended + login.say("other name", outer=outer)
     if here.message in SECOND:
-        return f"{ended}: it has another key, or no such user, or bars it, or what it sent or got is other than what is here"
+        return ended + login.say("server's key" if row.word == "tag-good" else "some key")
     if here.message in LAST:
-        login.tries.append("look whether the server bars this user: EAP-PSK says so under encryption alone")
-        found = ", or it got another packet than this one" if login.rows[last].word == "tag-good" else ", or it found its MAC wrong"
-        return f"the server ended the login after the method's last message: it bars this user, or its policy refuses{found}"
-    if login.rows[last].sender == "server":
-        return f"{ended}, to which no answer is here: none came, or it isn't captured"
-    return ended
+        return login.say("policy") + said("policy, right" if row.word == "tag-good" else "policy, unknown")
+    return ended + (said("unanswered") if row.sender == "server" else "")
 
 
 def success(login: Login, at: int) -> str:
     """What a Success can mean that has no last message of the method before it."""
     if not login.kind or not login.is_whole or login.first(*LAST) is not None:
         return ""
-    return (f"no {LAST[login.kind == '47']} is before it: packets aren't in the capture, or the server didn't send it, for nothing "
-            "authenticates a Success")
+    return said("no last message", last=LAST[login.kind == "47"])
 
 
 def no_method(login: Login, nak: int) -> str:
     asked = next((login.read[it].called for it in range(nak - 1, -1, -1) if login.rows[it].sender == "server"), "a method")
-    desired = login.read[nak].desired
-    login.tries.append("let the server propose a method that the peer allows, or the peer allow the server's")
     kind = "EAP-GPSK" if asked.startswith("GPSK") else "EAP-PSK" if asked.startswith("PSK") else asked
-    return (f"no method in common: the server proposed {kind}, the peer desired {desired} instead (packet "
-            f"{login.rows[nak].number}), and the server has nothing of that for this user")
+    return login.say("no method", asked=kind, desired=login.read[nak].desired, number=login.rows[nak].number)
 
 
 def of_no_end(login: Login) -> Iterator[Reason]:
@@ -439,49 +410,39 @@ def of_no_end(login: Login) -> Iterator[Reason]:
     last, by_peer = login.rows[-1], [it for it in login.rows if it.sender == "peer"]
     starts = [it for it in login.starts if it[0] > int(last.number)]
     is_over = last.at is not None and login.until is not None and login.until - last.at > LONG_SECONDS
-    lost = "it or its answer was lost or isn't captured"
-    lost = f"or {lost}" if is_over else f"{lost}, or the capture ended before"
+    lost = f"or {said('lost')}" if is_over else said("lost") + said("or ended")
     if starts and by_peer:
         after = f", {starts[0][1] - last.at:.1f} s later" if last.at is not None else ""
-        yield Reason(last, f"the station began again by EAPOL-Start (packet {starts[0][0]}{after}) in the middle of the login: it "
-                           "was restarted, or gave up")
+        why = said("began again", number=starts[0][0], after=after)
     elif last.carrier.startswith("Access-Request"):
         again = sum(it.octets == last.octets for it in login.rows)
-        wrong = any(it.carrier.endswith("tag-bad") for it in login.rows)
-        yield Reason(last, f"no answer of the RADIUS server to it is here, sent {again} time{'s' * (again > 1)}" + ("" if wrong else
-                           ": it is down or can't be reached, doesn't know this client's address, has another secret (`--secret TEXT` "
-                           "judges that), or its answer isn't captured" + (", or the capture ended before" if again == 1 and not is_over else "")))
+        why = said("no reply", again=again, s="s" * (again > 1))
+        if not any(it.carrier.endswith("tag-bad") for it in login.rows):
+            why += said("no reply, why") + (said("or ended") if again == 1 and not is_over else "")
     elif login.next is not None:
-        yield Reason(last, f"no answer to it is here, and with packet {login.next} another login begins: an end was restarted or "
-                           "gave up, or packets aren't in the capture")
+        why = said("next", next=login.next)
     elif login.messages[-1] in FIRST:
-        suites = "allows no ciphersuite of the list, " * (login.messages[-1] == "GPSK-1")
-        yield Reason(last, f"no answer to it is in the capture: the peer {suites}accepts another server name than "
-                           f"`{login.read[-1].identity}`, {lost}")
-    elif last.sender == "peer":
-        yield Reason(last, "no answer to it is in the capture: the server, or the login server behind the access point, didn't "
-                           f"answer, {lost}")
-    elif not by_peer:
-        yield Reason(last, f"no answer to it is in the capture: no supplicant runs at the station, {lost}")
+        suites = f"{said('no suites')} " * (login.messages[-1] == "GPSK-1")
+        why = said("no second", suites=suites, server=login.read[-1].identity, lost=lost)
     else:
-        yield Reason(last, f"no answer to it is in the capture: the peer discarded it, is gone, {lost}")
+        silent = "server" if last.sender == "peer" else "peer" if by_peer else "supplicant"
+        why = said(f"no {silent}", lost=lost)
+    yield Reason(last, why)
 
 
 def of_others(login: Login) -> Iterator[Reason]:
     """Methods that aren't judged here, and RADIUS packets whose authenticators are wrong."""
     types = {it.number.get("Type", 0) for row, it in zip(login.rows, login.read) if row.sender == "peer"} - {0, 1, 2, 3, 47, 51}
     if types and not login.kind:
-        names = ", ".join(packets.TYPES.get(it, f"Type {it}") for it in sorted(types))
-        yield Reason(None, f"the method is {names}, and EAP-PSK and EAP-GPSK alone are judged")
+        yield Reason(None, said("method", names=", ".join(packets.TYPES.get(it, f"Type {it}") for it in sorted(types))))
     if any(it.name.startswith("Expanded ") and it.message in OF_PEER + OF_SERVER for it in login.read):
-        yield Reason(None, "the messages are in packets of Type 254 (Expanded Types), whose MACs aren't judged")
+        yield Reason(None, said("expanded"))
     for row in login.rows:
-        verdict = row.carrier.partition(", ")[2]
+        name, _, verdict = row.carrier.partition(", ")
         if verdict == "tag-bad":
-            yield Reason(row, f"the authenticator of the {row.carrier.split(',')[0]} around it is wrong under the secret "
-                              "given: its sender has another secret, or it was altered")
+            yield Reason(row, said("authenticator", name=name))
         elif verdict not in ("", "good", "no-request"):
-            yield Reason(row, f"the RADIUS packet around it isn't well-formed ({verdict}): {words.cause_said(verdict)}")
+            yield Reason(row, said("odd radius", cause=verdict, why=words.cause_said(verdict)))
 
 
 RULES: tuple[Callable[[Login], Iterator[Reason]], ...] = (
@@ -506,8 +467,7 @@ class Nonces:
             name = NONCES.get(reading.message, "")
             nonce = name.encode() + (reading.get(name) or b"")
             if name and nonce in self.seen and row.octets not in self.open:
-                yield Reason(row, f"its {name} stood in packet {self.seen[nonce]} too, in another login: a nonce has to be fresh, "
-                                  "or an old login can be played again")
+                yield Reason(row, said("nonce", name=name, before=self.seen[nonce]))
             elif name:
                 own.setdefault(nonce, row.number)
         self.seen = {**own, **self.seen}
@@ -532,29 +492,21 @@ def folded(reasons: list[Reason]) -> list[Reason]:
 def story_of_login(login: Login, nonces: Nonces) -> Story:
     reasons = [it for rule in RULES for it in rule(login)]
     if len(reasons) > 1:
-        order = {id(row): at for at, row in enumerate(login.rows)}
-        reasons.sort(key=lambda it: order.get(id(it.row), len(order)))
-        reasons = folded(reasons)
+        reasons = folded(in_order(reasons, login.rows))
     twice = list(nonces.repeated(login))
     user, kind = login.user, login.kind
     front = (f"the login of {user}" if user else "a login") + (f" by {words.METHODS[kind]}" if kind else "") + f", {login.range}"
     end = outcome(login)
     is_bad = any(it.word in ("tag-bad", "malformed") and it.was is None for it in login.rows)
     if end == "Success":
-        judged = [it for it in login.rows if it.word in ("tag-good", "tag-bad")]
-        said = "each MAC that was judged is right" if judged else "no MAC was judged"
-        if is_bad:
-            said = "a MAC is wrong, or a packet malformed"
-        elif any(it.word == "tag-bad" for it in login.rows):
-            said = "what was altered came again with a right MAC"
-        story = Story("open" if is_bad or not judged or success(login, 0) else "good", f"{front}: it ended with Success, and {said}")
-    elif end or login.has_code:
-        story = Story("bad", f"{front}: it failed")
+        found = {it.word for it in login.rows} & {"tag-good", "tag-bad"}
+        what = "wrong" if is_bad else "came again" if "tag-bad" in found else "good" if found else "none judged"
+        kind = "open" if is_bad or not found or success(login, 0) else "good"
+        head = said("success", front=front, said=said(what))
     else:
-        story = Story("bad" if is_bad else "open", f"{front}: it has no end here")
-    story.kind = "bad" if twice else story.kind
-    story.reasons, story.tries = reasons + twice, login.tries
-    return story
+        is_failed = bool(end) or login.has_code
+        kind, head = "bad" if is_failed or is_bad else "open", said("failed" if is_failed else "no end", front=front)
+    return Story("bad" if twice else kind, head, reasons + twice, login.tries)
 
 
 def batches_of(parts: Iterable[range]) -> Iterator[list[range]]:
@@ -594,7 +546,7 @@ def of_capture(capture: Capture, rows: Optional[Sequence[Row]] = None) -> Iterat
             story = story_of_login(login, nonces)
     if story:
         judged = count["tag-good"] + count["tag-bad"]
-        story.facts.append(f"packets {last}; whose tags were judged: {judged}, wrong: {count['tag-bad']}")
+        story.facts.append(said("judged", packets=last, judged=judged, wrong=count["tag-bad"]))
         yield story
 
 
@@ -622,155 +574,133 @@ def keys_differ(replay: Replay, reading: Reading) -> str:
     """Whether the two ends of a scenario have different keys for the user of a message."""
     kind, user = reading.kind, setting(replay, "peer-name")
     one, other = setting(replay, "peer-psk", kind), setting(replay, "user", user, kind)
-    if one and other and one.lower() != other.lower():
-        return f": `peer-psk {kind}` and `user {user} {kind}` have different keys"
-    return ""
+    return said("different keys", kind=kind, user=user) if one and other and one.lower() != other.lower() else ""
 
 
-def discard(ladder: Ladder, row: Row) -> str:
+def discard(replay: Replay, row: Row) -> str:
     """Why a party discards what comes."""
-    replay = ladder.replay or Replay([], [], {})
     party = party_name(row.receiver or (row.acts[0][0] if row.acts else ""))
     server = row.reading.identity if row.octets is not None else setting(replay, "server-name")
-    said = words.cause_said(row.cause, party=party, server=server, user=setting(replay, "peer-name"))
+    why = words.cause_said(row.cause, party=party, server=server, user=setting(replay, "peer-name"))
     if row.was and row.octets:
         at = row.altered[0] if row.altered else 0
-        said = f"octet {at} was altered on its way ({row.octets[at]:02x}, sent as {row.was[at]:02x})"
+        why = said("altered on its way", at=at, came=row.octets[at], was=row.was[at])
     elif row.cause == "BadTag":
-        said = f"its MAC is wrong under the key that the {party} has" + (
-            keys_differ(replay, row.reading) or ": the other end has another key, or an octet was changed on its way")
-    return f"the {party} discards it ({row.cause}): {said}"
+        why = said("wrong tag", party=party) + (keys_differ(replay, row.reading) or said("another key"))
+    return said("discarded", party=party, cause=row.cause, said=why)
 
 
-def of_discards(ladder: Ladder) -> Iterator[Reason]:
-    for row in ladder.rows:
+def of_discards(replay: Replay, rows: Sequence[Row]) -> Iterator[Reason]:
+    for row in rows:
+        code = row.reading.number.get("Failure-Code")
         if row.cause and row.kind != "skip":
-            yield Reason(row, discard(ladder, row))
-        elif row.octets is not None and row.kind in ("arrow", "injected") and row.receiver == "peer":
-            reading = row.reading
-            code = reading.number.get("Failure-Code")
-            if code is not None:
-                forged = row.kind == "injected" or row.was is not None
-                said = "it is forged, and ends the peer's method, for a GPSK-Fail has no MAC" if forged else FAILS.get(
-                    code, f"the server ends the method by the code {code}").format(user=named(ladder_user(ladder)))
-                yield Reason(row, said)
-            elif row.kind == "injected":
-                yield Reason(row, "it is injected, and the peer takes it")
+            yield Reason(row, discard(replay, row))
+        elif row.octets is None or row.kind not in ("arrow", "injected") or row.receiver != "peer":
+            continue
+        elif code is not None:
+            is_forged = row.kind == "injected" or row.was is not None
+            yield Reason(row, said("forged end") if is_forged else code_said(code, setting(replay, "peer-name")))
+        elif row.kind == "injected":
+            yield Reason(row, said("injected"))
 
 
-def of_repetitions(ladder: Ladder) -> Iterator[Reason]:
+def of_repetitions(replay: Replay, rows: Sequence[Row]) -> Iterator[Reason]:
     """Requests that the peer answers by RETRANSMIT, and that aren't the one that it answered under their Identifier."""
     answered: dict[int, Row] = {}
-    for row in ladder.rows:
+    for row in rows:
         states = [it for party, its in row.acts for it in its if party == "peer"]
         if row.receiver != "peer" or row.octets is None or len(row.octets) < 5:
             continue
         before = answered.get(row.octets[1])
         if "RETRANSMIT" in states and before is not None and before.octets != row.octets:
-            yield Reason(row, f"the peer takes it for a repetition of event {before.event}, {before.reading.called}, which has its "
-                              "Identifier, and sends that one's answer again (RETRANSMIT)")
+            yield Reason(row, said("repeated", before=f"event {before.event}, {before.reading.called}", packet=""))
         elif "SEND_RESPONSE" in states and "RETRANSMIT" not in states:
             answered[row.octets[1]] = row
 
 
-def ladder_user(ladder: Ladder) -> str:
-    return setting(ladder.replay, "peer-name") if ladder.replay else ""
+def of_timeouts(replay: Replay, rows: Sequence[Row]) -> Iterator[Reason]:
+    """The parties that gave up."""
+    for party in [it for it, state in replay.states().items() if state.startswith("TIMEOUT_FAILURE")]:
+        row = next((it for it in reversed(rows) if it.kind == "mark" and it.receiver == party), None)
+        asked = next((it.octets for it in reversed(rows) if it.sender == party and it.kind != "injected"), None)
+        since = next((at for at, it in enumerate(rows) if it.octets == asked), 0)
+        came = "was taken" if any(it.cause and it.receiver == party for it in rows[since:]) else "came"
+        kind = "gives up" if row is not None and row.title == MARKS["aaa-timeout"] else "gives up asking"
+        times = setting(replay, "max-retrans") or "4"
+        yield Reason(row, said(kind, party=party_name(party), times=times, s="s" * (times != "1"), came=came))
 
 
-def of_ends(ladder: Ladder) -> Iterator[Reason]:
+def of_ends(replay: Replay, rows: Sequence[Row]) -> Iterator[Reason]:
     """What the states at the end say."""
-    replay = ladder.replay
-    if replay is None or replay.end.get("result") == "agree":
+    if replay.end.get("result") == "agree":
         return
-    for party, state in replay.states().items():
-        if state.startswith("TIMEOUT_FAILURE"):
-            row = next((it for it in reversed(ladder.rows) if it.kind == "mark" and it.receiver == party), None)
-            is_lost = row is not None and row.title == MARKS["aaa-timeout"]
-            asked = next((it.octets for it in reversed(ladder.rows) if it.sender == party and it.kind != "injected"), None)
-            since = next((at for at, it in enumerate(ladder.rows) if it.octets == asked), 0)
-            taken = "was taken" if any(it.cause and it.receiver == party for it in ladder.rows[since:]) else "came"
-            yield Reason(row, f"the {party_name(party)} gives up: " + ("no answer of the server came any more" if is_lost else
-                              f"its Request was sent {retries(replay)} more time{'s' * (retries(replay) != '1')}, and no answer {taken}"))
-    lost = [it for it in ladder.rows if it.kind == "lost"]
-    waits = [party for party, state in replay.states().items() if state.startswith("IDLE") or state == "AAA_IDLE"]
+    yield from of_timeouts(replay, rows)
+    lost = [it for it in rows if it.kind == "lost"]
+    waits = [party_name(party) for party, state in replay.states().items() if state.startswith("IDLE") or state == "AAA_IDLE"]
     if lost and waits and replay.has_losses:
-        yield Reason(lost[-1], f"it is lost, and at the end the {' and the '.join(map(party_name, waits))} still waits"
-                     if len(waits) == 1 else "it is lost, and at the end both ends still wait")
+        yield Reason(lost[-1], said("lost, one waits", party=waits[0]) if len(waits) == 1 else said("lost, both wait"))
     # (only where the server came to propose a method, or to look for a user)
-    if not any(it.reading.message in ("Nak", "Failure") or "Failure-Code" in it.reading.number for it in ladder.rows):
+    if not any(it.reading.message in ("Nak", "Failure") or "Failure-Code" in it.reading.number for it in rows):
         return
     methods = {end: [it[1:] for it in replay.settings if it[0] == f"{end}-methods"] for end in ("peer", "server")}
     if all(methods.values()) and not set(methods["peer"][0]) & set(methods["server"][0]) - {"-"}:
-        yield Reason(None, "no method in common: `peer-methods` and `server-methods` have none that the other has")
+        yield Reason(None, said("no common method"))
     name = setting(replay, "peer-name")
     if name and setting(replay, "server-name") and not any(it[1] == name for it in replay.settings if it[0] == "user"):
-        yield Reason(None, f"the server has no `user {name}`")
+        yield Reason(None, said("no user", name=name))
 
 
-def retries(replay: Replay) -> str:
-    return setting(replay, "max-retrans") or "4"
+def of_broken(replay: Replay, rows: Sequence[Row]) -> Iterator[Reason]:
+    """The MAC that nobody made in this run."""
+    if "tags broken" in replay.end:
+        row = next((it for it in rows if it.event == replay.end["tags broken"]), None)
+        yield Reason(row, said("broken", party=party_name(row.receiver) if row else "an end"))
 
 
-def of_verdicts(ladder: Ladder) -> Iterator[Reason]:
-    """What the lines on tags and on nonces say."""
-    end = ladder.replay.end if ladder.replay else {}
-    if "tags broken" in end:
-        row = next((it for it in ladder.rows if it.event == end["tags broken"]), None)
-        party = party_name(row.receiver) if row else "an end"
-        yield Reason(row, f"the {party} accepted its MAC, and the other end didn't make that in this run: somebody else has "
-                          "the key, or the message is one of an earlier login with the same nonces")
-    if end.get("fresh") == "no" and ladder.replay:
-        yield from of_nonces(ladder.replay, ladder.rows)
-
-
-def of_nonces(replay: Replay, rows: list[Row]) -> Iterator[Reason]:
+def of_nonces(replay: Replay, rows: Sequence[Row]) -> Iterator[Reason]:
     """Which conversations began with a nonce whose front was there before, in a nonce or in a delivery."""
+    if replay.end.get("fresh") != "no":
+        return
     nonces = {end: [it[1].lower() for it in replay.settings if it[0] == f"{end}-nonce"] for end in ("peer", "server")}
     begun = {"peer": 0, "server": 0}
-    used: list[tuple[str, str]] = []
+    used: dict[str, str] = {}
     heard = ""
     for event in replay.events:
         for end in [it for it in begun if event.words[0] == "start" or event.words == ["restart", it]]:
             if event.skip or begun[end] >= len(nonces[end]):
                 continue
             begun[end] += 1
-            front = nonces[end][begun[end] - 1][:32]
+            front, nonce = nonces[end][begun[end] - 1][:32], f"`{end}-nonce` number {begun[end]}"
             row = next((it for it in rows if it.event == str(event.number)), None)
-            which = f"`{end}-nonce` number {begun[end]} is no fresh nonce"
-            same = next((name for name, it in used if it == front), "")
-            if same:
-                yield Reason(row, f"{which}: it begins as {same} does")
+            if front in used:
+                yield Reason(row, said("begins as", nonce=nonce, same=used[front]))
             elif front in heard:
-                yield Reason(row, f"{which}: its first 16 octets stood in a packet before")
-            used.append((f"`{end}-nonce` number {begun[end]}", front))
+                yield Reason(row, said("stood before", nonce=nonce))
+            used.setdefault(front, nonce)
         heard += f"|{event.octets.hex()}" if event.octets else ""
 
 
-def of_replay(ladder: Ladder) -> Story:
-    replay = ladder.replay or Replay([], [], {})
-    rules = (of_discards, of_repetitions, of_ends, of_verdicts)
-    reasons = [it for rule in rules for it in rule(ladder)]
-    order = {id(row): at for at, row in enumerate(ladder.rows)}
-    reasons.sort(key=lambda it: order.get(id(it.row), len(order)))
+def in_order(reasons: list[Reason], rows: Sequence[Row]) -> list[Reason]:
+    """Reasons in the order of their rows, and behind them those of the whole."""
+    order = {id(row): at for at, row in enumerate(rows)}
+    return sorted(reasons, key=lambda it: order.get(id(it.row), len(order)))
+
+
+def of_replay(replay: Replay, rows: Sequence[Row]) -> Story:
+    reasons = [it for rule in (of_discards, of_repetitions, of_ends, of_broken, of_nonces) for it in rule(replay, rows)]
     states = ", ".join(f"the {party_name(party)} is in {state}" for party, state in replay.states().items())
-    result = replay.end.get("result", "")
+    result, is_honest = replay.end.get("result", ""), replay.end.get("tags") == "honest"
     kind, head = RESULTS.get(result, ("open", states or "it has no end here"))
-    story = Story(kind, head, reasons)
-    if result == "agree":
-        is_odd = replay.end.get("tags") == "broken" or replay.end.get("fresh") == "no"
-        story.kind = "open" if is_odd else kind
-    elif result:
-        story.facts.append(states)
-    if replay.end.get("tags") == "honest":
-        story.facts.append("each MAC that an end accepted was made by the other end")
-    if replay.end.get("fresh") == "yes":
-        story.facts.append("the nonces were fresh")
-    return story
+    if result == "agree" and (replay.end.get("tags") == "broken" or replay.end.get("fresh") == "no"):
+        kind = "open"
+    facts = [states] * (result not in ("", "agree"))
+    facts += [said("honest")] * is_honest + [said("fresh")] * (replay.end.get("fresh") == "yes")
+    return Story(kind, head, in_order(reasons, rows), facts=facts)
 
 
 def of_ladder(ladder: Ladder) -> Iterator[Story]:
     """What came of each login of a ladder, and why."""
     if ladder.replay:
-        yield of_replay(ladder)
+        yield of_replay(ladder.replay, ladder.rows)
     else:
         yield from of_capture(ladder.capture, ladder.rows)
