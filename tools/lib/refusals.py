@@ -5,11 +5,11 @@ from __future__ import annotations
 import difflib
 import re
 from pathlib import Path
-from typing import Iterator, Optional
+from typing import Iterable, Optional
 
 from lib import frames, words
 from lib.texts import shown
-from lib.words import FAULTS, METHODS, PCAP_FAULTS, TEXTS, Field, Line
+from lib.words import FAULTS, METHODS, PCAP_FAULTS, TEXTS, Field
 
 NUMBER = re.compile("0|[1-9][0-9]*")
 HEX = re.compile("[0-9a-fA-F]*")
@@ -103,6 +103,11 @@ def of_bulk(given: list[str]) -> list[str]:
     return found
 
 
+def nearest(word: str, known: Iterable[str]) -> str:
+    near = difflib.get_close_matches(word.lower(), known, 1)
+    return f"; is `{near[0]}` meant?" if near else ""
+
+
 def of_words(given: list[str]) -> list[str]:
     """What keeps words from being the program's; without words, its forms."""
     form, rest = (given[0], given[1:]) if given else ("", [])
@@ -117,27 +122,13 @@ def of_words(given: list[str]) -> list[str]:
     elif form in forms and rest and not (form == "replay" and rest == ["names"]):
         found = ["replay takes no word but names" if form == "replay" else f"{form} takes no words"]
     elif form not in forms and not Path(form).is_file():
-        near = difflib.get_close_matches(form.lower(), forms, 1)
-        found = [f"`{shown(form, 40)}` is none of {', '.join(forms)}" + (f"; is `{near[0]}` meant?" if near else "")]
+        found = [f"`{shown(form, 40)}` is none of {', '.join(forms)}" + nearest(form, forms)]
     files = [it for it in given if Path(it).is_file()]
     return found + [f"{shown(it, 60)} is a file, and input is redirected: ./eap_login {form if form in forms else 'WORDS'} < {it}"
                     for it in files]
 
 
 # ---- A line.
-
-
-def fields_of(line: Line, count: int) -> list[Field]:
-    """The field of each of so many words behind a keyword; one of methods or suites may be two words."""
-    if line.fields and line.fields[0].spelling in ("methods", "suites"):
-        return [line.fields[0]] * count
-    return list(line.fields[:count])
-
-
-def most_words(line: Line) -> tuple[int, int]:
-    """The least and the most words behind a keyword."""
-    count = len(line.fields)
-    return count, 2 if line.fields and line.fields[0].spelling in ("methods", "suites") else count
 
 
 def wrong_word(field: Field, word: str, before: list[str], fault: str) -> str:
@@ -175,20 +166,12 @@ class Refusal:
             del self.lines[-1]
         self.line = self.lines[number - 1] if number <= len(self.lines) else ""
         self.words = self.line.split(" ")
-        self.known = {it.keyword: it for it in self.text.lines}
-        if self.is_later:
-            self.known.update({it.keyword: it for it in self.text.later})
+        self.is_later = self.lines[:1] == ["eap-scenario 2"]
+        self.known = {it.keyword: it for it in self.text.lines + (self.text.later if self.is_later else ())}
         self.row = self.known.get(self.words[0])
-
-    @property
-    def is_later(self) -> bool:
-        return self.lines[:1] == ["eap-scenario 2"]
-
-    def before(self) -> Iterator[tuple[int, list[str]]]:
-        """The lines before it, behind the header, that say something."""
-        for number, line in enumerate(self.lines[: self.number - 1], 1):
-            if number > 1 and line and not line.startswith("#"):
-                yield number, line.split(" ")
+        # (the lines before it, behind the header, that say something)
+        before = enumerate(self.lines[1 : number - 1], 2)
+        self.before = [(at, line.split(" ")) for at, line in before if line and not line.startswith("#")]
 
     def other(self) -> str:
         """What the whole input is, where it is of another form."""
@@ -205,25 +188,19 @@ class Refusal:
 
     def specific(self) -> str:
         """What is wrong here, in a sentence."""
-        other = self.other()
-        if other:
-            return other
         ways = {"NoHeader": self.header, "BadWord": self.word, "BadCount": self.count, "Repeated": self.repeated,
                 "Missing": self.missing, "Order": self.order, "TooMuch": self.much}
+        if other := self.other():
+            return other
         if self.fault in ways:
             return ways[self.fault]()
         if self.form == "decode":
-            return self.packet()
+            over = f"it has {len(self.line) // 2} octets, and {words.MOST_OCTETS:,} are the most"
+            return is_of_hex(self.line) if self.fault == "BadHex" else over
         given = self.words[1:]
-        for at, field in enumerate(fields_of(self.row, len(given)) if self.row else []):
-            if wrong := wrong_word(field, given[at], given[:at], self.fault):
-                return wrong
-        return ""
-
-    def packet(self) -> str:
-        if self.fault == "BadHex":
-            return is_of_hex(self.line)
-        return f"it has {len(self.line) // 2} octets, and {words.MOST_OCTETS:,} are the most"
+        fields = self.row.fields * (len(given) if self.row.is_list else 1) if self.row else ()
+        wrong = (wrong_word(field, word, given[:at], self.fault) for at, (field, word) in enumerate(zip(fields, given)))
+        return next(filter(None, wrong), "")
 
     def header(self) -> str:
         if not self.lines:
@@ -235,9 +212,7 @@ class Refusal:
             return f"a space or another sign stands beside it: line 1 is just {wanted}"
         if "\0" in first:
             return "it has octets 00, as text in UTF-16 has: `iconv -f UTF-16 -t ASCII FILE` makes plain text of it"
-        if first == "" or first.startswith("#"):
-            return f"nothing stands before the header: line 1 is {wanted}"
-        return f"line 1 is {wanted}"
+        return "nothing stands before the header: " * (first == "" or first.startswith("#")) + f"line 1 is {wanted}"
 
     def word(self) -> str:
         for at, sign in enumerate(self.line, 1):
@@ -253,49 +228,43 @@ class Refusal:
         for form, text in TEXTS.items():
             if form != self.form and first in {it.keyword for it in text.lines} | set(text.parts) - {"end"}:
                 return f"`{shown(first, 40)}` is a word of {text.named}, and this is {self.text.named}"
-        near = difflib.get_close_matches(first.lower(), [*self.known, *self.text.parts], 1)
-        return f"`{shown(first, 40)}` is no word of it" + (f"; is `{near[0]}` meant?" if near else "")
+        return f"`{shown(first, 40)}` is no word of it" + nearest(first, [*self.known, *self.text.parts])
 
     def count(self) -> str:
         first, given = self.words[0], len(self.words) - 1
         if self.form == "decode":
             return f"{given + 1} words stand here: each line is one packet"
-        many = 1 + sum(words_[0] == first for _, words_ in self.before())
+        many = 1 + sum(line[0] == first for _, line in self.before)
         if first in words.MANY and many > words.MOST_USERS and (first == "user" or self.is_later):
             return f"it is line {many} that begins with `{first}`, and {words.MOST_USERS} are the most"
-        least, most = most_words(self.row) if self.row else (0, 0)
-        wanted = f"{least}" if least == most else f"{least} or {most}"
+        least = len(self.row.fields) if self.row else 0
+        wanted = f"{least} or 2" if self.row and self.row.is_list else f"{least}"
         said = f"`{first}` takes {wanted} word{'' if wanted == '1' else 's'} behind it, and {given} stand here"
         if self.line.endswith(" "):
             return said + ": a space stands at its end"
         return said + (": two spaces make an empty word" if "  " in self.line else "")
 
     def repeated(self) -> str:
-        if len(set(self.words[1:])) < len(self.words[1:]) and self.row and self.row.fields[0].spelling in (
-                "methods", "suites"):
+        if self.row and self.row.is_list and len(set(self.words[1:])) < len(self.words[1:]):
             return f"`{self.words[1]}` stands twice in this line"
-        same = {"peer-psk": 2, "user": 3}.get(self.words[0], 1)
-        key = [self.words[at] for at in ((0, 1, 2) if same == 3 else range(same))]
-        for number, line in self.before():
-            if line[: len(key)] == key:
-                return f"`{' '.join(key)}` stands in line {number} too"
-        return ""
+        key = self.words[: {"peer-psk": 2, "user": 3}.get(self.words[0], 1)]
+        number = next((number for number, line in self.before if line[: len(key)] == key), 0)
+        return f"`{' '.join(key)}` stands in line {number} too" if number else ""
 
     def missing(self) -> str:
+        lines = [line for _, line in self.before]
+        has = {line[0] for line in lines}
         if not self.text.settings or self.words[0] != "events" or self.number > len(self.lines):
-            has_part = any(line[0] == self.text.parts[0] for _, line in self.before())
-            return "missing: " + ("`end`" if has_part else f"`{self.text.parts[0]}` and `end`")
-        before = [line for _, line in self.before()]
-        has = {line[0] for line in before}
+            return "missing: " + ("`end`" if self.text.parts[0] in has else f"`{self.text.parts[0]}` and `end`")
         missing = [it.keyword for it in self.text.settings if it.needed.startswith("needed") and it.keyword not in has
                    and it.keyword != "peer-psk"]
-        methods: list[str] = next((line[1:] for line in before if line[0] == "peer-methods"), [])
-        has_key = {line[1] for line in before if line[0] == "peer-psk" and len(line) > 1}
+        methods: list[str] = next((line[1:] for line in lines if line[0] == "peer-methods"), [])
+        has_key = {line[1] for line in lines if line[0] == "peer-psk" and len(line) > 1}
         missing += [f"peer-psk {it}" for it in methods if it != "-" and it not in has_key]
         return "missing: " + ", ".join(f"`{it}`" for it in missing)
 
     def order(self) -> str:
-        places = {line[0]: number for number, line in self.before()}
+        places = {line[0]: number for number, line in self.before}
         part = self.text.parts[0]
         if part not in places:
             return f"no line `{part}` comes before it"
@@ -304,29 +273,25 @@ class Refusal:
     def much(self) -> str:
         if len(self.line) > words.MOST_LINE:
             return f"the line has {len(self.line)} octets, and {words.MOST_LINE:,} are the most"
-        size = sum(len(it) + 1 for it in self.lines)
-        if size > words.MOST_INPUT:
+        if sum(len(it) + 1 for it in self.lines) > words.MOST_INPUT:
             return f"the input has over {words.MOST_INPUT:,} octets"
         return f"it is over {words.MOST_EVENTS:,} lines between `events` and `end`"
 
-    def allowed(self) -> list[str]:
+    def allowed(self) -> str:
         """What may stand there."""
         if self.form == "decode":
-            return ["allowed here: one packet in hex, of 0 to 2,000 octets, `-` for none"]
+            return "allowed here: one packet in hex, of 0 to 2,000 octets, `-` for none"
         if self.fault == "NoHeader":
-            return [f"allowed here: {' or '.join(self.text.headers)}"]
+            return f"allowed here: {' or '.join(self.text.headers)}"
         if self.row and self.fault not in ("Missing", "Order"):
-            return [f"allowed here: `{self.row.form}`: {self.row.said}"]
-        if self.fault == "BadWord":
-            return [f"the first words that are known: {' '.join([*self.text.parts, *sorted(self.known)])}"]
-        return []
+            return f"allowed here: `{self.row.form}`: {self.row.said}"
+        known = f"the first words that are known: {' '.join([*self.text.parts, *sorted(self.known)])}"
+        return known if self.fault == "BadWord" else ""
 
     def told(self) -> list[str]:
         where = shown(self.line) if self.number <= len(self.lines) else "(after the last line)"
-        rule = FAULTS.get(self.fault, words.TOO_MUCH)
-        specific = self.specific()
-        return [f"line {self.number}: {where}", *([specific] if specific else []), *self.allowed(),
-                f"{self.fault}: {rule}"]
+        rule = f"{self.fault}: {FAULTS.get(self.fault, words.TOO_MUCH)}"
+        return list(filter(None, (f"line {self.number}: {where}", self.specific(), self.allowed(), rule)))
 
 
 # ---- A file of frames.
@@ -335,8 +300,7 @@ class Refusal:
 def of_file(octets: bytes, number: int, fault: str) -> list[str]:
     """Why `pcap` refuses a file, and what reads it."""
     where = "the header of the file" if number == 0 else f"record {number}"
-    help_ = file_help(octets, fault)
-    return [where, *([help_] if help_ else []), f"{fault}: {PCAP_FAULTS[fault][1]}"]
+    return list(filter(None, (where, file_help(octets, fault), f"{fault}: {PCAP_FAULTS[fault][1]}")))
 
 
 def file_help(octets: bytes, fault: str) -> str:

@@ -93,6 +93,11 @@ class Line(NamedTuple):
         return " ".join((self.keyword, *(it.name for it in self.fields)))
 
     @property
+    def is_list(self) -> bool:
+        """Whether its one field may be two words, those of methods or of suites."""
+        return self.fields[:1] != () and self.fields[0].spelling in ("methods", "suites")
+
+    @property
     def said(self) -> str:
         """The sentence with its ranges."""
         ranges = {it.name: it.range for it in self.fields}
