@@ -90,6 +90,11 @@ class Ladder:
     def comments(self) -> list[str]:
         return (self.replay or self.capture).comments
 
+    @property
+    def finals(self) -> dict[str, str]:
+        """The state in which each party stands at the end."""
+        return self.replay.states() if self.replay else {}
+
 
 def title_of(octets: Optional[bytes], told: str = "") -> str:
     return told if octets is None else packets.read(octets).label if octets else "no octets"
