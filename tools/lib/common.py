@@ -10,9 +10,11 @@ import sys
 import tempfile
 from contextlib import contextmanager
 from pathlib import Path
-from typing import Any, Callable, Iterator, NoReturn, Sequence
+from typing import Any, Callable, Iterable, Iterator, NoReturn, Sequence, TypeVar
 
 ROOT = Path(__file__).resolve().parent.parent.parent
+Key = TypeVar("Key")
+Value = TypeVar("Value")
 
 
 class Refused(Exception):
@@ -63,6 +65,14 @@ def tool(main: Callable[[], int]) -> NoReturn:
     except KeyboardInterrupt:
         status = 130
     sys.exit(status)
+
+
+def grouped(pairs: Iterable[tuple[Key, Value]]) -> dict[Key, list[Value]]:
+    """The values of each key."""
+    found: dict[Key, list[Value]] = {}
+    for key, value in pairs:
+        found.setdefault(key, []).append(value)
+    return found
 
 
 def octets_of(path: str) -> bytes:

@@ -5,10 +5,10 @@ import functools
 import re
 from dataclasses import dataclass, field
 from pathlib import Path
-from typing import Callable, Dict, Iterable, Iterator, List, NamedTuple, Optional, Set, Tuple, TypeVar
+from typing import Any, Callable, Dict, Iterable, Iterator, List, NamedTuple, Optional, Set, Tuple, TypeVar
 
 from lib import rattle
-from lib.common import ROOT, Refused
+from lib.common import ROOT, Refused, grouped
 from lib.crates import crates_of, files_of, text_here
 
 NAME = r"[A-Za-z_][\w']*"
@@ -16,6 +16,8 @@ NAME = r"[A-Za-z_][\w']*"
 HEADER = re.compile(r"(?!pub mod )(?=\S| *(?:pub )?(?:abbrev|unfoldable|opaque|record|data) ) *"
                     r"(?:(?:abbrev|unfoldable|opaque|pub|record|data)\s+)+([^\s:({]+)|module ")
 USE = re.compile(rf"^ *(?:pub )?(?:ghost )?use ([\w:.]+?)(?:(?:\.|::)\{{(.*?)\}})?(?: as ({NAME}))?;?\n", re.M | re.S)
+# What one reads of a crate, in this order.
+PARTS = ("specs", "src")
 Node = TypeVar("Node")
 
 
@@ -149,16 +151,13 @@ class Source:
         """These lines without their comments."""
         return "\n".join(line.split(self.mark, 1)[0] for line in lines)
 
-    # Definitions.
+    def item(self, name: str, lines: Set[int], **more: Any) -> Item:
+        """An item of these lines."""
+        own = [self.lines[it - 1] for it in sorted(lines)]
+        text = rattle.without_tactics(self.bare(own)) if self.is_rust else self.bare(own)
+        return Item(self.crate, self.file, name, lines, text, self.said(own), **more)
 
-    def item(self, name: str, at: int, end: int, inner: List[str]) -> Item:
-        """An item whose header is in the line `at`, and whose last line is before `end`; what is blank or a comment at
-        its end isn't its own."""
-        first = self.front(at)
-        while end > at + 1 and (not self.lines[end - 1].strip() or self.lines[end - 1].lstrip().startswith(self.mark)):
-            end -= 1
-        lines = self.lines[first:end]
-        return Item(self.crate, self.file, name, set(range(first + 1, end + 1)), self.bare(lines), self.said(lines), inner=inner)
+    # Definitions.
 
     def definitions(self) -> Iterator[Item]:
         """The definitions of a file of specs."""
@@ -167,10 +166,13 @@ class Source:
         module: Optional[Item] = None
         part, last = "", 0
         for (at, name), end in zip(heads, ends):
+            # (what is blank or a comment at its end isn't its own)
+            while end > at + 1 and (not self.lines[end - 1].strip() or self.lines[end - 1].lstrip().startswith(self.mark)):
+                end -= 1
             inner = []
             if re.search(r"\bdata\b", self.lines[at]):
                 inner = [it[1] for line in self.lines[at:end] if (it := re.match(rf" +({NAME}) :", line))]
-            item = self.item(name, at, end, inner)
+            item = self.item(name, set(range(self.front(at) + 1, end + 1)), inner=inner)
             item.inside = module if self.lines[at].startswith(" ") else None
             module = item.inside or (item if not name else None)
             if last:
@@ -190,7 +192,8 @@ class Source:
         functions = list(rattle.functions_in(blank, blocks))
         closed = {it.owner for it in blocks if it.of_trait == "Model"}
         for name, begin, end in rattle.types_in(blank):
-            yield self.declared(name, begin, end, name in closed)
+            # (one that has a model is closed, and a reader sees no field of it)
+            yield self.item(name, self.lines_at(begin, begin + 1 if name in closed else end))
         heads: Dict[Optional[rattle.Block], Item] = {}
         for block in blocks:
             heads[block] = self.head_of(blank, block, [it for it in functions if it.block == block])
@@ -198,48 +201,31 @@ class Source:
         for it in functions:
             yield self.call(it, heads.get(it.block))
 
-    def stretch(self, begin: int, end: int) -> Tuple[int, int]:
-        """The first line of what stands here, comments and attributes with it, and the last."""
-        return self.front(self.line_of(begin) - 1) + 1, self.line_of(end - 1)
-
-    def declared(self, name: str, begin: int, end: int, is_closed: bool) -> Item:
-        """A type as it is declared; one that has a model is closed, and a reader sees no field of it."""
-        first, last = self.stretch(begin, end)
-        last = self.line_of(begin) if is_closed else last
-        lines = self.lines[first - 1 : last]
-        text = rattle.without_tactics(self.bare(lines))
-        return Item(self.crate, self.file, name, set(range(first, last + 1)), text, self.said(lines))
+    def lines_at(self, begin: int, end: int) -> Set[int]:
+        """The lines of what stands here, comments and attributes above it among them."""
+        return set(range(self.front(self.line_of(begin) - 1) + 1, self.line_of(end - 1) + 1))
 
     def head_of(self, blank: str, block: rattle.Block, functions: List[rattle.Function]) -> Item:
         """A block without its functions: of a trait what its objects show, of a type the values of its model, or what it
         shows to a trait."""
-        first, last = self.stretch(block.begin, block.end)
-        lines = set(range(first, last + 1))
         others = [(it.begin, it.end) for it in functions]
         others += [(begin, end) for name, begin, end in rattle.members_in(blank, block)
                    if name == "use" or block.of_trait == "Model" and name != "Value"]
-        for begin, end in others:
-            lines -= set(range(self.stretch(begin, end)[0], self.line_of(end - 1) + 1))
-        lines = {it for it in lines if self.lines[it - 1].strip() not in ("", "}")}
-        own = [self.lines[it - 1] for it in sorted(lines)]
+        lines = self.lines_at(block.begin, block.end).difference(*(self.lines_at(*it) for it in others))
         is_named = block.is_trait or block.of_trait == "Model"
-        name, text = block.owner if is_named else "", rattle.without_tactics(self.bare(own))
-        return Item(self.crate, self.file, name, lines, text, self.said(own), of_trait=block.of_trait)
+        return self.item(block.owner if is_named else "", {it for it in lines if self.lines[it - 1].strip() not in ("", "}")},
+                         of_trait=block.of_trait)
 
     def call(self, it: rattle.Function, block: Optional[Item]) -> Call:
-        first, last = self.stretch(it.begin, it.contract_end)
-        at = self.line_of(it.begin)
-        own = self.lines[first - 1 : at - 1]
-        # (a body's brace that stands alone isn't the contract's)
-        last = max(at, last)
-        text = self.bare(self.text[it.begin : it.contract_end].splitlines())
+        lines, at = self.lines_at(it.begin, it.contract_end), self.line_of(it.begin)
         end = it.clauses[0].begin if it.clauses else it.contract_end
         owner = it.block.owner if it.block else None
         name = f"{owner}::{it.name}" if owner else it.name
-        return Call(self.crate, self.file, name, set(range(first, last + 1)), text, self.said(own), inside=block, at=at,
+        text, front = (self.bare(self.text[it.begin : to].splitlines()) for to in (it.contract_end, end))
+        return Call(self.crate, self.file, name, lines, text, self.said(self.lines[min(lines) - 1 : at - 1]), inside=block, at=at,
                     owner=owner, of_trait=it.block.of_trait if it.block else None, is_open=it.is_pub, is_for_c=it.is_for_c,
-                    is_empty=it.is_empty, front=self.bare(self.text[it.begin : end].splitlines()),
-                    clauses=[self.clause(one) for one in it.clauses], code=self.text[it.begin : it.end])
+                    is_empty=it.is_empty, front=front, clauses=[self.clause(one) for one in it.clauses],
+                    code=self.text[it.begin : it.end])
 
     def clause(self, it: rattle.Clause) -> Clause:
         text = " ".join(self.bare(self.text[it.begin : it.end].splitlines()).split())
@@ -281,26 +267,19 @@ class Repository:
         """The crates as they stand here, or with these texts by their places."""
         self.below = crates_of(texts["crates.txt"] if texts else text_here())
         self.crates = list(self.below)
-        self.sources: Dict[str, Source] = {}
-        self.of: Dict[Tuple[str, str], List[Item]] = {}
-        for crate in self.crates:
-            for part in ("specs", "src"):
-                front = f"crates/{crate}/{part}/"
-                here = {it.relative_to(ROOT).as_posix(): it.read_text() for it in files_of(crate, (part,))} if texts is None else {
-                    it: texts[it] for it in sorted(texts) if it.startswith(front)}
-                for file, text in here.items():
-                    self.add(source_of(file, text))
-        self.calls: List[Call] = [it for source in self.sources.values() for it in source.items if isinstance(it, Call)]
-        of_traits = {(it.owner, it.name): it for it in self.calls if it.inside and it.inside.name == it.owner and not it.of_trait}
+        here = texts or {it.relative_to(ROOT).as_posix(): it.read_text() for crate in self.crates for it in files_of(crate, PARTS)}
+        fronts = [f"crates/{crate}/{part}/" for crate in self.crates for part in PARTS]
+        files = sorted(here, key=lambda it: it.split("/"))
+        self.sources = {it: source_of(it, here[it]) for front in fronts for it in files if it.startswith(front)}
+        items = [it for source in self.sources.values() for it in source.items]
+        self.of = grouped(((it.crate, name), it) for it in items for name in (it.name, *it.inner))
+        self.calls = [it for it in items if isinstance(it, Call)]
+        # (the functions of each trait, by its head)
+        own = [(it.inside, it) for it in self.calls if it.inside and it.inside.name == it.owner and not it.of_trait]
+        self.of_heads = grouped(own)
+        of_traits = {(it.owner, it.name): it for _, it in own}
         for it in self.calls:
             it.meets = of_traits.get((it.of_trait, f"{it.of_trait}::{it.name.rpartition('::')[2]}")) if it.of_trait else None
-        self.known: Dict[Item, Tuple[List[Item], Set[Tuple[str, str]]]] = {}
-
-    def add(self, source: Source) -> None:
-        self.sources[source.file] = source
-        for item in source.items:
-            for name in (item.name, *item.inner):
-                self.of.setdefault((source.crate, name), []).append(item)
 
     # What the pages name.
 
@@ -325,10 +304,7 @@ class Repository:
 
     @functools.cached_property
     def called(self) -> Dict[str, List[Call]]:
-        found: Dict[str, List[Call]] = {}
-        for it in self.calls:
-            found.setdefault(it.name.rpartition("::")[2], []).append(it)
-        return found
+        return grouped((it.name.rpartition("::")[2], it) for it in self.calls)
 
     def declared(self, name: str, crate: Optional[str]) -> List[Item]:
         """What a crate, or each, declares by this name, `NAME`, or `FILE::NAME` for a file of specs: its definitions, else
@@ -358,13 +334,9 @@ class Repository:
             return [it for it in self.of.get((crate, type_name), []) if it.file.endswith(".rt") and not isinstance(it, Call)]
         return [it for it in source.items if name is None or name == it.name or name in it.inner]
 
+    @functools.lru_cache(maxsize=None)
     def named_by(self, item: Item) -> Tuple[List[Item], Set[Tuple[str, str]]]:
         """The items that an item names, and the names that come from the kit."""
-        if item not in self.known:
-            self.known[item] = self.look_at(item)
-        return self.known[item]
-
-    def look_at(self, item: Item) -> Tuple[List[Item], Set[Tuple[str, str]]]:
         source = self.sources[item.file]
         found = [it for it, names in source.named if it is not item and any(is_named(one, item.tokens) for one in names)]
         foreign = set()
@@ -388,15 +360,6 @@ class Repository:
         if isinstance(item, Call) and item.contract is not item:
             found.append(item.contract)
         return [it for it in dict.fromkeys(found) if it is not item], foreign
-
-    @functools.cached_property
-    def of_heads(self) -> Dict[Item, List[Call]]:
-        """The functions of each trait, by its head."""
-        found: Dict[Item, List[Call]] = {}
-        for it in self.calls:
-            if it.inside and it.inside.name == it.owner and not it.of_trait:
-                found.setdefault(it.inside, []).append(it)
-        return found
 
     def members(self, module: str, alias: str, item: Item) -> List[Item]:
         """The items of a module that an item names behind an alias."""

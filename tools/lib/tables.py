@@ -4,6 +4,7 @@ import re
 from typing import Dict, Iterable, Iterator, List, Set, Tuple
 
 from lib import sources
+from lib.common import grouped
 from lib.sources import Item, Repository, Source
 
 # The standards of the table by sections, in its order.
@@ -18,10 +19,7 @@ Section = Tuple[str, str]
 
 def listed(sections: Iterable[Section]) -> str:
     """Sections in words, those of one standard together."""
-    by_standard: Dict[str, List[str]] = {}
-    for standard, number in sections:
-        by_standard.setdefault(standard, []).append(number)
-    return ", ".join(f"{standard} {', '.join(numbers)}" for standard, numbers in by_standard.items()) or "–"
+    return ", ".join(f"{standard} {', '.join(numbers)}" for standard, numbers in grouped(sections).items()) or "–"
 
 
 def sections_in(source: Source, items: List[Item]) -> List[Section]:
@@ -43,10 +41,7 @@ def named(items: Iterable[Item]) -> int:
 
 
 def by_file(order: List[Item]) -> Dict[str, List[Item]]:
-    files: Dict[str, List[Item]] = {}
-    for item in order:
-        files.setdefault(item.file, []).append(item)
-    return files
+    return grouped((it.file, it) for it in order)
 
 
 def of_files(repository: Repository, order: List[Item], foreign: Set[Tuple[str, str]]) -> Iterator[str]:
