@@ -6,10 +6,12 @@ import re
 from bisect import bisect_left, bisect_right
 from collections import Counter
 from dataclasses import dataclass, field
+from itertools import islice
 from typing import Callable, Iterable, Iterator, Optional, Sequence
 
 from lib import macs, packets, words
 from lib.captures import Capture
+from lib.common import grouped
 from lib.ladder import MARKS, MOST_ALTERED, OF_PEER, OF_SERVER, Ladder, Row, findings_of, logins_of, rows_of
 from lib.packets import FIRST, LAST, SECOND, THIRD, Reading
 from lib.replays import Replay
@@ -61,25 +63,27 @@ def joined(kind: str) -> str:
 # ---- A login of a capture.
 
 
+@dataclass
 class Login:
     """The rows of one login in a capture, with what they say. Of what stands from its first packet on, before the next
-    login, and isn't among the rows: frames that are cut, EAPOL-Starts, how many frames may be of another station, how many
-    packets are too many; the next login's first packet, and the time at which the capture ends."""
+    login, and isn't among the rows: how many frames may be of another station, how many packets are too many, the next login's
+    first packet, the time at which the capture ends, the frames that are cut, and the EAPOL-Starts."""
 
-    def __init__(self, rows: list[Row], users: list[tuple[str, str, str]]) -> None:
-        self.rows, self.users = rows, users
-        self.read = [it.reading for it in rows]
+    rows: list[Row]
+    users: list[tuple[str, str, str]]
+    unsure: int
+    left: int
+    next: Optional[int]
+    until: Optional[float]
+    cut: list[tuple[int, int, int]] = field(default_factory=list)
+    starts: list[tuple[int, float]] = field(default_factory=list)
+    tries: list[str] = field(default_factory=list)
+    is_other: bool = False
+
+    def __post_init__(self) -> None:
+        self.read = [it.reading for it in self.rows]
         self.messages = [it.message for it in self.read]
-        self.places: dict[str, list[int]] = {}
-        for at, message in enumerate(self.messages):
-            self.places.setdefault(message, []).append(at)
-        self.tries: list[str] = []
-        self.cut: list[tuple[int, int, int]] = []
-        self.starts: list[tuple[int, float]] = []
-        self.unsure = self.left = 0
-        self.next: Optional[int] = None
-        self.until: Optional[float] = None
-        self.is_other = False
+        self.places = grouped((message, at) for at, message in enumerate(self.messages))
 
     def say(self, sentence: str, **names: object) -> str:
         """A sentence, whose remedies are taken up."""
@@ -100,9 +104,6 @@ class Login:
         """The place of the last of these messages before a place."""
         found = [its[at - 1] for it in messages if (at := bisect_left(its := self.places.get(it, []), before))]
         return max(found, default=None)
-
-    def has_good(self, *messages: str, before: Optional[int] = None) -> bool:
-        return any(it.word == "tag-good" and message in messages for it, message in zip(self.rows[:before], self.messages))
 
     @property
     def user(self) -> str:
@@ -132,16 +133,8 @@ class Login:
         """Whether the server says by a message of the method that it ends it."""
         return any("Failure-Code" in it.number and row.sender == "server" for row, it in zip(self.rows, self.read))
 
-    @property
-    def range(self) -> str:
-        first, last = self.rows[0].number, self.rows[-1].number
-        return f"packet {first}" if first == last else f"packets {first} to {last}"
-
     def identifier(self, at: int) -> Optional[int]:
         return self.read[at].number.get("Identifier")
-
-    def called(self, at: int) -> str:
-        return f"packet {self.rows[at].number}, {self.read[at].called}"
 
     def has_start(self, one: int, other: int) -> bool:
         """Whether the station sent EAPOL-Start between two of the rows."""
@@ -200,7 +193,7 @@ def of_repeats(login: Login) -> Iterator[Reason]:
         elif code == 2 and request >= 0 and login.identifier(request) == identifier:
             before, octets = answered.setdefault(identifier, (request, row.octets))
             if octets == row.octets and login.rows[before].octets != login.rows[request].octets:
-                repeated = said("repeated", before=login.called(before), packet=f", packet {row.number}")
+                repeated = said("repeated", before=login.rows[before].called, packet=f", packet {row.number}")
                 yield Reason(login.rows[request], repeated + said("one is forged"))
 
 
@@ -241,7 +234,7 @@ def wrong_tag(login: Login, at: int) -> str:
     if message not in SECOND:
         second = {it.octets for it, its in zip(login.rows[:at], login.messages) if it.word == "tag-good" and its in SECOND}
         return said("first right" if len(second) == 1 else "unsure MAC")
-    if login.has_good(*SECOND):
+    if any(it.word == "tag-good" and it.reading.message in SECOND for it in login.rows):
         return said("other right", message=message)
     after, user = login.first(*THIRD, "Failure", after=at), named(login.read[at].identity)
     others = {it.octets for it, its in zip(login.rows, login.messages) if its in SECOND}
@@ -349,13 +342,13 @@ def early_end(login: Login, at: int) -> str:
     message, goes_on = login.messages[at], next_of_server(login, at)
     later = login.first(*OF_PEER, after=at)
     if goes_on is None:
-        return "" if later is None else said("went on", later=login.called(later), message=message)
+        return "" if later is None else said("went on", later=login.rows[later].called, message=message)
     if not login.is_whole:
         return ""
     before, on = login.last(*OF_SERVER, "Identity", before=at), login.messages[goes_on]
     follows = before is not None and ((login.identifier(before) or 0) + 1) % 256 == login.identifier(goes_on)
     is_forged = is_old(login, goes_on, at) or follows or on == "Success"
-    middle = said("middle", message=message, next=login.called(goes_on)) + ("" if is_forged else said("or a gap"))
+    middle = said("middle", message=message, next=login.rows[goes_on].called) + ("" if is_forged else said("or a gap"))
     is_silent = on != "Success" and login.first(*OF_PEER, after=goes_on) is None
     return middle + said("nobody vouches", message=message) + (said("believed") if is_silent else "")
 
@@ -368,7 +361,7 @@ def failure(login: Login, at: int) -> str:
     last = login.last(*{*login.places} - {"Success", "Failure", "Notification"}, before=at)
     if last is None:
         return said("nothing before")
-    here, row, ended = login.read[last], login.rows[last], said("ended", last=login.called(last))
+    here, row, ended = login.read[last], login.rows[last], said("ended", last=login.rows[last].called)
     is_next = login.rows[at].exchange and login.rows[at].exchange == row.exchange
     if login.identifier(last) != login.identifier(at) and not is_next:
         return said("gap", identifier=login.identifier(at), last=row.number, before=login.identifier(last))
@@ -476,10 +469,8 @@ class Nonces:
 
 def folded(reasons: list[Reason]) -> list[Reason]:
     """Reasons of the same words on messages of the same name, as one: the first, which names the others."""
-    groups: dict[tuple[str, str], list[Reason]] = {}
-    for it in reasons:
-        text = re.sub(r"packet \d+|[\d.]+ m?s\b| \([^()]*computed[^()]*\)", "#", it.text).rstrip("#")
-        groups.setdefault((it.row.reading.called if it.row else it.text, text), []).append(it)
+    numbered = re.compile(r"packet \d+|[\d.]+ m?s\b| \([^()]*computed[^()]*\)")
+    groups = grouped(((it.row.reading.called if it.row else it.text, numbered.sub("#", it.text).rstrip("#")), it) for it in reasons)
     found = []
     for first, *others in groups.values():
         numbers = ", ".join(it.row.number for it in others[:MOST_LISTED] if it.row) + f" and {len(others) - MOST_LISTED} more" * (
@@ -494,8 +485,9 @@ def story_of_login(login: Login, nonces: Nonces) -> Story:
     if len(reasons) > 1:
         reasons = folded(in_order(reasons, login.rows))
     twice = list(nonces.repeated(login))
-    user, kind = login.user, login.kind
-    front = (f"the login of {user}" if user else "a login") + (f" by {words.METHODS[kind]}" if kind else "") + f", {login.range}"
+    user, kind, first, last = login.user, login.kind, login.rows[0].number, login.rows[-1].number
+    front = (f"the login of {user}" if user else "a login") + (f" by {words.METHODS[kind]}" if kind else "")
+    front += f", packet {first}" if first == last else f", packets {first} to {last}"
     end = outcome(login)
     is_bad = any(it.word in ("tag-bad", "malformed") and it.was is None for it in login.rows)
     if end == "Success":
@@ -525,22 +517,19 @@ def of_capture(capture: Capture, rows: Optional[Sequence[Row]] = None) -> Iterat
     """What came of each login of a capture, with its rows where these are made; else they are made and left, batch by batch."""
     nonces, count = Nonces(), Counter[str]()
     packets, story, last = capture.packets, None, len(capture.packets)
-    cut, starts = list(reversed(capture.cut)), list(reversed(capture.starts))
+    cut, starts = capture.cut[::-1], capture.starts[::-1]
     for batch in batches_of(logins_of(packets.octets)):
-        told = [range(it.start, min(it.stop, it.start + MOST_ROWS)) for it in batch]
-        findings = [] if rows is not None else findings_of(packets.of(told), capture.users)[0]
-        at = 0
+        told = [it[:MOST_ROWS] for it in batch]
+        findings = iter(findings_of(packets.of(told), capture.users)[0] if rows is None else ())
         for part, whole in zip(told, batch):
             if story:
                 yield story
-            mine = rows[part.start : part.stop] if rows is not None else rows_of(packets.of([part]), findings[at : at + len(part)])
-            at += len(part)
-            login = Login(list(mine), capture.users)
-            login.left, login.unsure, login.until = len(whole) - len(part), capture.unsure, capture.until
-            login.next = packets.numbers[whole.stop] if whole.stop < last else None
-            while cut and (login.next is None or cut[-1][0] < login.next):
+            mine = rows[part.start : part.stop] if rows is not None else rows_of(packets.of([part]), [*islice(findings, len(part))])
+            then = packets.numbers[whole.stop] if whole.stop < last else None
+            login = Login(list(mine), capture.users, capture.unsure, len(whole) - len(part), then, capture.until)
+            while cut and (then is None or cut[-1][0] < then):
                 login.cut.append(cut.pop())
-            while starts and (login.next is None or starts[-1][0] < login.next):
+            while starts and (then is None or starts[-1][0] < then):
                 login.starts.append(starts.pop())
             count.update(it.word for it in login.rows)
             story = story_of_login(login, nonces)
