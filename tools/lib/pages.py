@@ -10,6 +10,7 @@ from pathlib import Path
 from typing import Dict, Iterator, List, Optional, Set, Tuple
 
 from lib.common import ROOT, this_python
+from lib.crates import files_of
 
 SECONDS = 300
 
@@ -37,10 +38,6 @@ class Tally:
         self.passed += bool(fact)
         self.faults += [] if fact else [fault]
         return bool(fact)
-
-
-def page_files() -> List[Path]:
-    return sorted(file for it in ("*.md", "docs/*.md", "*/README.md", "*/*/README.md") for file in ROOT.glob(it))
 
 
 def parts_of(page: Path) -> Tuple[Lines, List[Block]]:
@@ -74,17 +71,10 @@ def sentences_in(text: str) -> Iterator[Tuple[int, str]]:
         yield from ((number, it.strip()) for it in END.split(line) if it.strip() and not line.startswith("#"))
 
 
-def anchor_of(head: str) -> str:
-    """The name by which a browser finds a heading."""
-    return re.sub(r"[^\w\- ]", "", head.strip().lower()).replace(" ", "-")
-
-
 def anchors_of(page: Path) -> Set[str]:
-    return {anchor_of(line.lstrip("#")) for _, line in parts_of(page)[0] if line.startswith("#")}
-
-
-def cells_of(line: str) -> List[str]:
-    return [it.strip() for it in line.strip().strip("|").split(" | ")]
+    """The names by which a browser finds the headings."""
+    heads = [line.lstrip("#").strip().lower() for _, line in parts_of(page)[0] if line.startswith("#")]
+    return {re.sub(r"[^\w\- ]", "", it).replace(" ", "-") for it in heads}
 
 
 # Links and names of files.
@@ -141,8 +131,7 @@ def check_names(check: Tally, tree: Tree, page: Path, prose: Lines) -> None:
 
 
 def lines_of(part: str, crates: List[str]) -> int:
-    files = [it for crate in crates for it in (ROOT / "crates" / crate / part).rglob("*") if it.is_file()]
-    return sum(len(it.read_text().splitlines()) for it in files)
+    return sum(len(it.read_text().splitlines()) for crate in crates for it in files_of(crate, (part,)))
 
 
 def cases() -> int:
@@ -151,24 +140,21 @@ def cases() -> int:
     return sum(max(1, len(re.findall(r"^row\b", front + it, re.M))) for front, *own in files for it in own)
 
 
-def refused() -> int:
-    """How many edits wrong/refused.txt says were refused."""
-    return sum(int(it.split()[3]) for it in (ROOT / "wrong/refused.txt").read_text().splitlines() if it and it[0] != "#")
-
-
 def counted(crates: List[str]) -> Dict[str, List[int]]:
     """What docs/ASSURANCE.md and README.md count, by the first cell of the row."""
     tests = [it for it in crates if it.endswith("_tests")]
     others = [it for it in crates if it not in tests]
-    has_test = lambda it: len(re.findall(r"^#\[test\]", it.read_text(), re.M))
+    # (how many edits wrong/refused.txt says were refused)
+    refused = [int(it.split()[3]) for it in (ROOT / "wrong/refused.txt").read_text().splitlines() if it and it[0] != "#"]
+    has_test = re.compile(r"^#\[test\]", re.M)
     outputs = (".trace", ".names", ".findings", ".replies", ".out", ".peer-told", ".server-told")
     return {
         "crates proved": [len(others)],
         "wrong bodies in the gate": [len(list(ROOT.glob("crates/*/must-fail/*.edit")))],
         "wrong bodies in `wrong/`": [len(list(ROOT.glob("wrong/*/*.edit")))],
-        "of all these refused, as `wrong/refused.txt` has it": [refused()],
+        "of all these refused, as `wrong/refused.txt` has it": [sum(refused)],
         "cases of texts": [cases()],
-        "tests in code": [sum(map(has_test, (ROOT / "crates").glob("*/src/**/*.rt")))],
+        "tests in code": [sum(len(has_test.findall(it.read_text())) for it in ROOT.glob("crates/*/src/**/*.rt"))],
         "stored outputs in `examples/`": [len([it for it in ROOT.glob("examples/*") if it.name.endswith(outputs)])],
         "Lines of code, of definitions, of proofs, of tests": [
             *(lines_of(it, others) for it in ("src", "specs", "proofs")), lines_of("src", tests)],
@@ -176,23 +162,19 @@ def counted(crates: List[str]) -> Dict[str, List[int]]:
     }
 
 
-def is_count(label: str, said: str, counts: List[int]) -> bool:
-    """Whether these numbers are told; those of lines are rounded, and within a hundredth."""
-    numbers = [int(it.replace(",", "")) for it in re.findall(r"\d[\d,]*", said)]
-    room = 0.01 if label.startswith("Lines") else 0
-    return len(numbers) == len(counts) and all(abs(one - other) <= room * other for one, other in zip(numbers, counts))
-
-
 def check_counts(check: Tally, crates: List[str]) -> None:
+    """Numbers that pages tell are those that are counted; those of lines are rounded, and within a hundredth."""
     counts = counted(crates)
     told = set()
     for page in (ROOT / "README.md", ROOT / "docs/ASSURANCE.md"):
         for number, line in parts_of(page)[0]:
-            label, *cells = cells_of(line)
+            label, *cells = (it.strip() for it in line.strip().strip("|").split(" | "))
             if line.startswith("|") and label in counts:
                 told.add(label)
-                fault = f"{page.relative_to(ROOT)}:{number}: {label}: {', '.join(map(str, counts[label]))} are counted"
-                check.holds(is_count(label, cells[0], counts[label]), fault)
+                said = [int(it.replace(",", "")) for it in re.findall(r"\d[\d,]*", cells[0])]
+                room, wanted = 0.01 if label.startswith("Lines") else 0, counts[label]
+                is_told = len(said) == len(wanted) and all(abs(one - it) <= room * it for one, it in zip(said, wanted))
+                check.holds(is_told, f"{page.relative_to(ROOT)}:{number}: {label}: {', '.join(map(str, wanted))} are counted")
     for label in counts:
         check.holds(label in told, f"{label}: no page says how many there are")
     # (what a login costs is measured)
@@ -211,12 +193,6 @@ def whole_commands(lines: List[str]) -> Iterator[Tuple[str, str]]:
         command, _, comment = line.partition(" #") if not line.startswith("#") else ("", "", line)
         if command.strip():
             yield command.strip(), comment.strip()
-
-
-def unrun() -> Set[str]:
-    """The commands of docs/claims.commands: each is indented below its reason."""
-    file = ROOT / "docs/claims.commands"
-    return {line.strip() for line in file.read_text().splitlines() if line.startswith(" ")} if file.exists() else set()
 
 
 def run(command: str, folder: str) -> Tuple[object, str, str]:
@@ -263,7 +239,9 @@ def check_blocks(check: Tally, tree: Tree, page: Path, blocks: List[Block], kept
 
 
 def check_commands(check: Tally, tree: Tree, blocks: Dict[Path, List[Block]]) -> None:
-    kept = unrun()
+    # (each is indented below its reason)
+    file = ROOT / "docs/claims.commands"
+    kept = {line.strip() for line in file.read_text().splitlines() if line.startswith(" ")} if file.exists() else set()
     with this_python():
         for page, found in blocks.items():
             check_blocks(check, tree, page, found, kept)
@@ -276,7 +254,7 @@ def check_commands(check: Tally, tree: Tree, blocks: Dict[Path, List[Block]]) ->
 def check_pages(check: Tally, with_commands: bool) -> None:
     """Looks at the links, names and commands of all pages."""
     blocks, tree = {}, Tree()
-    for page in page_files():
+    for page in sorted(file for it in ("*.md", "docs/*.md", "*/README.md", "*/*/README.md") for file in ROOT.glob(it)):
         prose, blocks[page] = parts_of(page)
         check_links(check, page, prose)
         check_names(check, tree, page, prose)
