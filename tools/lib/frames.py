@@ -179,7 +179,6 @@ class Frame(NamedTuple):
     """What a frame carries: who sent it, to whom (none where that is a group, or isn't told), its type, the payload, and
     where it was seen."""
 
-    record: Record
     source: bytes
     to: bytes
     kind: int
@@ -200,25 +199,26 @@ def of_wifi(octets: bytes) -> tuple[bytes, bytes, bytes, bytes]:
     return to, source, octets[at + 6 : at + 8] if is_snap else b"", octets[at + 8 :]
 
 
+# Of a cooked link, where the sender, the type and the interface stand, and the payload begins.
+COOKED_AT = {COOKED: (slice(6, 12), slice(14, 16), slice(0, 2), 16), COOKED_2: (slice(12, 18), slice(0, 2), slice(4, 8), 20)}
+
+
 def of_record(record: Record) -> Frame:
-    octets, link, interface = record.frame, record.link, record.interface
-    if link == ETHERNET:
+    octets, interface, to = record.frame, record.interface, b""
+    if record.link == ETHERNET:
         to, source, kind, rest = octets[:6], octets[6:12], octets[12:14], octets[14:]
-    elif link == COOKED:
-        to, source, kind, rest = b"", octets[6:12], octets[14:16], octets[16:]
-        # (the direction tells what came in at one interface and went out at another)
-        interface = int.from_bytes(octets[:2], "big")
-    elif link == COOKED_2:
-        to, source, kind, rest = b"", octets[12:18], octets[:2], octets[20:]
-        interface = int.from_bytes(octets[4:8], "big")
+    elif record.link in COOKED_AT:
+        # (for want of an interface the direction tells what came in at one and went out at another)
+        *places, begin = COOKED_AT[record.link]
+        source, kind, seen, rest = (*(octets[it] for it in places), octets[begin:])
+        interface = int.from_bytes(seen, "big")
     else:
-        to, source, kind, rest = of_wifi(octets[int.from_bytes(octets[2:4], "little") :] if link == RADIOTAP else octets)
-    if to and to[0] & 1:
-        to = b""
+        at = int.from_bytes(octets[2:4], "little") if record.link == RADIOTAP else 0
+        to, source, kind, rest = of_wifi(octets[at:])
     number, has_vlan = int.from_bytes(kind, "big"), False
     while number in VLANS:
         has_vlan, number, rest = True, int.from_bytes(rest[2:4], "big"), rest[4:]
-    return Frame(record, source, to, number, rest, has_vlan, interface)
+    return Frame(source, b"" if to and to[0] & 1 else to, number, rest, has_vlan, interface)
 
 
 def plain(record: Record) -> bytes:
@@ -306,24 +306,17 @@ class Radius:
         return client, server, self.octets[1]
 
 
-def udp_of(frame: Frame) -> Optional[tuple[bytes, bytes, bytes]]:
-    """The addresses and the UDP packet of a frame; None for another, or for a later fragment."""
+def radius_of(frame: Frame, more: Sequence[int] = ()) -> Optional[Radius]:
+    """The RADIUS packet of a frame, where it has one, at its ports or at others that are named. A later fragment has none."""
     octets = frame.payload
     if frame.kind == IPV4 and len(octets) >= 20 and octets[9] == 17 and not int.from_bytes(octets[6:8], "big") & 0x1FFF:
-        return octets[12:16], octets[16:20], octets[4 * (octets[0] & 15) : int.from_bytes(octets[2:4], "big")]
-    if frame.kind == IPV6 and len(octets) >= 40 and octets[6] == 17:
-        return octets[8:24], octets[24:40], octets[40:]
-    return None
-
-
-def radius_of(frame: Frame, more: Sequence[int] = ()) -> Optional[Radius]:
-    """The RADIUS packet of a frame, where it has one, at its ports or at others that are named."""
-    found = udp_of(frame)
-    if found is None or len(found[2]) < 8:
+        one, other, udp = octets[12:16], octets[16:20], octets[4 * (octets[0] & 15) : int.from_bytes(octets[2:4], "big")]
+    elif frame.kind == IPV6 and len(octets) >= 40 and octets[6] == 17:
+        one, other, udp = octets[8:24], octets[24:40], octets[40:]
+    else:
         return None
-    one, other, udp = found
-    ports = struct.unpack(">HH", udp[:4])
-    if not set(ports) & {*RADIUS_PORTS, *more}:
+    ports = struct.unpack(">HH", udp[:4]) if len(udp) >= 8 else ()
+    if not {*ports} & {*RADIUS_PORTS, *more}:
         return None
     octets = udp[8 : int.from_bytes(udp[4:6], "big") or None]
     return Radius((one, ports[0]), (other, ports[1]), octets) if len(octets) >= 20 else None
