@@ -2,7 +2,7 @@
 
 import re
 from dataclasses import dataclass, field
-from typing import Iterator, List, NamedTuple, Optional, Pattern, Tuple
+from typing import Dict, Iterator, List, NamedTuple, Optional, Pattern, Tuple
 
 # (each way begins with a sign of its own, so that a search skips the rest)
 QUOTED, SIGN = r"\"(?:\\.|[^\"\\])*\"", r"'(?:\\[^']+|[^'\\])'"
@@ -13,6 +13,7 @@ BLOCK = re.compile(r"^(?:pub )?(?:unsafe )?(impl|trait)\b[^{;]*\{", re.M)
 TYPE = re.compile(r"^(?:pub(?:\(\w+\))? )?(struct|enum|type|const|static) (?:mut )?(\w+)", re.M)
 CLAUSE = re.compile(r"\b(requires|ensures)\b\*?([^{]*)\{")
 NESTING = {"(": 1, "[": 1, ")": -1, "]": -1}
+WITH_BRACES = {**NESTING, "{": 1, "}": -1}
 
 
 class Clause(NamedTuple):
@@ -72,20 +73,23 @@ def without_tactics(text: str) -> str:
     return text
 
 
+def first_of(signs: str, blank: str, at: int, nesting: Dict[str, int] = NESTING) -> int:
+    """The place of the first of these signs that stands in no bracket."""
+    depth = 0
+    while at < len(blank) and (depth or blank[at] not in signs):
+        depth += nesting.get(blank[at], 0)
+        at += 1
+    return at
+
+
 def clauses_at(blank: str, at: int) -> Tuple[List[Clause], int]:
     """The clauses of the function whose parameters begin at this place, and where its body or its semicolon stands."""
-    found, depth = [], 0
-    while at < len(blank):
-        if depth == 0 and blank[at] in "{;":
-            break
-        clause = CLAUSE.match(blank, at) if depth == 0 and blank[at] in "re" else None
-        if clause:
-            end = end_of(blank, clause.end() - 1)
-            found.append(Clause(clause[1], clause[2].strip(), at, end))
-            at = end
-            continue
-        depth += NESTING.get(blank[at], 0)
-        at += 1
+    found = []
+    while (at := first_of("{;re", blank, at)) < len(blank) and blank[at] not in "{;":
+        clause = CLAUSE.match(blank, at)
+        end = end_of(blank, clause.end() - 1) if clause else at + 1
+        found += [Clause(clause[1], clause[2].strip(), at, end)] if clause else []
+        at = end
     return found, at
 
 
@@ -129,23 +133,12 @@ def functions_in(blank: str, blocks: List[Block]) -> Iterator[Function]:
 def members_in(blank: str, block: Block) -> Iterator[Tuple[str, int, int]]:
     """The ghost members of a block and what it uses: the first word, and where each begins and ends."""
     for it in MEMBER.finditer(blank, block.begin, block.end):
-        at = it.end()
-        while blank[at] != ";":
-            at = end_of(blank, at) if blank[at] == "{" else at + 1
-        yield it[1], it.start(), at + 1
+        yield it[1], it.start(), first_of(";", blank, it.end(), WITH_BRACES) + 1
 
 
 def types_in(blank: str) -> Iterator[Tuple[str, int, int]]:
     """The types and constants outside of blocks: their names, and where they begin and end."""
     for it in TYPE.finditer(blank):
-        at = it.end()
-        while at < len(blank) and blank[at] not in ";{=":
-            at = end_of(blank, at, {"(": "()", "[": "[]"}[blank[at]]) if blank[at] in "([" else at + 1
-        if blank[at : at + 1] == "{":
-            yield it[2], it.start(), end_of(blank, at)
-        else:
-            depth = 0
-            while at < len(blank) and (depth or blank[at] != ";"):
-                depth += {"{": 1, "}": -1}.get(blank[at], 0) + NESTING.get(blank[at], 0)
-                at += 1
-            yield it[2], it.start(), at + 1
+        at = first_of(";{=", blank, it.end())
+        end = end_of(blank, at) if blank[at : at + 1] == "{" else first_of(";", blank, at, WITH_BRACES) + 1
+        yield it[2], it.start(), end
