@@ -37,11 +37,11 @@ class Packets:
     def __init__(self) -> None:
         self.numbers, self.times, self.ways = array("I"), array("d"), bytearray()
         self.octets: list[bytes] = []
-        self.radius: dict[int, frames.Radius] = {}
+        # (of each packet or of none)
+        self.radius: list[frames.Radius] = []
 
-    def append(self, number: int, is_to_peer: bool, octets: bytes, at: float, radius: Optional[frames.Radius] = None) -> None:
-        if radius is not None:
-            self.radius[len(self.octets)] = radius
+    def append(self, number: int, is_to_peer: bool, octets: bytes, at: float, *radius: frames.Radius) -> None:
+        self.radius += radius
         self.numbers.append(number)
         self.times.append(at)
         self.ways.append(is_to_peer)
@@ -51,8 +51,8 @@ class Packets:
         return len(self.octets)
 
     def __getitem__(self, at: int) -> Packet:
-        when = self.times[at]
-        return Packet(bool(self.ways[at]), self.octets[at], self.numbers[at], when if when == when else None, self.radius.get(at))
+        when, radius = self.times[at], self.radius[at] if self.radius else None
+        return Packet(bool(self.ways[at]), self.octets[at], self.numbers[at], when if when == when else None, radius)
 
     def __iter__(self) -> Iterator[Packet]:
         return map(self.__getitem__, range(len(self)))
@@ -60,11 +60,8 @@ class Packets:
     def of(self, parts: Iterable[range]) -> Packets:
         """The packets at these places."""
         found = Packets()
-        for part in parts:
-            for at in part if self.radius else ():
-                if at in self.radius:
-                    found.radius[len(found) + at - part.start] = self.radius[at]
-            its = slice(part.start, part.stop)
+        for its in (slice(it.start, it.stop) for it in parts):
+            found.radius += self.radius[its]
             found.numbers += self.numbers[its]
             found.times += self.times[its]
             found.ways += self.ways[its]
@@ -293,10 +290,7 @@ class Reading:
         stations: dict[str, Capture] = {}
         requests: dict[object, frames.Radius] = {}
         last: dict[tuple[str, int, bytes], bytes] = {}
-        for packet in self.radius:
-            it = packet.radius
-            if it is None:
-                continue
+        for packet, it in zip(self.radius, self.radius.radius):
             it.request = None if it.is_request else requests.get(it.exchange)
             if it.is_request:
                 requests[it.exchange] = it
@@ -372,7 +366,7 @@ def of_pcap(octets: bytes, ports: Sequence[int] = ()) -> list[Capture]:
 
 def judge_radius(captures: list[Capture], secret: str) -> None:
     """Asks `radius` of the authenticators of each packet, each reply behind its request."""
-    packets = [it.radius for capture in captures for it in capture.packets if it.radius]
+    packets = [it for capture in captures for it in capture.packets.radius]
     lines, asked = ["eap-radius 1", f"secret {secret.encode('utf-8', 'surrogateescape').hex()}"], []
     for it in packets:
         if it.request:

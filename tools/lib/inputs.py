@@ -83,16 +83,11 @@ def users_of(given: list[str], users_file: Optional[str]) -> tuple[list[User], s
     return users + [(given[at], given[at + 1], given[at + 2]) for at in range(0, len(given), 3)], ""
 
 
-def named_in(capture: Capture) -> list[tuple[str, str]]:
-    """The users that the packets name, with the method."""
-    read = [packets.read(it) for it in capture.packets.octets]
-    return list(dict.fromkeys((it.user, it.kind) for it in read if it.message in packets.SECOND and it.number["Code"] == 2))
-
-
 def give_users(capture: Capture, users: list[User], key: str) -> None:
     """Adds users to a capture; a key that stands alone is that of each user whom the packets name, as its size fits."""
     capture.users += users
-    for name, kind in named_in(capture) if key else []:
+    read = [packets.read(it) for it in capture.packets.octets] if key else []
+    for name, kind in dict.fromkeys((it.user, it.kind) for it in read if it.message in packets.SECOND and it.number["Code"] == 2):
         is_plain = name and all("!" <= it <= "~" for it in name)
         if words.is_key_size(kind, len(key) // 2) and is_plain and len(capture.users) < words.MOST_USERS:
             capture.users.append((name, kind, key))

@@ -10,7 +10,7 @@ from lib import frames, packets
 from lib.captures import NONE, Capture, Packets, User, text_of
 from lib.common import Refused, run
 from lib.packets import FIRST, LAST, SECOND, THIRD
-from lib.replays import Event, Replay, Sent
+from lib.replays import Event, Replay
 
 MARKS = {
     "timeout": "its retransmission timer expires",
@@ -104,13 +104,6 @@ def party_of(port: str) -> str:
     return "pass" if port.startswith("pass") else port
 
 
-def side_of(port: str, parties: list[str]) -> str:
-    """The party on whose side something injected comes in at a port."""
-    if port in ("peer", "pass-peer"):
-        return parties[1] if port == "peer" else "peer"
-    return parties[-1] if port == "pass-server" else parties[-2]
-
-
 def findings_of(packets: Packets, users: list[User]) -> tuple[list[str], str]:
     """What `check` says of each packet, and its last line."""
     status, said = run(["check"], text_of(packets, users).encode("latin-1"))
@@ -132,7 +125,9 @@ def arrow_of(event: Event, came: set[int], parties: list[str]) -> Row:
     """The row of an event that brings octets."""
     row = Row("arrow", receiver=party_of(event.port), title=title_of(event.octets), octets=event.octets)
     if event.of is None:
-        row.kind, row.sender, row.changes = "injected", side_of(event.port, parties), ["injected"]
+        # (it comes in from the side of the next party)
+        sides = {"peer": parties[1], "pass-peer": "peer", "pass-server": parties[-1], "server": parties[-2]}
+        row.kind, row.sender, row.changes = "injected", sides[event.port], ["injected"]
         return row
     kind, *words = event.words
     row.number, row.sender = str(event.of.number), event.of.sender
@@ -159,12 +154,6 @@ def row_of(event: Event, came: set[int], parties: list[str]) -> Row:
     return row
 
 
-def row_of_sent(it: Sent, kind: str) -> Row:
-    row = Row(kind, str(it.number), sender=it.sender, receiver=party_of(it.port), octets=it.octets)
-    row.title, row.changes = title_of(it.octets, it.told), ["lost"] if kind == "lost" else []
-    return row
-
-
 def of_a_replay(replay: Replay) -> Ladder:
     """A packet that no event brings is lost; where only one end's text, or a trace, tells of it, it is on its way."""
     arriving = {event.of.number for event in replay.events if event.of}
@@ -173,9 +162,9 @@ def of_a_replay(replay: Replay) -> Ladder:
         # (one end alone may do nothing at the start)
         if event.acts or event.skip or event.port:
             rows.append(row_of(event, came, replay.parties))
-        for it in event.sent:
-            if it.number not in arriving:
-                rows.append(row_of_sent(it, "lost" if replay.has_losses else "arrow"))
+        for it in [it for it in event.sent if it.number not in arriving]:
+            rows.append(Row("lost" if replay.has_losses else "arrow", str(it.number), sender=it.sender, receiver=party_of(it.port),
+                            title=title_of(it.octets, it.told), changes=["lost"] * replay.has_losses, octets=it.octets))
     passed = [it for it in rows if it.octets is not None and {it.sender, it.receiver} == set(replay.parties[:2])
               and it.kind in ("arrow", "injected")]
     capture = captured(replay, passed)

@@ -233,25 +233,20 @@ def take_psk(reader: Reader) -> None:
 # The packet: RFC 3748 section 4.
 
 
-def take_entries(reader: Reader) -> None:
-    """The list of an Expanded Nak (section 5.3.2)."""
-    while reader.left() >= 8:
-        reader.number("Type", 1)
-        reader.number("Vendor-Id", 3)
-        reader.number("Vendor-Type", 4, named(TYPES))
-    if reader.left():
-        reader.rest("Type-Data")
-        reader.fault("an entry of an Expanded Nak has 8 octets")
-
-
 def take_expanded(reader: Reader) -> None:
-    """Type 254 (section 5.7): of the IETF's Types the data of the Type inside."""
+    """Type 254 (section 5.7): of the IETF's Types the data of the Type inside, or the list of a Nak (section 5.3.2)."""
     vendor = reader.number("Vendor-Id", 3)
     kind = reader.number("Vendor-Type", 4, named(TYPES if vendor == 0 else {}))
     if vendor != 0 or kind in (0, 254) or kind > 255:
         reader.rest("Vendor data")
     elif kind == 3:
-        take_entries(reader)
+        while reader.left() >= 8:
+            reader.number("Type", 1)
+            reader.number("Vendor-Id", 3)
+            reader.number("Vendor-Type", 4, named(TYPES))
+        if reader.left():
+            reader.rest("Type-Data")
+            reader.fault("an entry of an Expanded Nak has 8 octets")
         reader.reading.name = "Expanded Nak"
     else:
         take_data(reader, kind)

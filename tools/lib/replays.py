@@ -8,6 +8,7 @@ from typing import Optional
 
 from lib.common import Refused, ask
 from lib.texts import comments_of, lines_of, packet_of
+from lib.words import OF_SERVER
 
 
 PARTIES = {"peer", "pass", "server"}
@@ -88,11 +89,11 @@ def ended(lines: list[list[str]]) -> dict[str, str]:
     return found
 
 
-def parts_of(octets: bytes) -> tuple[list[list[str]], list[list[str]]]:
-    """The settings of a text, and the lines between `events` and `end`."""
+def parts_of(octets: bytes) -> tuple[list[list[str]], list[Event]]:
+    """The settings of a text, and the events of its lines between `events` and `end`, behind the start."""
     lines = [words for _, words in lines_of(octets)][1:]
     begin = lines.index(["events"])
-    return lines[:begin], lines[begin + 1 : lines.index(["end"])]
+    return lines[:begin], [Event(at, it) for at, it in enumerate([["start"], *lines[begin + 1 : lines.index(["end"])]])]
 
 
 # ---- Scenarios.
@@ -114,8 +115,7 @@ def bring(event: Event, sent: dict[int, Sent]) -> None:
 def of_scenario(octets: bytes) -> Replay:
     """Replays a scenario, which the program has to take."""
     trace = [line.split(" ") for line in ask(["replay", "names"], octets)]
-    settings, lines = parts_of(octets)
-    events = [Event(at, words) for at, words in enumerate([["start"], *lines])]
+    settings, events = parts_of(octets)
     for words in trace:
         if words[0].isdecimal():
             tell(events[int(words[0])], words[1:])
@@ -133,8 +133,7 @@ def of_scenario(octets: bytes) -> Replay:
 
 def end_of(settings: list[list[str]]) -> str:
     """Whose text it is, by its settings."""
-    others = ("user", "first-id", "max-retrans")
-    return "server" if any(it[0].startswith("server-") or it[0] in others for it in settings) else "peer"
+    return "server" if any(it[0].startswith("server-") or it[0] in OF_SERVER for it in settings) else "peer"
 
 
 def of_end(octets: bytes) -> Replay:
@@ -143,8 +142,7 @@ def of_end(octets: bytes) -> Replay:
     end = end_of(keywords)
     other = "server" if end == "peer" else "peer"
     answers = [line.split(" ") for line in ask([end], octets)]
-    settings, lines = parts_of(octets)
-    events = [Event(at, words) for at, words in enumerate([["start"], *lines])]
+    settings, events = parts_of(octets)
     count = 0
     for event in events:
         if event.words[0] == "packet":

@@ -23,16 +23,12 @@ def counts_of(lines: list[str]) -> tuple[Counter[str], int, bool]:
     return count, int(found[2] or found[3]), found[3] is not None
 
 
-def judged(count: Counter[str]) -> int:
-    return count["tag-good"] + count["tag-bad"]
-
-
 def of_findings(lines: list[str]) -> list[str]:
     """What the output of `check` or `pcap` says, in sentences."""
     count, packets, is_pcap = counts_of(lines)
     if is_pcap and packets == 0:
         return [f"no tag was judged at all: packets {packets}", WITHOUT_EAP]
-    tags = judged(count)
+    tags = count["tag-good"] + count["tag-bad"]
     told = [f"packets whose tags were judged: {tags} of {packets}" if tags else f"no tag was judged at all: packets {packets}"]
     told += [f"{it.word} {count[it.word]}: {it.where}" for it in reversed(words.FINDINGS) if it.kind != "good"
              and count[it.word] and it.word != "malformed"]

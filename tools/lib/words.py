@@ -143,13 +143,15 @@ def of_end(name: str, others: Sequence[str], inputs: Sequence[str]) -> Text:
     return Text(("eap-end 1",), lines, ("events", "end"), settings=settings, named=f"a text of `{name}`")
 
 
+# The settings of a server whose names don't say so.
+OF_SERVER = ("user", "first-id", "max-retrans")
 TEXTS = {
     "replay": Text(("eap-scenario 1", "eap-scenario 2"), SETTINGS + EVENTS, ("events", "end"),
                    LATER_SETTINGS + LATER_EVENTS, SETTINGS, "a scenario"),
     "check": Text(("eap-capture 1",), CAPTURE_LINES, ("packets", "end"), named="a capture"),
     "radius": Text(("eap-radius 1",), RADIUS_LINES, ("secret", "end"), named="a text of `radius`"),
     "peer": of_end("peer", (), ("packet", "idle", "alt-accept", "alt-reject")),
-    "server": of_end("server", ("user", "first-id", "max-retrans"), ("packet", "timeout")),
+    "server": of_end("server", OF_SERVER, ("packet", "timeout")),
     "keys": Text((), KEY_REQUESTS, named="requests of `keys`"),
     "decode": Text((), (), named="packets in hex"),
 }
