@@ -163,8 +163,8 @@ def of_a_replay(replay: Replay) -> Ladder:
         if event.acts or event.skip or event.port:
             rows.append(row_of(event, came, replay.parties))
         for it in [it for it in event.sent if it.number not in arriving]:
-            rows.append(Row("lost" if replay.has_losses else "arrow", str(it.number), sender=it.sender, receiver=party_of(it.port),
-                            title=title_of(it.octets, it.told), changes=["lost"] * replay.has_losses, octets=it.octets))
+            rows.append(Row("lost" if replay.has_losses else "arrow", str(it.number), "", it.sender, party_of(it.port),
+                            title_of(it.octets, it.told), ["lost"] * replay.has_losses, it.octets))
     passed = [it for it in rows if it.octets is not None and {it.sender, it.receiver} == set(replay.parties[:2])
               and it.kind in ("arrow", "injected")]
     capture = captured(replay, passed)

@@ -179,7 +179,8 @@ def of_echoes(login: Login) -> Iterator[Reason]:
         row.is_other = login.is_other = True
         wrong = [name for name, its, other in pairs if its != other]
         are = "are not those" if len(wrong) > 1 else "is not that"
-        yield Reason(row, said("echo", wrong=" and ".join(wrong), are=are, before=login.rows[before], earlier=earlier, message=message))
+        yield Reason(row, said("echo", wrong=" and ".join(wrong), are=are, before=login.rows[before], earlier=earlier,
+                               message=message))
 
 
 def of_repeats(login: Login) -> Iterator[Reason]:
@@ -470,7 +471,8 @@ class Nonces:
 def folded(reasons: list[Reason]) -> list[Reason]:
     """Reasons of the same words on messages of the same name, as one: the first, which names the others."""
     numbered = re.compile(r"packet \d+|[\d.]+ m?s\b| \([^()]*computed[^()]*\)")
-    groups = grouped(((it.row.reading.called if it.row else it.text, numbered.sub("#", it.text).rstrip("#")), it) for it in reasons)
+    groups = grouped(((it.row.reading.called if it.row else it.text, numbered.sub("#", it.text).rstrip("#")), it)
+                     for it in reasons)
     found = []
     for first, *others in groups.values():
         numbers = ", ".join(it.row.number for it in others[:MOST_LISTED] if it.row) + f" and {len(others) - MOST_LISTED} more" * (
@@ -524,7 +526,8 @@ def of_capture(capture: Capture, rows: Optional[Sequence[Row]] = None) -> Iterat
         for part, whole in zip(told, batch):
             if story:
                 yield story
-            mine = rows[part.start : part.stop] if rows is not None else rows_of(packets.of([part]), [*islice(findings, len(part))])
+            found = [*islice(findings, len(part))]
+            mine = rows_of(packets.of([part]), found) if rows is None else rows[part.start : part.stop]
             then = packets.numbers[whole.stop] if whole.stop < last else None
             login = Login(list(mine), capture.users, capture.unsure, len(whole) - len(part), then, capture.until)
             while cut and (then is None or cut[-1][0] < then):

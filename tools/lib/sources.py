@@ -267,7 +267,8 @@ class Repository:
         """The crates as they stand here, or with these texts by their places."""
         self.below = crates_of(texts["crates.txt"] if texts else text_here())
         self.crates = list(self.below)
-        here = texts or {it.relative_to(ROOT).as_posix(): it.read_text() for crate in self.crates for it in files_of(crate, PARTS)}
+        paths = [it for crate in self.crates for it in files_of(crate, PARTS)] if texts is None else []
+        here = texts or {it.relative_to(ROOT).as_posix(): it.read_text() for it in paths}
         fronts = [f"crates/{crate}/{part}/" for crate in self.crates for part in PARTS]
         files = sorted(here, key=lambda it: it.split("/"))
         self.sources = {it: source_of(it, here[it]) for front in fronts for it in files if it.startswith(front)}
