@@ -35,8 +35,9 @@ pub enum Trouble {
 
 impl From<Failed> for Trouble {
     ghost use Rattle.std.specs.Prelude.{◌≡◌};
+    ghost use Rattle.command_driver.specs.declared.command.Trouble.TheVariants.{Write};
 
-    ghost from_gives = { λ _ trouble. trouble ≡ Trouble.Write };
+    ghost from_gives = { λ _ trouble. trouble ≡ Write };
 
     fn from(_failed: Failed) -> Trouble {
         Trouble::Write
