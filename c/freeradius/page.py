@@ -10,7 +10,6 @@ from __future__ import annotations
 import pathlib
 import re
 import subprocess
-from typing import List
 
 import servers
 
@@ -18,6 +17,7 @@ HERE = pathlib.Path(__file__).resolve().parent
 PAGE = servers.ROOT / "docs/SERVERS.md"
 # What goes before the commands.
 BEFORE = r"""set -eu
+echo "---- begun"
 mkdir -p /page/bin
 cd /page
 ln -s {root}/c .
@@ -54,28 +54,21 @@ cat */radcheck.sql
 """
 
 
-def blocks(language: str) -> List[str]:
+def blocks(language: str) -> list[str]:
     return re.findall(rf"^```{language}\n(.*?)^```$", PAGE.read_text(), re.M | re.S)
 
 
-class Followed:
-    """What came of it: the status, all that the commands wrote, and what the server logged."""
-
-    def __init__(self, work: str, source: str) -> None:
-        commands = "".join(blocks("sh"))
-        if source:
-            commands = commands.replace("modules fetch", f"modules {source}")
-        script = BEFORE.format(root=servers.ROOT) + ("" if source else FRESH) + commands + BEHIND
-        words = [f"{HERE}/apart", work, "sh", "-c", script]
-        # (descriptor 9 is the machine's network)
-        done = subprocess.run(words, stdout=subprocess.PIPE, stderr=subprocess.STDOUT, close_fds=False)
-        said, _, rest = done.stdout.decode("latin-1").partition("---- log\n")
-        self.status, self.said = done.returncode, said
-        self.log, _, keys = rest.partition("---- keys\n")
-        servers.know(keys)
-
-
-def reason_against(work: str) -> str:
-    """Why the page can't be followed here; nothing if it can."""
-    tried = subprocess.run([f"{HERE}/apart", work, "true"], stdout=subprocess.PIPE, stderr=subprocess.STDOUT)
-    return tried.stdout.decode(errors="replace").strip() or f"status {tried.returncode}" if tried.returncode else ""
+def follow(work: str, source: str) -> tuple[bool, int, str, str]:
+    """Whether it could be begun here, its status, all that the commands wrote, and what the server logged."""
+    commands = "".join(blocks("sh"))
+    if source:
+        commands = commands.replace("modules fetch", f"modules {source}")
+    script = BEFORE.format(root=servers.ROOT) + ("" if source else FRESH) + commands + BEHIND
+    words = [f"{HERE}/apart", work, "sh", "-c", script]
+    # (descriptor 9 is the machine's network)
+    done = subprocess.run(words, stdout=subprocess.PIPE, stderr=subprocess.STDOUT, close_fds=False)
+    against, begun, written = done.stdout.decode("latin-1").partition("---- begun\n")
+    said, _, rest = written.partition("---- log\n")
+    log, _, keys = rest.partition("---- keys\n")
+    servers.know(keys)
+    return bool(begun), done.returncode, said if begun else against.strip(), log

@@ -2,16 +2,14 @@
 
 from __future__ import annotations
 
-import dataclasses
 import pathlib
 import re
-import signal
 import subprocess
 import sys
 import time
-from typing import List, Optional, Sequence, Set
+from typing import NamedTuple, Sequence
 
-from configuration import MODS_CONFIG, PORT, SECRET, SQL_FILE, Configuration
+from configuration import PORT, SECRET, Configuration
 
 ROOT = pathlib.Path(__file__).resolve().parent.parent.parent
 sys.path.append(f"{ROOT}/live")
@@ -19,53 +17,61 @@ import ends  # noqa: E402
 import ways  # noqa: E402
 
 USERS = 1000
-KEYS = {
-    "GPSK": "000102030405060708090a0b0c0d0e0f101112131415161718191a1b1c1d1e1f",
-    "PSK": "00112233445566778899aabbccddeeff",
-}
-BOBS_KEY = "ffeeddccbbaa99887766554433221100"
-ERNAS_KEY = bytes(range(32, 64)).hex()
-OLD_KEYS = {"GPSK": "a0" * 31 + "a1", "PSK": "a0" * 15 + "a1"}
-NEW_KEYS = {"GPSK": "b0" * 31 + "b1", "PSK": "b0" * 15 + "b1"}
 DORAS_KEY = "a key of forty octets, as text, for dora"
 PASSWORD = "a password of gerda"
-
-
-def two_keys(method: str) -> str:
-    return f"Tuvaddri-{method}-Key := 0x{OLD_KEYS[method]}, Tuvaddri-{method}-Key += 0x{NEW_KEYS[method]}"
-
-
-BOTH_OF_ALICE = f"Tuvaddri-GPSK-Key := 0x{KEYS['GPSK']}, Tuvaddri-PSK-Key := 0x{KEYS['PSK']}"
-PEOPLE = f"""alice	{BOTH_OF_ALICE}
-alice@far	{BOTH_OF_ALICE}
-bob	EAP-Type := PSK, Tuvaddri-PSK-Key := 0x{BOBS_KEY}
+# Keys by a name of theirs, which is the user's where it is one.
+KEYS = {
+    "alice": {"GPSK": bytes(range(32)).hex(), "PSK": "00112233445566778899aabbccddeeff"},
+    "bob": {"PSK": "ffeeddccbbaa99887766554433221100"},
+    "dora": {"GPSK": DORAS_KEY.encode().hex()},
+    "erna": {"GPSK": bytes(range(32, 64)).hex()},
+    "digits": {"GPSK": bytes(range(32)).hex().encode().hex()},
+    "old": {"GPSK": "a0" * 31 + "a1", "PSK": "a0" * 15 + "a1"},
+    "new": {"GPSK": "b0" * 31 + "b1", "PSK": "b0" * 15 + "b1"},
+    "wrong": {"GPSK": "ff" * 32, "PSK": "ff" * 16},
+}
+# The users of all stores beside those of load, with names of keys: as octets, and as text in quotes.
+NAMED = f"""alice	GPSK := alice, PSK := alice
+alice@far	GPSK := alice, PSK := alice
+bob	EAP-Type := PSK, PSK := bob
 carol	EAP-Type := GPSK, Tuvaddri-GPSK-Key := 0x0001
 dora	Cleartext-Password := "{DORAS_KEY}"
-erna	Cleartext-Password := "0x{ERNAS_KEY}"
+erna	Cleartext-Password := "0x{KEYS["erna"]["GPSK"]}"
 frank	Cleartext-Password := "0x{'00' * 65}"
 gerda	Cleartext-Password := "{PASSWORD}"
-hugo	Auth-Type := Reject, {BOTH_OF_ALICE}
-ida	{two_keys("GPSK")}, {two_keys("PSK")}
-jan	{two_keys("GPSK")}, Tuvaddri-GPSK-Key += 0x{ERNAS_KEY}
-kai	Tuvaddri-GPSK-Key := "{KEYS["GPSK"]}", Tuvaddri-PSK-Key := "{KEYS["PSK"]}"
-lea	Tuvaddri-GPSK-Key := "{KEYS["GPSK"]}", Tuvaddri-GPSK-Key += 0x{KEYS["GPSK"]}
-mia	Tuvaddri-GPSK-Key := 0x{KEYS["GPSK"]}, Tuvaddri-GPSK-Key += "{KEYS["GPSK"]}"
+hugo	Auth-Type := Reject, GPSK := alice, PSK := alice
+ida	GPSK := old, GPSK += new, PSK := old, PSK += new
+jan	GPSK := old, GPSK += new, GPSK += erna
+kai	GPSK := "alice", PSK := "alice"
+lea	GPSK := "alice", GPSK += alice
+mia	GPSK := alice, GPSK += "alice"
 """
-# The rows of SQL, beside those of load.
-ROWS = [(user, f"Tuvaddri-{method}-Key", ":=", f"0x{key}") for user in ("alice", "hugo") for method, key in KEYS.items()]
-ROWS += [("hugo", "Auth-Type", ":=", "Reject"), ("kai", "Tuvaddri-GPSK-Key", ":=", KEYS["GPSK"])]
-ROWS += [("ida", f"Tuvaddri-{method}-Key", "+=", f"0x{keys[method]}") for keys in (OLD_KEYS, NEW_KEYS) for method in KEYS]
+
+
+def with_key(found: re.Match[str]) -> str:
+    method, operator, quote, name = found.groups()
+    return f"Tuvaddri-{method}-Key {operator} {quote or '0x'}{KEYS[name][method]}"
+
+
+PEOPLE = re.sub(r'\b(G?PSK) (:=|\+=) ("?)(\w+)', with_key, NAMED)
 
 
 def write_users(work: str) -> None:
     """The users of all stores: those above, and those of load."""
     pathlib.Path(work, "users").write_text(PEOPLE + keys_of(work, "freeradius"))
-    insert = "INSERT INTO radcheck (username, attribute, op, value) VALUES ('{}','{}','{}','{}');\n"
-    pathlib.Path(work, SQL_FILE).unlink(missing_ok=True)
-    schema = pathlib.Path(f"{MODS_CONFIG}/sql/main/sqlite/schema.sql").read_text()
-    text = schema + "BEGIN;\n" + keys_of(work, "sql") + "".join(insert.format(*row) for row in ROWS) + "COMMIT;\n"
-    subprocess.run(["sqlite3", f"{work}/{SQL_FILE}"], input=text, text=True, check=True, stdout=subprocess.DEVNULL)
-    know(PEOPLE + text)
+    pathlib.Path(work, "users.db").unlink(missing_ok=True)
+    rows = "BEGIN;\n" + keys_of(work, "sql")
+    for user, attributes in re.findall("(.*)\t(.*)", PEOPLE):
+        for name, operator, value in re.findall('([A-Z][A-Za-z-]+) (..) ("[^"]*"|[^,]*)', attributes):
+            told = (user, name, operator, value.strip('"'))
+            rows += f"INSERT INTO radcheck (username, attribute, op, value) VALUES {told};\n"
+    add_rows(work, pathlib.Path("/etc/freeradius/3.0/mods-config/sql/main/sqlite/schema.sql").read_text())
+    add_rows(work, f"{rows}COMMIT;\n")
+    know(PEOPLE + rows)
+
+
+def add_rows(work: str, text: str) -> None:
+    subprocess.run(["sqlite3", f"{work}/users.db"], input=text, text=True, check=True, stdout=subprocess.DEVNULL)
 
 
 def keys_of(work: str, form: str) -> str:
@@ -80,19 +86,15 @@ class Server:
         self.words, self.log, self.ready, self.seconds = words, pathlib.Path(log), ready, seconds
 
     def __enter__(self) -> Server:
-        self.log.unlink(missing_ok=True)
-        with open(f"{self.log}.out", "wb") as out:
-            self.process = subprocess.Popen(self.words, stdin=subprocess.DEVNULL, stdout=out, stderr=subprocess.STDOUT)
-        until = time.monotonic() + self.seconds
-        while time.monotonic() < until and self.process.poll() is None:
-            if self.ready in self.said():
-                return self
-            time.sleep(0.05)
-        self.__exit__()
-        raise ends.Failed(f"{self.words[0]} doesn't begin: {self.said()[-1500:]}")
+        with self.log.open("wb") as log:
+            self.process = subprocess.Popen(self.words, stdin=subprocess.DEVNULL, stdout=log, stderr=subprocess.STDOUT)
+        if not self.says(self.ready, self.seconds):
+            self.__exit__()
+            raise ends.Failed(f"{self.words[0]} doesn't begin: {self.said()[-1500:]}")
+        return self
 
     def __exit__(self, *_: object) -> None:
-        self.process.send_signal(signal.SIGTERM)
+        self.process.terminate()
         try:
             self.process.wait(30)
         except subprocess.TimeoutExpired:
@@ -100,18 +102,18 @@ class Server:
             self.process.wait()
 
     def said(self) -> str:
-        return "".join(it.read_text(encoding="latin-1") for it in (self.log, pathlib.Path(f"{self.log}.out")) if it.exists())
+        return self.log.read_text(encoding="latin-1")
 
     def says(self, pattern: str, seconds: float) -> bool:
-        """Whether it comes to say this within so many seconds."""
+        """Whether it comes to say this within so many seconds, before it ends."""
         until = time.monotonic() + seconds
         while not re.search(pattern, self.said()):
-            if time.monotonic() > until:
+            if self.process.poll() is not None or time.monotonic() > until:
                 return False
-            time.sleep(0.1)
+            time.sleep(0.05)
         return True
 
-    def lines(self) -> List[str]:
+    def lines(self) -> list[str]:
         """What the modules have logged of logins."""
         return re.findall(r"^.{24} : Auth: (EAP-G?PSK .*)", self.said(), re.M)
 
@@ -124,8 +126,8 @@ class Searched(Server):
     """A server in whose log keys and reasons are looked for at its end."""
 
     logs = 0
-    leaks: List[str] = []
-    reasons: Set[str] = set()
+    leaks: list[str] = []
+    reasons: set[str] = set()
 
     def __exit__(self, *_: object) -> None:
         super().__exit__()
@@ -135,7 +137,7 @@ class Searched(Server):
 
 
 # The keys of the stores, and those that logins have given, each as its runs of sixteen hex digits.
-known: Set[str] = set()
+known: set[str] = set()
 
 
 def know(text: str) -> None:
@@ -143,23 +145,18 @@ def know(text: str) -> None:
         known.update(run[at : at + 16] for at in range(len(run) - 15))
 
 
-def keys_in(text: str) -> List[str]:
-    """What of a key stands in a text: sixteen digits in a row, eight octets as they are, or a password."""
+def keys_in(text: str) -> list[str]:
+    """What of a key stands in a text: sixteen digits in a row, eight octets of one of the people as they are, or a password."""
     found = [it for it in (DORAS_KEY, PASSWORD) if it in text]
-    found += [it for it in know_people() if bytes.fromhex(it).decode("latin-1") in text]
+    found += [it for it in re.findall("0x([0-9a-f]{16})", PEOPLE) if bytes.fromhex(it).decode("latin-1") in text]
     for run in re.findall("[0-9A-Fa-f]{16,}", text):
         found += [run for at in range(len(run) - 15) if run[at : at + 16].lower() in known]
     return found
 
 
-def know_people() -> List[str]:
-    """Eight octets of each key of the people above."""
-    return [it[:16] for it in re.findall("0x([0-9a-f]{16,})", PEOPLE)]
-
-
 def freeradius(work: str, configuration: Configuration, before: Sequence[str] = (), seconds: float = 120) -> Server:
     folder = configuration.write(work)
-    words = [*before, "freeradius", "-d", folder, "-f"]
+    words = [*before, "freeradius", "-d", folder, "-f", "-l", "stdout"]
     return Searched(words, f"{folder}/server.log", "Ready to process requests", seconds)
 
 
@@ -173,34 +170,37 @@ def hostapd(work: str, method: str, before: Sequence[str] = ()) -> Server:
     return Server([*before, "hostapd", f"{work}/hostapd.conf"], f"{work}/hostapd.log", "AP-ENABLED")
 
 
-@dataclasses.dataclass
-class Station:
+class Station(NamedTuple):
     """A login of eapol_test: whether it succeeded, and with equal link keys; how many requests it took; what it said."""
 
     is_good: bool
     requests: int
     said: str
 
-    def is_refused(self, requests: int) -> bool:
-        return not self.is_good and "(Access-Reject)" in self.said and self.requests == requests
+
+# A name with a line of a log in it, and how the log has it.
+FORGED = 'x"\nSun Nov 29 21:36:05 2026 : Auth: EAP-GPSK accepted user="root"\x1b\\\xe9'
+SHOWN = r"x\x22\x0aSun Nov 29 21:36:05 2026 : Auth: EAP-GPSK accepted user=\x22root\x22\x1b\x5c\xe9"
 
 
-def station(
-    work: str,
-    method: str = "GPSK",
-    suite: int = 1,
-    user: str = "alice",
-    key: Optional[str] = None,
-    outer: str = "",
-    words: Sequence[str] = (),
-) -> Station:
-    identity = f'"{user}"' if re.fullmatch(r"[a-z0-9@.]+", user) else user.encode("latin-1").hex()
-    lines = ["ap_scan=0", "network={", "key_mgmt=IEEE8021X", "eapol_flags=0", f"eap={method}", f"identity={identity}"]
-    lines += [f'phase1="cipher={suite}"'] if method == "GPSK" else []
-    lines += [f'anonymous_identity="{outer}"'] if outer else []
-    lines += [f"password={key or KEYS[method]}", "}", ""]
-    pathlib.Path(work, "station.conf").write_text("\n".join(lines))
-    return log_in(f"{work}/station.conf", words)
+def station(work: str, words: str) -> Station:
+    """A login by words of logins.txt."""
+    if words.endswith(".conf"):
+        return log_in(f"{work}/made/{words}")
+    method, *rest = words.split()
+    suite = rest.pop(0) if rest and rest[0].isdigit() else "1"
+    named = dict(it.split("=") for it in rest if "=" in it)
+    user = named.get("user", "alice")
+    key = KEYS.get(named.get("key", user), KEYS["alice"]).get(method, "00")
+    lines = ["ap_scan=0", "network={", "key_mgmt=IEEE8021X", "eapol_flags=0", f"eap={method}", f'phase1="cipher={suite}"']
+    lines += [f"identity={octets_of(user)}", f"password={key}"]
+    lines += [f'anonymous_identity="{named["outer"]}"'] if "outer" in named else []
+    pathlib.Path(work, "station.conf").write_text("\n".join([*lines, "}", ""]))
+    return log_in(f"{work}/station.conf", [it.replace("FORGED", octets_of("FORGED")) for it in rest if "=" not in it])
+
+
+def octets_of(name: str) -> str:
+    return name.replace("FORGED", FORGED).encode("latin-1").hex()
 
 
 def log_in(conf: str, words: Sequence[str] = ()) -> Station:
@@ -219,29 +219,23 @@ def has_same_keys(said: str) -> bool:
     return "MSK" in keys and link.get("Recv", "") + link.get("Send", "") == keys["MSK"]
 
 
-@dataclasses.dataclass
-class Load:
+class Load(NamedTuple):
     """What load wrote at its end."""
 
     said: str
     good: int = 0
     mismatches: int = -1
     rate: float = 0
-    client: float = 0
-    milliseconds: str = ""
 
 
-LOAD = re.compile(
-    r"\d+ logins: (\d+) good, \d+ bad, (\d+) mppe mismatches, \d+ sent again; "
-    r"[0-9.]+ s, (\d+) logins/s, client ([0-9.]+) s, ms ([0-9. ]+)"
-)
+LOAD = re.compile(r"\d+ logins: (\d+) good, \d+ bad, (\d+) mppe mismatches, .* s, (\d+) logins/s")
 
 
-def load(work: str, *words: object, before: Sequence[str] = ()) -> Load:
-    """Logins by load; the words are those behind SECRET, and `before` stands before PORT."""
-    ask: List[str] = [f"{work}/load", *before, str(PORT), SECRET, *map(str, words)]
+def load(work: str, method: str, count: int, at_once: int, *words: int, begins: bool = False) -> Load:
+    """Logins by load, by a method with its suite, or such as are only begun; the words are those behind the users."""
+    name, _, suite = method.partition(" ")
+    told = (ways.TYPES[name], suite or 0, count, at_once, USERS, *words)
+    ask = [f"{work}/load", *(["begin"] if begins else []), str(PORT), SECRET, *map(str, told)]
     ran = subprocess.run(ask, stdout=subprocess.PIPE, stderr=subprocess.STDOUT, text=True, timeout=400)
-    found = LOAD.search(ran.stdout)
-    if not found:
-        return Load(ran.stdout.strip())
-    return Load(ran.stdout.strip(), int(found[1]), int(found[2]), float(found[3]), float(found[4]), found[5])
+    found, said = LOAD.search(ran.stdout), ran.stdout.strip()
+    return Load(said, int(found[1]), int(found[2]), float(found[3])) if found else Load(said)
