@@ -13,24 +13,8 @@ HERE = pathlib.Path(__file__).resolve().parent
 SECRET, HOME_SECRET = "testing123", "homesecret"
 PORT = 1812
 HOME_PORTS = (1813, 1814)
-SQL_FILE = "users.db"
-# Where Debian's package has the configurations of FreeRADIUS's own modules.
-MODS_CONFIG = "/etc/freeradius/3.0/mods-config"
 # Where the virtual server "inner" looks a name up, if not in a file.
 STORES = {"sql": "sql", "once": "sql"}
-
-BOTH = 'gpsk {{\n\tserver_id = "srv"\n\tkey_attribute = "Tuvaddri-GPSK-Key"\n{0}}}\n'
-BOTH += 'psk {{\n\tserver_id = "srv"\n\tkey_attribute = "Tuvaddri-PSK-Key"\n{0}}}\n'
-# The sub-modules; the first is the commented file as it stands.
-MODULES = {
-    "stock": f"$INCLUDE {HERE}/tuvaddri\n",
-    "inner": BOTH.format('\tinner_identity = yes\n\tvirtual_server = "inner"\n'),
-    "once": BOTH.format('\tvirtual_server = "inner"\n'),
-    "broken": BOTH.format('\tvirtual_server = "broken"\n'),
-    # Keys in FreeRADIUS's own attribute; a name for each realm; wpa_supplicant's Session-Id; the first fault ends a login.
-    "text": 'gpsk {\n\tserver_id = "srv-%{%{Realm}:-here}"\n\tsuites = 2\n\tsession_id = wpa\n\tmax_discards = 0\n}\n'
-    'psk {\n\tserver_id = "srv-%{%{Realm}:-here}"\n}\n',
-}
 
 
 class Text(string.Template):
@@ -44,7 +28,7 @@ class Configuration:
     """What one server differs in from another."""
 
     site: str = "files"
-    modules: str = "stock"
+    settings: str = ""  # of both sub-modules
     first: str = "gpsk"  # the method that is proposed
     threads: int = 4
     port: int = PORT
@@ -61,7 +45,18 @@ class Configuration:
         shutil.rmtree(folder, ignore_errors=True)
         folder.mkdir()
         told = {**dataclasses.asdict(self), "work": work, "folder": folder, "store": STORES.get(self.site, "files")}
-        told["modules"] = MODULES.get(self.modules, self.modules)
+        told["modules"] = self.modules()
         (folder / "radiusd.conf").write_text(Text((HERE / "radiusd.conf").read_text()).substitute(told))
         (folder / "dictionary").write_text(f"$INCLUDE {HERE}/dictionary\n")
         return str(folder)
+
+    def modules(self) -> str:
+        """Both sub-modules with the settings; where there are none, by the commented file as it stands."""
+        if not self.settings:
+            return f"$INCLUDE {HERE}/tuvaddri"
+        made = ""
+        for method in ("GPSK", "PSK"):
+            words = ["server_id=srv", f"key_attribute=Tuvaddri-{method}-Key", *self.settings.split()]
+            lines = (f'{name} = "{value}"' for name, value in dict(it.split("=") for it in words).items() if value)
+            made += "\n".join([f"{method.lower()} {{", *lines, "}", ""])
+        return made

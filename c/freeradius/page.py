@@ -25,18 +25,7 @@ PATH=/page/bin:/usr/sbin:/usr/bin:/sbin:/bin
 printf '#!/bin/sh\nexit 101\n' >/usr/sbin/policy-rc.d
 printf '#!/bin/sh\nexec "$@"\n' >bin/sudo
 printf '#!/bin/sh\nexec nsenter --net=/proc/self/fd/9 /usr/bin/apt-get "$@"\n' >bin/apt-get
-cat >bin/systemctl <<'TEXT'
-#!/bin/sh
-# systemctl restart freeradius
-set -eu
-pid=$(cat /run/freeradius/freeradius.pid 2>/dev/null || true)
-if [ -n "$pid" ]; then
-    kill "$pid"
-    while kill -0 "$pid" 2>/dev/null; do sleep 0.1; done
-fi
-install -d -o freerad -g freerad /run/freeradius
-exec freeradius
-TEXT
+printf '#!/bin/sh\nservice "$2" stop\nexec service "$2" start\n' >bin/systemctl
 chmod 755 bin/* /usr/sbin/policy-rc.d
 """
 FRESH = """apt-get -qq -y purge 'freeradius*' 'libfreeradius*' eapoltest libtalloc-dev sqlite3 >purged 2>&1 || cat purged
@@ -46,7 +35,7 @@ rm -rf /etc/freeradius /var/log/freeradius
 # (dave's login is refused, which is what the page promises)
 BEHIND = """
 eapol_test -c more/dave.conf -a 127.0.0.1 -s testing123 && exit 1
-kill "$(cat /run/freeradius/freeradius.pid)"
+service freeradius stop
 echo "---- log"
 cat /var/log/freeradius/radius.log
 echo "---- keys"
