@@ -14,6 +14,7 @@ from configuration import PORT, SECRET, Configuration
 ROOT = pathlib.Path(__file__).resolve().parent.parent.parent
 sys.path.append(f"{ROOT}/live")
 import ends  # noqa: E402
+import programs  # noqa: E402
 import ways  # noqa: E402
 
 USERS = 1000
@@ -162,12 +163,12 @@ def freeradius(work: str, configuration: Configuration, before: Sequence[str] = 
 
 def hostapd(work: str, method: str, before: Sequence[str] = ()) -> Server:
     """hostapd's RADIUS server, with its own methods."""
-    pathlib.Path(work, "hostapd.users").write_text(keys_of(work, method.lower()))
-    pathlib.Path(work, "hostapd.clients").write_text(f"127.0.0.1 {SECRET}\n")
-    lines = ["driver=none", "interface=lo0", "eap_server=1", f"eap_user_file={work}/hostapd.users", "server_id=srv"]
-    lines += [f"radius_server_clients={work}/hostapd.clients", f"radius_server_auth_port={PORT}"]
-    pathlib.Path(work, "hostapd.conf").write_text("\n".join(lines) + "\n")
-    return Server([*before, "hostapd", f"{work}/hostapd.conf"], f"{work}/hostapd.log", "AP-ENABLED")
+    users = programs.write(work, "hostapd.users", keys_of(work, method.lower()))
+    clients = programs.write(work, "hostapd.clients", f"127.0.0.1 {SECRET}")
+    lines = ["driver=none", "interface=lo0", "eap_server=1", f"eap_user_file={users}", "server_id=srv"]
+    lines += [f"radius_server_clients={clients}", f"radius_server_auth_port={PORT}"]
+    words = [*before, "hostapd", programs.write(work, "hostapd.conf", *lines)]
+    return Server(words, f"{work}/hostapd.log", "AP-ENABLED")
 
 
 class Station(NamedTuple):
@@ -195,8 +196,8 @@ def station(work: str, words: str) -> Station:
     lines = ["ap_scan=0", "network={", "key_mgmt=IEEE8021X", "eapol_flags=0", f"eap={method}", f'phase1="cipher={suite}"']
     lines += [f"identity={octets_of(user)}", f"password={key}"]
     lines += [f'anonymous_identity="{named["outer"]}"'] if "outer" in named else []
-    pathlib.Path(work, "station.conf").write_text("\n".join([*lines, "}", ""]))
-    return log_in(f"{work}/station.conf", [it.replace("FORGED", octets_of("FORGED")) for it in rest if "=" not in it])
+    conf = programs.write(work, "station.conf", *lines, "}")
+    return log_in(conf, [it.replace("FORGED", octets_of("FORGED")) for it in rest if "=" not in it])
 
 
 def octets_of(name: str) -> str:
@@ -207,16 +208,12 @@ def log_in(conf: str, words: Sequence[str] = ()) -> Station:
     """By a file of wpa_supplicant's."""
     ask = ["eapol_test", "-c", conf, "-a", "127.0.0.1", "-p", str(PORT), "-s", SECRET, "-t", "30", *words]
     ran = subprocess.run(ask, stdout=subprocess.PIPE, stderr=subprocess.STDOUT, text=True, errors="replace", timeout=120)
+    link, keys = dict(ways.LINK_KEY.findall(ran.stdout)), dict(ways.THEIR_KEY.findall(ran.stdout))
+    know("\n".join(keys.values()).replace(" ", ""))
+    # (eapol_test compares the first of the link keys, which are the halves of the MSK, by itself)
     is_same = ran.returncode == 0 and ways.EQUAL_LINK_KEYS in ran.stdout
-    requests = ran.stdout.count("Sending RADIUS message")
-    know("\n".join(octets.replace(" ", "") for _, octets in ways.THEIR_KEY.findall(ran.stdout)))
-    return Station(is_same and has_same_keys(ran.stdout), requests, ran.stdout)
-
-
-def has_same_keys(said: str) -> bool:
-    """Whether the link keys are the halves of the MSK; eapol_test compares the first of them by itself."""
-    link, keys = dict(ways.LINK_KEY.findall(said)), dict(ways.THEIR_KEY.findall(said))
-    return "MSK" in keys and link.get("Recv", "") + link.get("Send", "") == keys["MSK"]
+    is_good = is_same and "MSK" in keys and link.get("Recv", "") + link.get("Send", "") == keys["MSK"]
+    return Station(is_good, ran.stdout.count("Sending RADIUS message"), ran.stdout)
 
 
 class Load(NamedTuple):
