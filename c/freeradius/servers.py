@@ -76,8 +76,14 @@ def add_rows(work: str, text: str) -> None:
 
 
 def keys_of(work: str, form: str) -> str:
-    words = [f"{work}/load", "keys", form, str(USERS)]
-    return subprocess.run(words, stdout=subprocess.PIPE, text=True, check=True).stdout
+    return answer([f"{work}/load", "keys", form, str(USERS)])[1]
+
+
+def answer(words: Sequence[str], given: str = "") -> tuple[int, str]:
+    """The status with which a command ends, and what it writes."""
+    pipe = subprocess.PIPE
+    done = subprocess.run(words, input=given, stdout=pipe, stderr=subprocess.STDOUT, text=True, errors="replace", timeout=400)
+    return done.returncode, done.stdout
 
 
 class Server:
@@ -207,13 +213,13 @@ def octets_of(name: str) -> str:
 def log_in(conf: str, words: Sequence[str] = ()) -> Station:
     """By a file of wpa_supplicant's."""
     ask = ["eapol_test", "-c", conf, "-a", "127.0.0.1", "-p", str(PORT), "-s", SECRET, "-t", "30", *words]
-    ran = subprocess.run(ask, stdout=subprocess.PIPE, stderr=subprocess.STDOUT, text=True, errors="replace", timeout=120)
-    link, keys = dict(ways.LINK_KEY.findall(ran.stdout)), dict(ways.THEIR_KEY.findall(ran.stdout))
+    status, said = answer(ask)
+    link, keys = dict(ways.LINK_KEY.findall(said)), dict(ways.THEIR_KEY.findall(said))
     know("\n".join(keys.values()).replace(" ", ""))
     # (eapol_test compares the first of the link keys, which are the halves of the MSK, by itself)
-    is_same = ran.returncode == 0 and ways.EQUAL_LINK_KEYS in ran.stdout
+    is_same = status == 0 and ways.EQUAL_LINK_KEYS in said
     is_good = is_same and "MSK" in keys and link.get("Recv", "") + link.get("Send", "") == keys["MSK"]
-    return Station(is_good, ran.stdout.count("Sending RADIUS message"), ran.stdout)
+    return Station(is_good, said.count("Sending RADIUS message"), said)
 
 
 class Load(NamedTuple):
@@ -233,6 +239,6 @@ def load(work: str, method: str, count: int, at_once: int, *words: int, begins: 
     name, _, suite = method.partition(" ")
     told = (ways.TYPES[name], suite or 0, count, at_once, USERS, *words)
     ask = [f"{work}/load", *(["begin"] if begins else []), str(PORT), SECRET, *map(str, told)]
-    ran = subprocess.run(ask, stdout=subprocess.PIPE, stderr=subprocess.STDOUT, text=True, timeout=400)
-    found, said = LOAD.search(ran.stdout), ran.stdout.strip()
+    said = answer(ask)[1].strip()
+    found = LOAD.search(said)
     return Load(said, int(found[1]), int(found[2]), float(found[3])) if found else Load(said)
