@@ -4,19 +4,22 @@ from __future__ import annotations
 
 import pathlib
 import re
+import shutil
+import string
 import subprocess
 import sys
 import time
 from typing import NamedTuple, Sequence
 
-from configuration import PORT, SECRET, Configuration
-
-ROOT = pathlib.Path(__file__).resolve().parent.parent.parent
+HERE = pathlib.Path(__file__).resolve().parent
+ROOT = HERE.parent.parent
 sys.path.append(f"{ROOT}/live")
 import ends  # noqa: E402
 import programs  # noqa: E402
 import ways  # noqa: E402
 
+SECRET, HOME_SECRET = "testing123", "homesecret"
+PORT, HOME_PORTS = 1812, (1813, 1814)
 USERS = 1000
 DORAS_KEY = "a key of forty octets, as text, for dora"
 PASSWORD = "a password of gerda"
@@ -161,10 +164,50 @@ def keys_in(text: str) -> list[str]:
     return found
 
 
-def freeradius(work: str, configuration: Configuration, before: Sequence[str] = (), seconds: float = 120) -> Server:
-    folder = configuration.write(work)
-    words = [*before, "freeradius", "-d", folder, "-f", "-l", "stdout"]
-    return Searched(words, f"{folder}/server.log", "Ready to process requests", seconds)
+class Text(string.Template):
+    """FreeRADIUS's own words begin with a dollar sign."""
+
+    delimiter = "@"
+
+
+# What one server can differ in from another, by radiusd.conf; window is in seconds.
+WORDS = {"first": "gpsk", "threads": 4, "port": PORT, "secret": SECRET, "timer": 60, "sessions": 65536, "window": 20, "more": ""}
+
+
+def freeradius(
+    work: str,
+    site: str = "files",
+    settings: str = "",
+    before: Sequence[str] = (),
+    seconds: float = 120,
+    name: str = "server",
+    **words: object,
+) -> Server:
+    """FreeRADIUS in a folder of this name, with settings of both methods; `before` stands before its program's words."""
+    if not words.keys() <= WORDS.keys():
+        raise TypeError(f"radiusd.conf has none of {', '.join(words)}")
+    folder = pathlib.Path(work, name)
+    shutil.rmtree(folder, ignore_errors=True)
+    folder.mkdir()
+    # (where the virtual server "inner" looks a name up)
+    store = "sql" if site in ("sql", "once") else "files"
+    told = {**WORDS, "site": site, "modules": modules(settings), "work": work, "folder": folder, "store": store, **words}
+    (folder / "radiusd.conf").write_text(Text((HERE / "radiusd.conf").read_text()).substitute(told))
+    (folder / "dictionary").write_text(f"$INCLUDE {HERE}/dictionary\n")
+    ask = [*before, "freeradius", "-d", str(folder), "-f", "-l", "stdout"]
+    return Searched(ask, f"{folder}/server.log", "Ready to process requests", seconds)
+
+
+def modules(settings: str) -> str:
+    """Both sub-modules with the settings; where there are none, by the commented file as it stands."""
+    if not settings:
+        return f"$INCLUDE {HERE}/tuvaddri"
+    made = ""
+    for method in ("GPSK", "PSK"):
+        words = ["server_id=srv", f"key_attribute=Tuvaddri-{method}-Key", *settings.split()]
+        lines = (f'{name} = "{value}"' for name, value in dict(it.split("=") for it in words).items() if value)
+        made += "\n".join([f"{method.lower()} {{", *lines, "}", ""])
+    return made
 
 
 def hostapd(work: str, method: str, before: Sequence[str] = ()) -> Server:
