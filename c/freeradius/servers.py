@@ -171,41 +171,37 @@ class Text(string.Template):
 
 
 # What one server can differ in from another, by radiusd.conf; window is in seconds.
-WORDS = {"first": "gpsk", "threads": 4, "port": PORT, "secret": SECRET, "timer": 60, "sessions": 65536, "window": 20, "more": ""}
+WORDS = {"first": "gpsk", "threads": 4, "port": PORT, "secret": SECRET, "timer": 60, "sessions": 65536, "window": 20}
 
 
 def freeradius(
-    work: str,
-    site: str = "files",
-    settings: str = "",
-    before: Sequence[str] = (),
-    seconds: float = 120,
-    name: str = "server",
-    **words: object,
+    work: str, words: str = "files", before: Sequence[str] = (), seconds: float = 120, name: str = "server", more: str = ""
 ) -> Server:
-    """FreeRADIUS in a folder of this name, with settings of both methods; `before` stands before its program's words."""
-    if not words.keys() <= WORDS.keys():
-        raise TypeError(f"radiusd.conf has none of {', '.join(words)}")
+    """FreeRADIUS in a folder of this name: the words are its site, what it differs in, and settings of both methods; `before`
+    stands before its program's words, `more` behind its configuration."""
     folder = pathlib.Path(work, name)
     shutil.rmtree(folder, ignore_errors=True)
     folder.mkdir()
+    site, *given = words.split()
+    settings = dict(it.split("=") for it in given)
+    own = {it: settings.pop(it) for it in WORDS if it in settings}
     # (where the virtual server "inner" looks a name up)
     store = "sql" if site in ("sql", "once") else "files"
-    told = {**WORDS, "site": site, "modules": modules(settings), "work": work, "folder": folder, "store": store, **words}
-    (folder / "radiusd.conf").write_text(Text((HERE / "radiusd.conf").read_text()).substitute(told))
+    told = {"site": site, "modules": modules(settings), "work": work, "folder": folder, "store": store, "more": more}
+    (folder / "radiusd.conf").write_text(Text((HERE / "radiusd.conf").read_text()).substitute(told, **{**WORDS, **own}))
     (folder / "dictionary").write_text(f"$INCLUDE {HERE}/dictionary\n")
     ask = [*before, "freeradius", "-d", str(folder), "-f", "-l", "stdout"]
     return Searched(ask, f"{folder}/server.log", "Ready to process requests", seconds)
 
 
-def modules(settings: str) -> str:
+def modules(settings: dict[str, str]) -> str:
     """Both sub-modules with the settings; where there are none, by the commented file as it stands."""
     if not settings:
         return f"$INCLUDE {HERE}/tuvaddri"
     made = ""
     for method in ("GPSK", "PSK"):
-        words = ["server_id=srv", f"key_attribute=Tuvaddri-{method}-Key", *settings.split()]
-        lines = (f'{name} = "{value}"' for name, value in dict(it.split("=") for it in words).items() if value)
+        words = {"server_id": "srv", "key_attribute": f"Tuvaddri-{method}-Key", **settings}
+        lines = (f'{name} = "{value}"' for name, value in words.items() if value)
         made += "\n".join([f"{method.lower()} {{", *lines, "}", ""])
     return made
 
