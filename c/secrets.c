@@ -373,11 +373,12 @@ __attribute__((noinline)) static void paint(void)
 		room[i] = PAINT;
 }
 
-/* The octets below the caller down to where the paint is left. */
+/* The octets below the caller down to where the paint is left.  (An Arm frame's
+ * address is its lower end, so that the paint ends above PAINTED octets below.) */
 __attribute__((noinline)) static size_t deepest(void)
 {
 	const volatile uint8_t *top = __builtin_frame_address(0);
-	size_t depth = PAINTED;
+	size_t depth = PAINTED - 256;
 
 	while (depth && *(top - depth) == PAINT)
 		depth--;

@@ -1,12 +1,13 @@
 #!/usr/bin/env python3
 """What becomes of keys in secrets.c.
 
-    secrets.py left PROGRAM keep|clear      where octets of a key are left in memory, when all is closed and cleared
-    secrets.py branches PROGRAM LIST        where memcheck sees an address or a branch that depends on a key, beside LIST
+    secrets.py left keep|clear COMMAND ..   where octets of a key are left in memory, when all is closed and cleared
+    secrets.py branches LIST PROGRAM        where memcheck sees an address or a branch that depends on a key, beside LIST
 
 `left` computes the keys and Session-Ids of each conversation from its packets, and searches the writable memory of the
 stopped program for any 16 successive octets of the keys, and of what is derived from them: round keys of AES, L, K1 and
-K2 of CMAC, HMAC's midstates. The status is 0 where none is found.
+K2 of CMAC, HMAC's midstates. Of a program under an emulator that is the emulator's memory, with the registers that it
+holds for the program. The status is 0 where none is found.
 
 `branches` needs valgrind. LIST has a line `FUNCTION PLACES`, ` # ` and why, for each function that branches on a key.
 The status is 0 where there is no such address, and no such branch but those of the list.
@@ -287,10 +288,10 @@ def values(word, lines):
     return [bytes.fromhex(line.split()[1]) for line in lines if line.split()[:1] == [word]]
 
 
-def run_stopped(program, way, word, keys):
+def run_stopped(command, way, word, keys):
     """What is left of keys when the program has stopped."""
     with tempfile.TemporaryFile("w+") as said:
-        it = subprocess.Popen([program, *way, word, "stop"], stdin=subprocess.PIPE, stdout=said)
+        it = subprocess.Popen([*command, *way, word, "stop"], stdin=subprocess.PIPE, stdout=said)
         it.stdin.write(keys)
         it.stdin.close()
         ended = os.waitid(os.P_PID, it.pid, os.WSTOPPED | os.WEXITED | os.WNOWAIT)
@@ -301,28 +302,32 @@ def run_stopped(program, way, word, keys):
         said.seek(0)
         lines = said.read().splitlines()
     if status or not stopped:
-        sys.exit(f"secrets.py: {program} ends with {status}: {lines[-1:]}")
+        sys.exit(f"secrets.py: {command[-1]} ends with {status}: {lines[-1:]}")
     method, suite = int(way[0]), int(way[1])
     packets, pairs = values("packet", lines), set(ids_of(method, suite, keys, values("packet", lines)))
     made = set(zip(values("session-id", lines), values("session-id-wpa", lines)))
     if not made or not made <= pairs:
-        sys.exit(f"secrets.py: {program} gives other Session-Ids than its packets")
+        sys.exit(f"secrets.py: {command[-1]} gives other Session-Ids than its packets")
     secrets, left = secrets_of(method, suite, keys, packets), collections.Counter()
     for name, octets in parts:
-        for i in range(len(octets) - 15):
-            secret = secrets.get(octets[i : i + 16])
-            if secret:
-                left[secret, name] += 1
+        for start in range(0, len(octets), 4096):
+            page = octets[start : start + 4096 + 15]
+            if page.count(0) == len(page):  # most of an emulator's are of zeros
+                continue
+            for i in range(len(page) - 15):
+                secret = secrets.get(page[i : i + 16])
+                if secret:
+                    left[secret, name] += 1
     return left, len(secrets), sum(len(octets) for _, octets in parts)
 
 
-def left(program, word):
+def left(word, command):
     check_aes()
     check_sha256()
     found = 0
     for way in WAYS:
         keys = random.Random(int(way[1]) + 1).randbytes(128)
-        counts, secrets, octets = run_stopped(program, way, word, keys)
+        counts, secrets, octets = run_stopped(command, way, word, keys)
         found += sum(counts.values())
         told = ", ".join(f"{name} {n} times in {where}" for (name, where), n in sorted(counts.items())) or "nothing"
         print(f"method {way[0]} suite {way[1]}: {secrets} parts of secrets, {octets} octets of memory: {told}")
@@ -361,7 +366,7 @@ def listed(path):
     return {words[0]: int(words[1]) for words in lines if words}
 
 
-def branches(program, path):
+def branches(path, program):
     places = set()
     for way in WAYS:
         told = run_checked(program, way)
@@ -380,8 +385,8 @@ def branches(program, path):
 
 
 def main(words):
-    if len(words) == 3 and words[0] == "left" and words[2] in ("keep", "clear"):
-        return left(words[1], words[2])
+    if len(words) > 2 and words[0] == "left" and words[1] in ("keep", "clear"):
+        return left(words[1], words[2:])
     if len(words) == 3 and words[0] == "branches":
         return branches(*words[1:])
     sys.exit(__doc__)
