@@ -1,5 +1,5 @@
 # shellcheck shell=sh
-# What the measurements of speed share: a folder of their own, a program over the crates, counts of instructions.
+# What the measurements share: a folder of their own, a program over the crates, the library for C, counts of instructions.
 
 here=$(dirname "$(dirname "$(readlink -f "$0")")")
 work=$(mktemp -d)
@@ -38,6 +38,13 @@ make_program() {
         grep -a 'error\|not proved\|NOT PROVED\|passed' "$work/log" >&2
         exit 1
     }
+}
+
+# Puts the library for C there: of the archive that TUV_LIBRARY names, as `rt lib` writes it, or proved and built.
+join_library() {
+    archive=${TUV_LIBRARY:-$here/crates/tuvaddri_c/out/libtuvaddri_c.a}
+    [ -n "${TUV_LIBRARY-}" ] || "$here/c/library"
+    "$here/c/library" join "$archive" "$work"
 }
 
 instructions() {

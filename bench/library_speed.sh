@@ -4,26 +4,14 @@
 # if TUV_LIBRARY doesn't name an archive as `rt lib` writes it.
 set -eu
 . "$(dirname "$(readlink -f "$0")")/../.ci/help.sh"
+# shellcheck source=bench/common.sh
+. "$(dirname "$(readlink -f "$0")")/common.sh"
 
-here=$(dirname "$(readlink -f "$0")")
-root=$(dirname "$here")
-work=$(mktemp -d)
-trap 'rm -rf "$work"' EXIT
-export GLIBC_TUNABLES=glibc.cpu.x86_rep_stosb_threshold=10000000
-
-count() {
-    valgrind --tool=callgrind --callgrind-out-file="$work/callgrind.out" "$@" 2>&1 | sed -n 's/.*Collected : //p'
-}
-
-archive=${TUV_LIBRARY:-$root/crates/tuvaddri_c/out/libtuvaddri_c.a}
-[ -n "${TUV_LIBRARY-}" ] || "$root/c/library"
-"$root/c/library" join "$archive" "$work"
-gcc -std=c11 -O2 -Wall -Wextra -Werror -I"$root/c" -o "$work/speed" "$here/library_speed.c" "$work/libtuvaddri.a"
+join_library
+gcc -std=c11 -O2 -Wall -Wextra -Werror -I"$here/c" -o "$work/speed" "$here/bench/library_speed.c" "$work/libtuvaddri.a"
 echo 'a login, both ends         instructions'
 for login in '51 1 gpsk' '47 0 psk' '51 2 gpsk2'; do
     # shellcheck disable=SC2086
     set -- $login
-    few=$(count "$work/speed" "$1" "$2" 20)
-    many=$(count "$work/speed" "$1" "$2" 60)
-    printf '%-26s %12d\n' "$3" $(((many - few) / 40))
+    printf '%-26s %12d\n' "$3" "$(each_of 20 60 "$work/speed" "$1" "$2")"
 done
