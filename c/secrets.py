@@ -14,6 +14,7 @@ The status is 0 where there is no such address, and no such branch but those of 
 """
 
 import collections
+import decimal
 import hashlib
 import hmac
 import math
@@ -94,31 +95,24 @@ def doubled(block):
 
 def cmac(key, text):
     """AES-CMAC (RFC 4493)."""
-    first = doubled(aes(key, bytes(16)))
-    last, whole = text[(len(text) - 1) // 16 * 16 if text else 0 :], b""
+    *blocks, last = [text[i : i + 16] for i in range(0, len(text), 16)] or [b""]
+    subkey = doubled(aes(key, bytes(16)))
     if len(last) < 16:
-        first, last = doubled(first), (last + b"\x80").ljust(16, b"\0")
+        subkey, last = doubled(subkey), (last + b"\x80").ljust(16, b"\0")
     whole = bytes(16)
-    for i in range(0, (len(text) - 1) // 16 * 16 if text else 0, 16):
-        whole = aes(key, xor(whole, text[i : i + 16]))
-    return aes(key, xor(whole, xor(last, first)))
+    for block in [*blocks, xor(last, subkey)]:
+        whole = aes(key, xor(whole, block))
+    return whole
+
+
+def fraction(prime, degree):
+    """The first 32 bits of the fraction of a prime's root of this degree."""
+    return int(decimal.Decimal(prime) ** (1 / decimal.Decimal(degree)) * 2**32) % 2**32
 
 
 PRIMES = [number for number in range(2, 312) if all(number % it for it in range(2, math.isqrt(number) + 1))]
-
-
-def cube_root(number):
-    """The greatest number whose cube is no greater."""
-    root = round(number ** (1 / 3))
-    while root**3 > number:
-        root -= 1
-    while (root + 1) ** 3 <= number:
-        root += 1
-    return root
-
-
-ROOTS = [math.isqrt(it << 64) % 2**32 for it in PRIMES[:8]]
-CUBE_ROOTS = [cube_root(it << 96) % 2**32 for it in PRIMES[:64]]
+ROOTS = [fraction(it, 2) for it in PRIMES[:8]]
+CUBE_ROOTS = [fraction(it, 3) for it in PRIMES[:64]]
 
 
 def sha256_words(block):
@@ -143,33 +137,34 @@ def sha256_words(block):
     return [(x + y) % 2**32 for x, y in zip(ROOTS, (a, b, c, d, e, f, g, h))]
 
 
-def check_sha256():
+def check_ciphers():
+    """AES-CMAC as RFC 4493 section 4 has it, and SHA-256 as hashlib has."""
+    key = bytes.fromhex("2b7e151628aed2a6abf7158809cf4f3c")
+    text = bytes.fromhex("6bc1bee22e409f96e93d7e117393172aae2d8a571e03ac9c9eb76fac45af8e5130c81c46a35ce411")
+    wanted = "bb1d6929e95937287fa37d129b756746", "070a16b46b4d4144f79bdd9dd04a287c", "dfa66747de9ae63030ca32611497c827"
+    if tuple(cmac(key, text[:length]).hex() for length in (0, 16, 40)) != wanted:
+        sys.exit("secrets.py: AES-CMAC isn't that of RFC 4493 section 4")
     made = sha256_words(b"abc\x80" + bytes(59) + b"\x18")
     if struct.pack(">8I", *made) != hashlib.sha256(b"abc").digest():
         sys.exit("secrets.py: SHA-256 isn't that of FIPS 180-4")
 
 
-def check_aes():
-    key = bytes.fromhex("2b7e151628aed2a6abf7158809cf4f3c")
-    text = bytes.fromhex("6bc1bee22e409f96e93d7e117393172aae2d8a571e03ac9c9eb76fac45af8e5130c81c46a35ce411")
-    made = cmac(key, b"").hex(), cmac(key, text[:16]).hex(), cmac(key, text).hex()
-    wanted = "bb1d6929e95937287fa37d129b756746", "070a16b46b4d4144f79bdd9dd04a287c", "dfa66747de9ae63030ca32611497c827"
-    if made != wanted:
-        sys.exit("secrets.py: AES-CMAC isn't that of RFC 4493 section 4")
+def mac_of(suite):
+    """The MAC of a suite of EAP-GPSK, and the octets of its keys."""
+    return (cmac, 16) if suite == 1 else (lambda key, text: hmac.digest(key, text, "sha256"), 32)
 
 
-def gkdf(mac, size, key, text, length):
+def gkdf(suite, key, text, length):
     """GKDF (RFC 5433 section 4)."""
-    made = b"".join(mac(key, i.to_bytes(2, "big") + text) for i in range(1, (length + size - 1) // size + 1))
-    return made[:length]
+    mac, size = mac_of(suite)
+    return b"".join(mac(key[:size], i.to_bytes(2, "big") + text) for i in range(1, -(-length // size) + 1))[:length]
 
 
 def gpsk_keys(suite, psk, text):
     """The keys of EAP-GPSK (RFC 5433 section 4), and of suite 2 what HMAC makes of its keys."""
-    mac, size = (cmac, 16) if suite == 1 else (lambda key, text: hmac.new(key, text, hashlib.sha256).digest(), 32)
-    seed = len(psk).to_bytes(2, "big") + psk + bytes(4) + suite.to_bytes(2, "big") + text
-    master = gkdf(mac, size, psk[:size], seed, size)
-    block = gkdf(mac, size, master, text, 128 + 2 * size)
+    size = mac_of(suite)[1]
+    master = gkdf(suite, psk, len(psk).to_bytes(2, "big") + psk + bytes(4) + suite.to_bytes(2, "big") + text, size)
+    block = gkdf(suite, master, text, 128 + 2 * size)
     keys = {"MK": master, "MSK": block[:64], "EMSK": block[64:128], "SK": block[128 : 128 + size]}
     if suite == 1:
         keys["PK"] = block[128 + size :]
@@ -182,8 +177,7 @@ def gpsk_keys(suite, psk, text):
 
 def gpsk_id(suite, key, text):
     """The Session-Id of EAP-GPSK (RFC 5433 section 4): its Method-ID is of a key of zeros, theirs of the PSK's front."""
-    mac, size = (cmac, 16) if suite == 1 else (lambda key, text: hmac.new(key, text, hashlib.sha256).digest(), 32)
-    return b"\x33" + gkdf(mac, size, key[:size], b"Method ID\x33" + bytes(4) + suite.to_bytes(2, "big") + text, 16)
+    return b"\x33" + gkdf(suite, key, b"Method ID\x33" + bytes(4) + suite.to_bytes(2, "big") + text, 16)
 
 
 def psk_keys(psk, rand_p):
@@ -224,15 +218,15 @@ def derived(suite, name, key):
     if suite == 2:
         for pad in (0x36, 0x5C):
             words = sha256_words(bytes(octet ^ pad for octet in key.ljust(64, b"\0")))
-            yield f"midstate of HMAC by {name}", struct.pack("<8I", *words)
-            yield f"midstate of HMAC by {name}", struct.pack(">8I", *words)
+            for order in "<>":
+                yield f"midstate of HMAC by {name}", struct.pack(f"{order}8I", *words)
         return
     for it in round_keys(key)[1:]:
         yield f"round key of {name}", it
-    first = doubled(aes(key, bytes(16)))
-    yield f"L of {name}", aes(key, bytes(16))
-    yield f"K1 of {name}", first
-    yield f"K2 of {name}", doubled(first)
+    zeros = aes(key, bytes(16))
+    yield f"L of {name}", zeros
+    yield f"K1 of {name}", doubled(zeros)
+    yield f"K2 of {name}", doubled(doubled(zeros))
 
 
 def secrets_of(method, suite, keys, packets):
@@ -271,25 +265,20 @@ def ids_of(method, suite, keys, packets):
 def writable(pid):
     """The writable memory of a process: what each part is, and its octets."""
     with open(f"/proc/{pid}/maps", encoding="utf-8") as maps, open(f"/proc/{pid}/mem", "rb") as memory:
-        for line in maps:
-            words = line.split(maxsplit=5)
-            name = words[5].strip() if len(words) > 5 else ""
-            if not words[1].startswith("rw"):
-                continue
-            start, end = (int(it, 16) for it in words[0].split("-"))
-            memory.seek(start)
+        for start, end, name in re.findall(r"^(\w+)-(\w+) rw\S* \S+ \S+ \S+ *(.*)", maps.read(), re.M):
+            memory.seek(int(start, 16))
             try:
-                yield name.strip("[]") if name.startswith("[") else "data", memory.read(end - start)
+                yield name.strip("[]") if name.startswith("[") else "data", memory.read(int(end, 16) - int(start, 16))
             except OSError:
                 continue
 
 
-def values(word, lines):
-    return [bytes.fromhex(line.split()[1]) for line in lines if line.split()[:1] == [word]]
+def values(word, said):
+    return [bytes.fromhex(it) for it in re.findall(rf"^{word} (\w+)$", said, re.M)]
 
 
 def run_stopped(command, way, word, keys):
-    """What is left of keys when the program has stopped."""
+    """What a program writes, and its memory when it has stopped."""
     with tempfile.TemporaryFile("w+") as said:
         it = subprocess.Popen([*command, *way, word, "stop"], stdin=subprocess.PIPE, stdout=said)
         it.stdin.write(keys)
@@ -300,54 +289,48 @@ def run_stopped(command, way, word, keys):
         os.kill(it.pid, signal.SIGCONT)
         status = it.wait()
         said.seek(0)
-        lines = said.read().splitlines()
+        wrote = said.read()
     if status or not stopped:
-        sys.exit(f"secrets.py: {command[-1]} ends with {status}: {lines[-1:]}")
-    method, suite = int(way[0]), int(way[1])
-    packets, pairs = values("packet", lines), set(ids_of(method, suite, keys, values("packet", lines)))
-    made = set(zip(values("session-id", lines), values("session-id-wpa", lines)))
-    if not made or not made <= pairs:
-        sys.exit(f"secrets.py: {command[-1]} gives other Session-Ids than its packets")
-    secrets, left = secrets_of(method, suite, keys, packets), collections.Counter()
+        sys.exit(f"secrets.py: {command[-1]} ends with {status}: {wrote.splitlines()[-1:]}")
+    return wrote, parts
+
+
+def counts_of(secrets, parts):
+    """How often each secret is in each part of the memory."""
+    found = collections.Counter()
     for name, octets in parts:
         for start in range(0, len(octets), 4096):
             page = octets[start : start + 4096 + 15]
-            if page.count(0) == len(page):  # most of an emulator's are of zeros
-                continue
-            for i in range(len(page) - 15):
-                secret = secrets.get(page[i : i + 16])
-                if secret:
-                    left[secret, name] += 1
-    return left, len(secrets), sum(len(octets) for _, octets in parts)
+            if page.count(0) < len(page):  # (most of an emulator's are of zeros)
+                at = (secrets.get(page[i : i + 16]) for i in range(len(page) - 15))
+                found.update((secret, name) for secret in at if secret)
+    return found
 
 
 def left(word, command):
-    check_aes()
-    check_sha256()
-    found = 0
+    check_ciphers()
+    found = False
     for way in WAYS:
-        keys = random.Random(int(way[1]) + 1).randbytes(128)
-        counts, secrets, octets = run_stopped(command, way, word, keys)
-        found += sum(counts.values())
+        method, suite = map(int, way)
+        keys = random.Random(suite + 1).randbytes(128)
+        said, parts = run_stopped(command, way, word, keys)
+        packets = values("packet", said)
+        made = set(zip(values("session-id", said), values("session-id-wpa", said)))
+        if not made or not made <= set(ids_of(method, suite, keys, packets)):
+            sys.exit(f"secrets.py: {command[-1]} gives other Session-Ids than its packets")
+        secrets = secrets_of(method, suite, keys, packets)
+        counts, octets = counts_of(secrets, parts), sum(len(octets) for _, octets in parts)
         told = ", ".join(f"{name} {n} times in {where}" for (name, where), n in sorted(counts.items())) or "nothing"
-        print(f"method {way[0]} suite {way[1]}: {secrets} parts of secrets, {octets} octets of memory: {told}")
+        print(f"method {method} suite {suite}: {len(secrets)} parts of secrets, {octets} octets of memory: {told}")
+        found = found or bool(counts)
     return 1 if found else 0
 
 
 def places_of(log):
     """The places that memcheck tells, each once: addresses, branches, and what else, by function."""
-    kinds = {"Use of uninit": "address", "Conditional jump": "branch"}
-    places, kind = set(), None
-    for line in log:
-        line = re.sub(r"^==\d+== ?", "", line)
-        told = re.match(r"(Use of uninit|Conditional jump|Syscall param)", line)
-        if told:
-            kind = kinds.get(told[1], "call")
-        at = re.match(r"   at 0x([0-9A-F]+): (\S+)", line)
-        if at and kind:
-            places.add((kind, re.sub(r"::<#\w+>", "", at[2]), at[1]))
-            kind = None
-    return places
+    kinds = {"Use of uninit": "address", "Conditional jump": "branch", "Syscall param": "call"}
+    found = re.findall(rf"^==\d+== ({'|'.join(kinds)}).*\n==\d+== +at 0x(\w+): (\S+)", log, re.M)
+    return {(kinds[kind], re.sub(r"::<#\w+>", "", function), at) for kind, at, function in found}
 
 
 def run_checked(program, way):
@@ -357,7 +340,7 @@ def run_checked(program, way):
         ended = subprocess.run(words, input=keys, stdout=subprocess.PIPE)
         if ended.returncode:
             sys.exit(f"secrets.py: {program} ends with {ended.returncode}: {ended.stdout.decode()[-200:]}")
-        return places_of(log)
+        return places_of(log.read())
 
 
 def listed(path):

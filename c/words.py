@@ -1,5 +1,6 @@
 #!/usr/bin/env python3
-"""words.py LIBRARY: the numbers and words of the library, beside the header, numbers.txt and docs/TEXTS.md.
+"""words.py: the numbers and words of the library that TUVADDRI_LIBRARY names, beside the header, numbers.txt and
+docs/TEXTS.md.
 
 Each number of the header is that of numbers.txt, and the other way round; its word is its name. A number that has no
 name has the word "?". The causes are those that docs/TEXTS.md explains. The status is 0 where all of this holds.
@@ -11,6 +12,8 @@ import re
 import sys
 
 HERE = os.path.dirname(os.path.realpath(__file__))
+sys.path.insert(0, f"{HERE}/python")
+from tuvaddri._abi import VERSION, Turn, ident, library
 
 # The names of each group in the header, and the call that has their words.
 GROUPS = {
@@ -26,12 +29,7 @@ def text_of(path):
         return it.read()
 
 
-class Turn(ctypes.Structure):
-    _fields_ = [(name, ctypes.c_bool) for name in ("sends", "discards", "misplaced")]
-    _fields_ += [(name, ctypes.c_uint8) for name in ("cause", "state")]
-
-
-def faults_of_texts(library):
+def faults_of_texts():
     """The text of each turn, beside the words of its numbers."""
     library.tuv_turn_text.argtypes, library.tuv_turn_text.restype = [Turn, ctypes.c_char_p], None
     room = ctypes.create_string_buffer(b"x" * 80, 80)
@@ -50,52 +48,35 @@ def faults_of_texts(library):
                 yield f"a turn is told by {room.value.decode()}, and not by {wanted}"
 
 
-def camel(name):
-    return "".join(part.capitalize() for part in name.split("_"))
-
-
-def faults(path):
-    library = ctypes.CDLL(path)
+def faults():
     numbers = re.findall(r"\b(TUV_[A-Z0-9_]+) = (\d+)", text_of("tuvaddri.h"))
     kept = [tuple(line.split()) for line in text_of("numbers.txt").splitlines() if line and line[0] != "#"]
     for name, number in sorted(set(numbers) ^ set(kept)):
         yield f"{name} {number} is in one of tuvaddri.h and numbers.txt alone"
-    causes = set()
     for call, form in GROUPS.items():
-        word_of = getattr(library, call)
-        word_of.restype, word_of.argtypes = ctypes.c_char_p, [ctypes.c_uint8]
         words = {int(number): re.fullmatch(form, name)[1] for name, number in numbers if re.fullmatch(form, name)}
         if not words:
             yield f"the header has no number for {call}"
         for number in range(256):
-            word, name = word_of(number).decode(), words.get(number)
-            wanted = "?" if name is None else name if call == "tuv_state_word" else camel(name)
+            word, wanted = getattr(library, call)(number).decode(), words.get(number, "?")
+            if call != "tuv_state_word":
+                wanted = wanted.title().replace("_", "")
             if word != wanted:
                 yield f"{call}({number}) is {word}, and not {wanted}"
-            if call == "tuv_cause_word" and name is not None:
-                causes.add(word)
-    yield from faults_of_texts(library)
+    yield from faults_of_texts()
     table = text_of("../docs/TEXTS.md").split("<!-- made: causes -->")[1].split("<!-- end of made -->")[0]
     told = set(re.findall(r"^\| (\w+) \|", table, re.M)) - {"Cause"}
+    causes = {library.tuv_cause_word(number).decode() for number in range(256)} - {"?"}
     for word in sorted(told ^ causes):
         yield f"the cause {word} is in one of the header and docs/TEXTS.md alone"
-    version = re.search(r"^#define TUV_VERSION (\d+)$", text_of("tuvaddri.h"), re.M)[1]
-    ident = ctypes.c_char.in_dll(library, "tuv_ident")
-    said = ctypes.string_at(ctypes.addressof(ident)).decode()
-    if not re.fullmatch(rf"tuvaddri {version} ([0-9a-f]{{7,}}\+?|unknown)( unchecked)?", said):
-        yield f"tuv_ident is {said}"
-    if library.tuv_version() != int(version):
+    if f"#define TUV_VERSION {VERSION}\n" not in text_of("tuvaddri.h") or library.tuv_version() != VERSION:
         yield "tuv_version is another than the header's"
-
-
-def main(words):
-    if len(words) != 1:
-        sys.exit(__doc__)
-    found = list(faults(os.path.realpath(words[0])))
-    for fault in found:
-        print(fault)
-    return 1 if found else 0
+    if not re.fullmatch(rf"tuvaddri {VERSION} ([0-9a-f]{{7,}}\+?|unknown)( unchecked)?", ident):
+        yield f"tuv_ident is {ident}"
 
 
 if __name__ == "__main__":
-    sys.exit(main(sys.argv[1:]))
+    found = list(faults())
+    for fault in found:
+        print(fault)
+    sys.exit(1 if found else 0)

@@ -14,6 +14,7 @@ from __future__ import annotations
 import ctypes
 import os
 import threading
+from contextlib import nullcontext
 from types import TracebackType
 from typing import Any, List, NamedTuple, NoReturn, Optional, Sequence, Tuple, Type, TypeVar, Union
 
@@ -201,14 +202,21 @@ class _Told:
 class _End(_Cleared):
     """A handle. Calls from several threads come one after the other."""
 
-    def __init__(self) -> None:
+    def __init__(self, begin: str, words: Sequence[Any], told: Optional[_Told] = None) -> None:
+        """Begins by this call; an end that is refused, or whose call fails, is closed."""
         self._lock = threading.RLock()
         self._state = ""
         self._end = _abi.End()
-        if not _library.tuv_processor_serves():
-            raise Unsupported("the processor has no SSSE3, SSE4.1, SSE4.2 or POPCNT")
-        if not _library.tuv_end_new(self._end):
-            raise MemoryError
+        with told or nullcontext() as settings:
+            if not _library.tuv_processor_serves():
+                raise Unsupported("the processor has no SSSE3, SSE4.1, SSE4.2 or POPCNT")
+            if not _library.tuv_end_new(self._end):
+                raise MemoryError
+            try:
+                self._accept(begin, *([settings] if told else []), *words)
+            except BaseException:
+                self.close()
+                raise
 
     def _call(self, name: str, *words: Any) -> Any:
         """A call of the library; the stack on which it has left octets of keys is cleared behind it."""
@@ -219,15 +227,11 @@ class _End(_Cleared):
             _library.tuv_clear_stack()
             return answer
 
-    def _begin(self, name: str, *words: Any) -> None:
-        """Begins; an end that is refused, or whose call fails, is closed."""
-        try:
-            answer = self._call(name, *words)
-            if answer:
-                raise Refused(answer)
-        except BaseException:
-            self.close()
-            raise
+    def _accept(self, name: str, *words: Any) -> None:
+        """A call that may refuse what it is told."""
+        answer = self._call(name, *words)
+        if answer:
+            raise Refused(answer)
 
     def _turn(self, name: str, *words: Any) -> Turn:
         with self._lock:
@@ -315,10 +319,8 @@ class Peer(_Machine):
 
     def __init__(self, name: Name, server: Name = b"", *, psk_key: Octets = b"", gpsk_key: Octets = b"", methods: Sequence[int] = (),
                  suites: Sequence[int] = (), expanded: bool = False, nonce: Optional[Octets] = None) -> None:
-        drawn = _nonce(nonce)
-        with _Told(name, server, psk_key, gpsk_key, methods, suites, expanded) as told:
-            super().__init__()
-            self._begin("peer_begin", told, drawn)
+        words = [_nonce(nonce)]
+        super().__init__("peer_begin", words, _Told(name, server, psk_key, gpsk_key, methods, suites, expanded))
 
     def idle(self) -> Turn:
         """The lower layer is idle."""
@@ -337,9 +339,7 @@ class _WithUser(_Machine):
     def give_user(self, user: Name, *, psk_key: Octets = b"", gpsk_key: Octets = b"", barred: bool = False) -> None:
         """Gives the end its one user, in place of the one that it had, from the next Response on."""
         with _Told(b"", user, psk_key, gpsk_key, barred=barred) as told:
-            answer = self._call("server_user", told)
-        if answer:
-            raise Refused(answer)
+            self._accept("server_user", told)
 
 
 class Server(_WithUser):
@@ -348,10 +348,8 @@ class Server(_WithUser):
     def __init__(self, name: Name, user: Name = b"", *, psk_key: Octets = b"", gpsk_key: Octets = b"", barred: bool = False,
                  methods: Sequence[int] = (), suites: Sequence[int] = (), expanded: bool = False, first_id: int = 0,
                  max_retrans: int = 4, nonce: Optional[Octets] = None) -> None:
-        drawn, numbers = _nonce(nonce), (_number("first_id", first_id), _number("max_retrans", max_retrans))
-        with _Told(name, user, psk_key, gpsk_key, methods, suites, expanded, barred) as told:
-            super().__init__()
-            self._begin("server_begin", told, drawn, *numbers)
+        words = [_nonce(nonce), _number("first_id", first_id), _number("max_retrans", max_retrans)]
+        super().__init__("server_begin", words, _Told(name, user, psk_key, gpsk_key, methods, suites, expanded, barred))
 
     def start(self) -> Turn:
         """The first Request is made."""
@@ -368,19 +366,15 @@ class Backend(_WithUser):
     def __init__(self, name: Name, user: Name = b"", *, psk_key: Octets = b"", gpsk_key: Octets = b"", barred: bool = False,
                  methods: Sequence[int] = (), suites: Sequence[int] = (), expanded: bool = False,
                  nonce: Optional[Octets] = None) -> None:
-        drawn = _nonce(nonce)
-        with _Told(name, user, psk_key, gpsk_key, methods, suites, expanded, barred) as told:
-            super().__init__()
-            self._begin("backend_begin", told, drawn)
+        words = [_nonce(nonce)]
+        super().__init__("backend_begin", words, _Told(name, user, psk_key, gpsk_key, methods, suites, expanded, barred))
 
 
 class PassThrough(_End):
     """The pass-through (section 7). What its calls send goes to the peer, but after from_peer to the backend."""
 
     def __init__(self, *, first_id: int = 0, max_retrans: int = 4) -> None:
-        numbers = _number("first_id", first_id), _number("max_retrans", max_retrans)
-        super().__init__()
-        self._begin("pass_begin", *numbers)
+        super().__init__("pass_begin", [_number("first_id", first_id), _number("max_retrans", max_retrans)])
 
     def start(self) -> Turn:
         return self._turn("pass_start")
@@ -416,34 +410,30 @@ class Method(_End):
         raise TypeError("a Method is made by Method.of_peer or Method.of_server")
 
     @classmethod
-    def _of(cls, is_server: bool, told: _Told, *words: Any) -> Method:
+    def _of(cls, is_server: bool, words: Sequence[Any], told: _Told) -> Method:
         made = cls.__new__(cls)
         made._is_server = is_server
-        with told as settings:
-            _End.__init__(made)
-            made._begin("server_method_begin" if is_server else "peer_method_begin", settings, *words)
+        _End.__init__(made, "server_method_begin" if is_server else "peer_method_begin", words, told)
         return made
 
     @classmethod
     def of_peer(cls, name: Name, server: Name = b"", *, method: int, psk_key: Octets = b"", gpsk_key: Octets = b"",
                 suites: Sequence[int] = (), expanded: bool = False, nonce: Optional[Octets] = None) -> Method:
-        drawn = _nonce(nonce)
-        return cls._of(False, _Told(name, server, psk_key, gpsk_key, (method,), suites, expanded), drawn)
+        words = [_nonce(nonce)]
+        return cls._of(False, words, _Told(name, server, psk_key, gpsk_key, (method,), suites, expanded))
 
     @classmethod
     def of_server(cls, name: Name, user: Name = b"", *, method: int, psk_key: Octets = b"", gpsk_key: Octets = b"",
                   barred: bool = False, suites: Sequence[int] = (), expanded: bool = False, first_id: int = 0,
                   nonce: Optional[Octets] = None) -> Method:
         """`again` has the first Request, with this Identifier, at once."""
-        drawn, number = _nonce(nonce), _number("first_id", first_id)
-        return cls._of(True, _Told(name, user, psk_key, gpsk_key, (method,), suites, expanded, barred), drawn, number)
+        words = [_nonce(nonce), _number("first_id", first_id)]
+        return cls._of(True, words, _Told(name, user, psk_key, gpsk_key, (method,), suites, expanded, barred))
 
     def give_user(self, user: Name, *, psk_key: Octets = b"", gpsk_key: Octets = b"", barred: bool = False) -> None:
         """Gives a server's method its one user."""
         with _Told(b"", user, psk_key, gpsk_key, barred=barred) as told:
-            answer = self._call("server_method_user", told)
-        if answer:
-            raise Refused(answer)
+            self._accept("server_method_user", told)
 
     def handle(self, octets: Octets, next_id: Optional[int] = None) -> MethodTurn:
         """A whole Request comes to a peer's method, a whole Response to a server's, whose next Request has the Identifier
