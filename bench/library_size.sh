@@ -25,8 +25,11 @@ code() {
 empty=$(code EMPTY)
 echo "a peer         $(($(code PEER "$work/libtuvaddri.a") - empty)) octets of code"
 echo "a method alone $(($(code METHOD "$work/libtuvaddri.a") - empty)) octets of code"
-printf '#include <stdio.h>\n#include "tuvaddri.h"\nint main(void) { printf("an end         %%zu octets\\n", tuv_end_size()); }\n' >"$work/end.c"
-gcc -I"$here/c" -o "$work/end" "$work/end.c" "$work/libtuvaddri.a"
+gcc -I"$here/c" -o "$work/end" -x c - -x none "$work/libtuvaddri.a" <<'END'
+#include <stdio.h>
+#include "tuvaddri.h"
+int main(void) { printf("an end         %zu octets\n", tuv_end_size()); }
+END
 "$work/end"
 [ $# = 1 ] || exit 0
 
