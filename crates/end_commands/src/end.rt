@@ -109,8 +109,8 @@ impl<M, E: CanStart<M>> End<M, E> {
                     return Ok(Next::Refuses("TooMuch", Status::TooMuch));
                 }
                 self.taken += 1;
-                let step = pipe.step_into(input, &mut self.packet, &mut self.tags);
-                write_step(sink, self.taken, &step, self.packet.as_slice())?;
+                let number = self.taken;
+                tell(pipe, sink, number, input, &mut self.packet, &mut self.tags)?;
                 Ok(Next::Proceed)
             }
         }
@@ -129,6 +129,25 @@ impl<M, E: CanStart<M>> End<M, E> {
         }
         Ok(Close::Ends(Status::Done))
     }
+}
+
+/// Passes an input to the end, and writes the lines of what it does, with this number.
+fn tell<E: Machine, W: Sink>(
+    pipe: &mut EndPipe<E>,
+    sink: &mut W,
+    number: u32,
+    input: &EndInput,
+    packet: &mut Packet,
+    tags: &mut Tags<TwoRecords>,
+) -> Result<(), Failed>
+    requires { E.is_running pipe.old.machine }
+    ensures running { E.is_running pipe.new.machine }
+    ensures after { (end_step E.table (end_now E.shown pipe.old) input.now).after ≡ end_now E.shown pipe.new }
+    ensures text { Appends W.shown result sink.old sink.new
+        (told_text number (end_step E.table (end_now E.shown pipe.old) input.now).told) }
+{
+    let step = pipe.step_into(input, packet, tags);
+    write_step(sink, number, &step, packet.as_slice())
 }
 
 impl<M, E: CanStart<M>> Command for End<M, E> {

@@ -5,7 +5,7 @@ ghost use Rattle.std.specs.Prelude.{Some, None, if◌then◌else◌};
 ghost use Rattle.eap_method.specs.Tags.{Tags};
 ghost use Rattle.answer_text.specs.Writes.{Appends};
 ghost use Rattle.end_pipe.specs.EndRun.{result_with};
-ghost use Rattle.end_commands.specs.EndText.{acted_text, keys_text, last_text, send_text, skip_line, told_text};
+ghost use Rattle.end_commands.specs.EndText.{acted_text, keys_line, keys_text, last_text, send_text, skip_line, told_text};
 
 use answer_text::Piece::{Hex, Leading, Text};
 use answer_text::{write_cause, write_nothing, write_pieces, write_states};
@@ -101,15 +101,27 @@ fn write_keys<W: Sink>(sink: &mut W, number: u32, named: &Option<Report>) -> Res
         Some(report) => {
             let msk = key_name(&report.msk);
             let emsk = key_name(&report.emsk);
-            write_pieces(
-                sink,
-                &[
-                    Leading(u64::from(number), b" keys msk "),
-                    Hex(b"", &msk),
-                    Hex(b" emsk ", &emsk),
-                    Text(b"\n"),
-                ],
-            )
+            write_key_names(sink, number, &msk, &emsk)
         }
     }
+}
+
+/// Writes the names of keys, in one line.
+fn write_key_names<'a, W: Sink>(
+    sink: &mut W,
+    number: u32,
+    msk: &'a [u8],
+    emsk: &'a [u8],
+) -> Result<(), Failed>
+    ensures { Appends W.shown result sink.old sink.new (keys_line number msk.now emsk.now) }
+{
+    write_pieces(
+        sink,
+        &[
+            Leading(u64::from(number), b" keys msk "),
+            Hex(b"", msk),
+            Hex(b" emsk ", emsk),
+            Text(b"\n"),
+        ],
+    )
 }

@@ -51,9 +51,6 @@ pub fn answer_peer<M: PeerMethod, S: Source, W: Sink>(
     requires { HasBothPeers M.peer_shown methods.items }
     ensures { Responds S.shown W.shown (reading peer_answer never) result source.old source.new sink.old sink.new }
 {
-    drive(
-        &mut End::<M, PeerMachine<M>>::new(Role::Peer, methods),
-        source,
-        sink,
-    )
+    let mut end = End::<M, PeerMachine<M>>::new(Role::Peer, methods);
+    drive(&mut end, source, sink)
 }

@@ -61,9 +61,6 @@ pub fn answer_server<M: ServerMethod, S: Source, W: Sink>(
     requires { HasBothServers M.server_shown methods.items }
     ensures { Responds S.shown W.shown (reading server_answer never) result source.old source.new sink.old sink.new }
 {
-    drive(
-        &mut End::<M, StandAloneServer<M>>::new(Role::Server, methods),
-        source,
-        sink,
-    )
+    let mut end = End::<M, StandAloneServer<M>>::new(Role::Server, methods);
+    drive(&mut end, source, sink)
 }
