@@ -25,7 +25,17 @@ pub fn methods_of<P: PeerMethod, S: ServerMethod>(
     ensures { IfOk result (HasBoth P.peer_shown S.server_shown) }
 {
     Ok(Methods {
-        peer: Vec::from_array(alloc, [gpsk_peer, psk_peer])?,
-        server: Vec::from_array(alloc, [gpsk_server, psk_server])?,
+        peer: pair(alloc, gpsk_peer, psk_peer)?,
+        server: pair(alloc, gpsk_server, psk_server)?,
     })
+}
+
+/// A list of these two.
+fn pair<T: Drop>(alloc: Global, first: T, second: T) -> Result<Vec<T>, AllocError>
+    ensures { IfOk result (λ both. both.items ≡ first ∷ second ∷ []) }
+{
+    let mut both = Vec::with_capacity(alloc, 2)?;
+    both.push(first)?;
+    both.push(second)?;
+    Ok(both)
 }
