@@ -10,7 +10,7 @@ import sys
 import tempfile
 from contextlib import contextmanager
 from pathlib import Path
-from typing import Any, Callable, Iterable, Iterator, NoReturn, Sequence, TypeVar
+from typing import Any, Callable, Iterable, Iterator, NoReturn, Optional, Sequence, TypeVar
 
 ROOT = Path(__file__).resolve().parent.parent.parent
 Key = TypeVar("Key")
@@ -24,7 +24,7 @@ class Refused(Exception):
 class Parser(argparse.ArgumentParser):
     """Words of a tool, whose help is the tool's own text; a fault of them is a line, and the status 1."""
 
-    def __init__(self, text: str, **more: Any) -> None:
+    def __init__(self, text: Optional[str], **more: Any) -> None:
         super().__init__(description=text, formatter_class=argparse.RawDescriptionHelpFormatter, **more)
         self.add_argument("--version", action=Version, nargs=0, help="the version of the tools and of the program")
 
@@ -42,8 +42,9 @@ class Version(argparse.Action):
         parser.exit()
 
 
-def tool(main: Callable[[], int]) -> NoReturn:
-    """Runs a tool: what it refuses is a line and the status 2; where what it writes can't be written it ends with 4."""
+def tool(main: Callable[[], Optional[int]]) -> NoReturn:
+    """Runs a tool, whose status is 0 where it says none: what it refuses is a line and the status 2; where what it writes
+    can't be written it ends with 4."""
     name = Path(sys.argv[0]).name
     if sys.stdout is None:
         print(f"{name}: standard output is closed", file=sys.stderr)
@@ -51,7 +52,7 @@ def tool(main: Callable[[], int]) -> NoReturn:
     if hasattr(sys.stdout, "reconfigure"):
         sys.stdout.reconfigure(encoding="utf-8")
     try:
-        status = main()
+        status = main() or 0
         sys.stdout.flush()
     except Refused as fault:
         status = 2

@@ -41,14 +41,16 @@ def form_of(octets: bytes) -> str:
 # ---- Words.
 
 
-def add_words(parser: Parser) -> None:
-    """The words of a tool that reads a login."""
+def parser_of(text: Optional[str]) -> Parser:
+    """The words of a tool that reads a login, with its help."""
+    parser = Parser(text)
     parser.add_argument("words", metavar="WORD", nargs="*", help="[FILE] [NAME KIND HEX ..]: a file, - or nothing for "
                         "standard input; of what has no keys itself, its users as for `pcap`, or one key in hex alone")
     parser.add_argument("--users", metavar="FILE", help="takes the users from the lines `user` of a text")
     parser.add_argument("--secret", metavar="TEXT", help="the secret of RADIUS, which judges its authenticators")
     parser.add_argument("--port", metavar="N", type=int, action="append", help="a port of RADIUS besides 1812 and 1645")
     parser.add_argument("--station", metavar="NAME", help="of several stations in a file, this one")
+    return parser
 
 
 def is_key(given: list[str]) -> bool:
@@ -106,7 +108,7 @@ def captures_of(octets: bytes, given: Namespace, rest: list[str]) -> list[Captur
     """The captures of an input that has packets and no replay, one for each station."""
     form = form_of(octets)
     if form == "pcap":
-        found = captures.of_pcap(octets, getattr(given, "port", None) or ())
+        found = captures.of_pcap(octets, given.port or ())
     elif form == "check":
         found = [captures.of_capture(octets)]
     else:
