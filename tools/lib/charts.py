@@ -7,7 +7,7 @@ from html import escape
 from pathlib import Path
 
 from lib.ladder import Ladder, Row
-from lib.reasons import RESULTS, party_name
+from lib.reasons import TABLES, party_name
 
 
 def label_of(row: Row) -> str:
@@ -197,7 +197,7 @@ class Svg(Chart):
         verdict = self.verdict()
         result = self.ladder.replay.end.get("result", "") if self.ladder.replay else ""
         is_odd = "broken" in verdict or "fresh no" in verdict
-        self.pill(self.width / 2, verdict, "bad" if is_odd else RESULTS[result][0] if result else "open")
+        self.pill(self.width / 2, verdict, "bad" if is_odd else TABLES["results"][result][0] if result else "open")
         return "\n".join([self.head(self.y + 24), *lives, *self.body, "</svg>", ""])
 
     def head(self, height: int) -> str:

@@ -11,18 +11,7 @@ from lib.captures import NONE, Capture, Packets, User, text_of
 from lib.common import Refused, run
 from lib.packets import FIRST, LAST, SECOND, THIRD
 from lib.replays import Event, Replay
-
-MARKS = {
-    "timeout": "its retransmission timer expires",
-    "aaa-timeout": "no answer of the server comes any more",
-    "aaa-noreq": "the server has nothing to ask",
-    "idle": "its lower layer is idle",
-    "alt-accept": "its lower layer reports success",
-    "alt-reject": "its lower layer reports failure",
-    "restart": "it begins again",
-    "start": "the login begins",
-    "event": "",
-}
+from lib.words import MARKS
 
 
 @dataclass

@@ -9,6 +9,7 @@ from functools import cached_property, lru_cache
 from typing import Callable, Optional
 
 from lib.texts import shown
+from lib.words import tables_of
 
 CODES = {1: "Request", 2: "Response", 3: "Success", 4: "Failure"}
 TYPES = {1: "Identity", 2: "Notification", 3: "Nak", 4: "MD5-Challenge", 13: "EAP-TLS", 47: "EAP-PSK", 51: "EAP-GPSK"}
@@ -161,23 +162,8 @@ class Reader:
         return self.take(name, self.left(), note)
 
 
-# The messages: RFC 5433 section 9, RFC 4764 section 5. Behind each field is how many octets it has: a number of them, those
-# of `sized` behind their length in two octets, of `suite` as many as the MAC of the suite before it, `rest` all that are left.
-
-CHANNEL = "PCHANNEL Nonce 4; PCHANNEL Tag 16; PCHANNEL R, E, Reserved 1"
-MESSAGES = {
-    "GPSK-1": "ID_Server sized; RAND_Server 32; CSuite_List sized",
-    "GPSK-2": "ID_Peer sized; ID_Server sized; RAND_Peer 32; RAND_Server 32; CSuite_List sized; CSuite_Sel 6; "
-              "PD_Payload_Block sized; MAC suite",
-    "GPSK-3": "RAND_Peer 32; RAND_Server 32; ID_Server sized; CSuite_Sel 6; PD_Payload_Block sized; MAC suite",
-    "GPSK-4": "PD_Payload_Block sized; MAC rest",
-    "GPSK-Fail": "Failure-Code 4",
-    "GPSK-Protected-Fail": "Failure-Code 4; MAC rest",
-    "PSK-1": "RAND_S 16; ID_S rest",
-    "PSK-2": "RAND_S 16; RAND_P 16; MAC_P 16; ID_P rest",
-    "PSK-3": f"RAND_S 16; MAC_S 16; {CHANNEL}",
-    "PSK-4": f"RAND_S 16; {CHANNEL}",
-}
+# The fields of each message, with their sizes, and those that an earlier one brought.
+MESSAGES, ECHOES = tables_of("packets.txt").values()
 NOTES: dict[str, Note] = {
     "ID_Server": text_of, "ID_Peer": text_of, "ID_S": text_of, "ID_P": text_of, "CSuite_List": suites_of, "CSuite_Sel": suites_of,
     "Failure-Code": named(FAILURES), "PCHANNEL Nonce": named({}), "PCHANNEL R, E, Reserved": lambda _: "encrypted",
@@ -202,7 +188,7 @@ def fault_of(name: str, octets: bytes) -> str:
 
 def take_message(reader: Reader, message: str) -> None:
     suite = 0
-    for name, size in (it.rsplit(" ", 1) for it in MESSAGES[message].split("; ")):
+    for name, size in (it.rsplit(" ", 1) for it in MESSAGES[message]):
         if size.isdigit():
             count = int(size)
         elif size == "sized":

@@ -12,12 +12,13 @@ from typing import Callable, Iterable, Iterator, Optional, Sequence
 from lib import macs, packets, words
 from lib.captures import Capture
 from lib.common import grouped
-from lib.ladder import MARKS, MOST_ALTERED, OF_PEER, OF_SERVER, Ladder, Row, findings_of, logins_of, rows_of
-from lib.packets import FIRST, LAST, SECOND, THIRD, Reading
+from lib.ladder import MOST_ALTERED, OF_PEER, OF_SERVER, Ladder, Row, findings_of, logins_of, rows_of
+from lib.packets import ECHOES, FIRST, LAST, SECOND, THIRD, Reading
 from lib.replays import Replay
 
+TABLES = words.tables_of("reasons.txt")
 # Each sentence by its name, and what may help behind it.
-SENTENCES = {head: cells for rows in words.tables_of("reasons.txt").values() for head, cells in rows.items()}
+SENTENCES = {head: cells for rows in TABLES.values() for head, cells in rows.items()}
 
 
 def said(sentence: str, **names: object) -> str:
@@ -153,22 +154,12 @@ def of_missing(login: Login) -> Iterator[Reason]:
             yield Reason(None, said(kind, count=count, most=MOST_ROWS))
 
 
-# The fields of a message that an earlier one of the same login brought (RFC 5433 section 10, RFC 4764 section 5).
-ECHOES = {
-    "GPSK-2": ("GPSK-1", ("RAND_Server", "ID_Server", "CSuite_List")),
-    "GPSK-3": ("GPSK-2", ("RAND_Peer", "RAND_Server", "ID_Server", "CSuite_Sel")),
-    "PSK-2": ("PSK-1", ("RAND_S",)),
-    "PSK-3": ("PSK-1", ("RAND_S",)),
-    "PSK-4": ("PSK-1", ("RAND_S",)),
-}
-
-
 def of_echoes(login: Login) -> Iterator[Reason]:
     """Fields that aren't those of the message that they repeat."""
     brought: set[tuple[object, ...]] = set()
     for at, (row, message, read) in enumerate(zip(login.rows, login.messages, login.read)):
-        brought.update((later, *map(read.get, names)) for later, (its, names) in ECHOES.items() if its == message)
-        earlier, names = ECHOES.get(message, ("", ()))
+        brought.update((later, *map(read.get, names)) for later, (its, *names) in ECHOES.items() if its == message)
+        earlier, *names = ECHOES.get(message, [""])
         before = login.last(earlier, before=at)
         if before is None or (message, *map(read.get, names)) in brought or read.faults:
             continue
@@ -545,13 +536,6 @@ def of_capture(capture: Capture, rows: Optional[Sequence[Row]] = None) -> Iterat
 # ---- A replay.
 
 
-RESULTS = {
-    "agree": ("good", "both ends succeeded, and agree"),
-    "apart": ("bad", "both ends succeeded, and don't agree"),
-    "open": ("open", "not both ends succeeded"),
-}
-
-
 def party_name(party: str) -> str:
     return "pass-through" if party == "pass" else party
 
@@ -617,7 +601,7 @@ def of_timeouts(replay: Replay, rows: Sequence[Row]) -> Iterator[Reason]:
         asked = next((it.octets for it in reversed(rows) if it.sender == party and it.kind != "injected"), None)
         since = next((at for at, it in enumerate(rows) if it.octets == asked), 0)
         came = "was taken" if any(it.cause and it.receiver == party for it in rows[since:]) else "came"
-        kind = "gives up" if row is not None and row.title == MARKS["aaa-timeout"] else "gives up asking"
+        kind = "gives up" if row is not None and row.title == words.MARKS["aaa-timeout"] else "gives up asking"
         times = setting(replay, "max-retrans") or "4"
         yield Reason(row, said(kind, party=party_name(party), times=times, s="s" * (times != "1"), came=came))
 
@@ -682,7 +666,7 @@ def of_replay(replay: Replay, rows: Sequence[Row]) -> Story:
     reasons = [it for rule in (of_discards, of_repetitions, of_ends, of_broken, of_nonces) for it in rule(replay, rows)]
     states = ", ".join(f"the {party_name(party)} is in {state}" for party, state in replay.states().items())
     result, is_honest = replay.end.get("result", ""), replay.end.get("tags") == "honest"
-    kind, head = RESULTS.get(result, ("open", states or "it has no end here"))
+    kind, head = TABLES["results"].get(result, ["open", states or "it has no end here"])
     if result == "agree" and (replay.end.get("tags") == "broken" or replay.end.get("fresh") == "no"):
         kind = "open"
     facts = [states] * (result not in ("", "agree"))

@@ -18,10 +18,7 @@ PASSPHRASE = "of a passphrase whose octets are the key, `printf %s PASS | xxd -p
 
 def named(form: str) -> str:
     """What an input of a form is."""
-    others = {"pcap": "a file of captured frames", "gzip": "packed by gzip", "end": "a text of `peer` or `server`",
-              "trace": "a trace, which `replay` writes", "findings": "what `check` or `pcap` writes",
-              "bulk": "what `bulk` writes"}
-    return others.get(form) or TEXTS[form].named
+    return words.OTHER_INPUTS.get(form) or TEXTS[form].named
 
 
 # ---- Words.

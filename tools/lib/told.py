@@ -49,14 +49,7 @@ def of_radius(octets: bytes, lines: list[str]) -> list[str]:
     for number, answer in zip(asked, lines):
         verdict = answer.split(" ")[-1]
         if answer.startswith("read ") and verdict != "good":
-            told.append(f"line {number}: {verdict}: {RADIUS.get(verdict) or words.RADIUS_CAUSES.get(verdict, '')}")
+            told.append(f"line {number}: {verdict}: {words.RADIUS_VERDICTS.get(verdict) or words.RADIUS_CAUSES.get(verdict, '')}")
         elif answer == "reply no-request":
-            told.append(f"line {number}: {RADIUS['no-request']}")
+            told.append(f"line {number}: {words.RADIUS_VERDICTS['no-request']}")
     return told or ["each packet that was read is good"]
-
-
-RADIUS = {
-    "tag-bad": "its Message-Authenticator, or a reply's Response Authenticator, is wrong under this secret: the other side "
-               "has another secret, or an octet was changed",
-    "no-request": "no request of its Identifier was written, or read as good, before it",
-}

@@ -173,6 +173,8 @@ class Form(NamedTuple):
 
 FORMS = tuple(Form(*f"{head} < ".split(" < ")[:2], *cells) for head, cells in TABLES["forms"].items())
 STATUSES, FAULTS, SKIPS, RADIUS_CAUSES = map(texts_in, ("statuses", "faults", "skips", "radius causes"))
+# What the tools say besides.
+OTHER_INPUTS, RADIUS_VERDICTS, MARKS = map(texts_in, ("other inputs", "radius verdicts", "marks"))
 TOO_MUCH = texts_in("too much")["TooMuch"]
 PCAP_FAULTS = TABLES["pcap faults"]
 
