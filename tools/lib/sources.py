@@ -290,31 +290,19 @@ class Repository:
         names = {crate: exports_of(self.sources.get(f"crates/{crate}/src/lib.rt")) for crate in self.crates}
         return {it for it in self.calls if it.is_open and (it.is_for_c or (it.owner or it.name) in names[it.crate])}
 
-    def place_of(self, name: str, crate: Optional[str]) -> Tuple[Optional[str], str]:
-        """The crate and the name that are meant by `NAME`, or by `CRATE::NAME`."""
+    def meant(self, name: str) -> List[Item]:
+        """What a page names by `NAME` or `CRATE::NAME`, where a type or a file of specs may stand before NAME: the contracts of
+        the functions, of the exported ones where there are some; else the definitions, else the types."""
         front, _, rest = name.partition("::")
-        return (front, rest) if rest and front in self.crates else (crate, name)
-
-    def calls_named(self, name: str, crate: Optional[str]) -> List[Call]:
-        """The functions of a crate, or of all, with this name, `TYPE::NAME` or `NAME`; the exported ones where there are some."""
-        crate, name = self.place_of(name, crate)
-        owner, _, name = name.rpartition("::")
-        here = [it for it in self.called.get(name, []) if crate in (None, it.crate)]
-        here = [it for it in here if it.owner == (owner or None)] or [it for it in here if not owner]
-        return [it for it in here if it in self.exported] or here
-
-    @functools.cached_property
-    def called(self) -> Dict[str, List[Call]]:
-        return grouped((it.name.rpartition("::")[2], it) for it in self.calls)
-
-    def declared(self, name: str, crate: Optional[str]) -> List[Item]:
-        """What a crate, or each, declares by this name, `NAME`, or `FILE::NAME` for a file of specs: its definitions, else
-        its types."""
-        crate, name = self.place_of(name, crate)
-        stem, _, name = name.rpartition("::")
-        found = [it for of in ([crate] if crate else self.crates) for it in self.of.get((of, name), [])
-                 if it.name == name and not isinstance(it, Call) and stem in ("", Path(it.file).stem)]
-        return [it for it in found if it.file.endswith(".antt")] or found
+        crate, name = (front, rest) if rest and front in self.crates else ("", name)
+        front, _, name = name.rpartition("::")
+        calls = [it for it in self.calls if it.name.rpartition("::")[2] == name and crate in ("", it.crate)]
+        calls = [it for it in calls if (it.owner or "") == front] or [it for it in calls if not front]
+        calls = [it for it in calls if it in self.exported] or calls
+        others = [it for (of, _), items in self.of.items() if crate in ("", of) for it in items if it.name == name
+                  and not isinstance(it, Call) and front in ("", Path(it.file).stem)]
+        contracts: List[Item] = [it.contract for it in calls if it.clauses]
+        return contracts or [it for it in others if it.file.endswith(".antt")] or others
 
     # What rests on what.
 
