@@ -38,7 +38,7 @@ def used_by(caller: Call, calls: list[Call], types: set[str]) -> set[Call]:
 
 def caller_of(repository: Repository, crate: str) -> Optional[Call]:
     """A proved function of 5 to 15 lines that uses the crate: of those that use most of its calls the shortest."""
-    calls, above = calls_of(repository, crate), {it for it, below in repository.below.items() if crate in below}
+    calls, above = calls_of(repository, crate), repository.above(crate)
     types = {it.owner for it in calls if it.owner}
     found = [(-len(made), it.code.count("\n"), it.place, it) for it in repository.calls
              if it.crate in above and LEAST <= it.code.count("\n") + 1 <= MOST and not it.is_empty
@@ -53,10 +53,9 @@ def undented(code: str) -> str:
 
 
 def page_of(repository: Repository, crate: str) -> Iterator[str]:
-    source = repository.sources.get(f"crates/{crate}/src/lib.rt") or repository.sources[f"crates/{crate}/src/main.rt"]
-    above = [it for it, below in repository.below.items() if crate in below]
-    yield from (f"# {crate}", "", source.heading, "")
-    yield f"Built on: {', '.join(repository.below[crate]) or 'the kit alone'}. Used by: {', '.join(above) or 'none'}."
+    yield from (f"# {crate}", "", repository.heading(crate), "")
+    below, above = repository.below[crate], repository.above(crate)
+    yield f"Built on: {', '.join(below) or 'the kit alone'}. Used by: {', '.join(above) or 'none'}."
     caller = caller_of(repository, crate)
     if caller:
         yield from ("", f"## A caller: `{caller.place}`", "", "```rust", undented(caller.code), "```")

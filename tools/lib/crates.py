@@ -41,16 +41,8 @@ def with_those_below(crate: str, depends: Crates) -> set[str]:
 def layers_of(text: str) -> dict[str, Crates]:
     """The crates under the heads of their layers, which are comments each behind an empty line."""
     layers: dict[str, Crates] = {}
-    named = names_of(text)
+    known = crates_of(text)
     for part in text.split("\n\n")[1:]:
         head, _, lines = part.partition("\n")
-        layers[head.lstrip("# ")] = {name: [it for it in below if it in named] for name, below in names_of(lines).items()}
+        layers[head.lstrip("# ")] = {name: known[name] for name in names_of(lines)}
     return layers
-
-
-def first_sentence(crate: str) -> str:
-    """What a crate says first of itself."""
-    folder = ROOT / "crates" / crate / "src"
-    root = next(it for it in (folder / "lib.rt", folder / "main.rt") if it.exists())
-    said = " ".join(line[3:].strip() for line in root.read_text().splitlines() if line.startswith("//!"))
-    return re.split(r"(?<=[^.][.])\s", re.sub(r"\[(`[^`]*`)\]", r"\1", said), maxsplit=1)[0]

@@ -282,6 +282,14 @@ class Repository:
         for it in self.calls:
             it.meets = of_traits.get((it.of_trait, f"{it.of_trait}::{it.name.rpartition('::')[2]}")) if it.of_trait else None
 
+    def above(self, crate: str) -> List[str]:
+        """The crates that stand on a crate."""
+        return [it for it, below in self.below.items() if crate in below]
+
+    def heading(self, crate: str) -> str:
+        """What a crate says of itself."""
+        return next(it.heading for it in self.sources.values() if re.fullmatch(rf"crates/{crate}/src/(lib|main)\.rt", it.file))
+
     # What the pages name.
 
     @functools.cached_property

@@ -22,14 +22,11 @@ def listed(sections: Iterable[Section]) -> str:
     return ", ".join(f"{standard} {', '.join(numbers)}" for standard, numbers in grouped(sections).items()) or "–"
 
 
-def sections_in(source: Source, items: List[Item]) -> List[Section]:
-    """The sections that the heading of a file, and below it the comments of these items, name."""
-    found, standard = sources.sections_of(source.heading)
-    for item in items:
-        part, its_standard = sources.sections_of(item.part, standard)
-        own, _ = sources.sections_of(item.comment, its_standard)
-        found += [it for it in dict.fromkeys(part + own) if it not in found]
-    return found
+def sections_in(source: Source, item: Item) -> List[List[Section]]:
+    """The sections that the heading of a file names, the comment above an item and others, and its own."""
+    heading, standard = sources.sections_of(source.heading)
+    part, standard = sources.sections_of(item.part, standard)
+    return [heading, part, sources.sections_of(item.comment, standard)[0]]
 
 
 def lines_of(items: Iterable[Item]) -> int:
@@ -50,7 +47,8 @@ def of_files(repository: Repository, order: List[Item], foreign: Set[Tuple[str, 
     for file, items in files.items():
         source = repository.sources[file]
         lines = f"{lines_of(items)} of {len(source.lines)}"
-        yield f"| `{file.removeprefix('crates/')}` | {named(items)} | {lines} | {listed(sections_in(source, items))} |"
+        sections = listed(dict.fromkeys(it for item in items for its in sections_in(source, item) for it in its))
+        yield f"| `{file.removeprefix('crates/')}` | {named(items)} | {lines} | {sections} |"
     total = sum(len(repository.sources[file].lines) for file in files)
     yield f"\nFiles: {len(files)}; definitions: {named(order)}; lines: {lines_of(order)} of {total}."
     kit = sorted({module.removeprefix("Rattle.") for module, _ in foreign})
@@ -62,29 +60,21 @@ def order_of(section: Section) -> Tuple[int, List[int]]:
     return STANDARDS.index(standard), [int(it) if it.isdigit() else 0 for it in re.split(r"\.", number)]
 
 
-def by_section(repository: Repository, order: List[Item]) -> Iterator[Tuple[Section, Dict[str, List[Tuple[str, bool]]]]]:
-    """Each section with the definitions of each file that it is about, and whether these name it themselves. What names
-    none itself stands under those of its part or of its file's heading."""
-    rows: Dict[Section, Dict[str, List[Tuple[str, bool]]]] = {}
-    for item in filter(lambda it: it.name, order):
-        heading, standard = sources.sections_of(repository.sources[item.file].heading)
-        part, standard = sources.sections_of(item.part, standard)
-        own, _ = sources.sections_of(item.comment, standard)
-        for section in own or part or heading:
-            if section[0] in STANDARDS:
-                rows.setdefault(section, {}).setdefault(item.file, []).append((item.name, bool(own)))
-    yield from sorted(rows.items(), key=lambda it: order_of(it[0]))
-
-
 def of_sections(repository: Repository, order: List[Item]) -> Iterator[str]:
+    """Each section with the definitions of each file that it is about; of these the names that name it themselves. What names
+    none itself stands under those of its part or of its file's heading."""
     yield "| Section | Definitions |\n|---|---|"
-    for section, files in by_section(repository, order):
+    rows: List[Tuple[Section, Tuple[str, Tuple[str, bool]]]] = []
+    for item in filter(lambda it: it.name, order):
+        heading, part, own = sections_in(repository.sources[item.file], item)
+        rows += [(it, (item.file, (item.name, bool(own)))) for it in own or part or heading if it[0] in STANDARDS]
+    for section, files in sorted(grouped(rows).items(), key=lambda it: order_of(it[0])):
         told = []
-        for file, names in files.items():
-            own = [f"`{name}`" for name, is_own in dict.fromkeys(names) if is_own]
-            rest = len(names) - len(own)
-            more = [f"{rest} {'more' if own else 'definition' if rest == 1 else 'definitions'}"] if rest else []
-            told.append(f"{', '.join(own + more)} in `{file.removeprefix('crates/')}`")
+        for file, names in grouped(files).items():
+            said = [f"`{name}`" for name, is_own in dict.fromkeys(names) if is_own]
+            rest = len(names) - len(said)
+            more = [f"{rest} {'more' if said else 'definition' if rest == 1 else 'definitions'}"] if rest else []
+            told.append(f"{', '.join(said + more)} in `{file.removeprefix('crates/')}`")
         yield f"| {' '.join(section)} | {'; '.join(told)} |"
 
 
