@@ -169,9 +169,10 @@ def captured(replay: Replay, passed: list[Row]) -> Capture:
     packets = Packets()
     for number, it in enumerate(passed, 1):
         packets.append(number, it.receiver == "peer", it.octets or b"", NONE)
-    name = next((it[1] for it in replay.settings if it[0] == "peer-name"), "")
-    own = [(name, it[1], it[2]) for it in replay.settings if it[0] == "peer-psk" and name]
-    return Capture(packets, replay.users or (own if not replay.has_losses else []), replay.comments)
+    name = replay.setting("peer-name")
+    users = [(it[0], it[1], it[2]) for it in replay.given("user")]
+    own = [(name, it[0], it[1]) for it in replay.given("peer-psk") if name]
+    return Capture(packets, users or (own if not replay.has_losses else []), replay.comments)
 
 
 # ---- Captures.

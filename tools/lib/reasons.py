@@ -540,24 +540,18 @@ def party_name(party: str) -> str:
     return "pass-through" if party == "pass" else party
 
 
-def setting(replay: Replay, *front: str) -> str:
-    """The word behind these in a setting."""
-    found = [it[len(front)] for it in replay.settings if it[: len(front)] == list(front) and len(it) > len(front)]
-    return found[0] if found else ""
-
-
 def keys_differ(replay: Replay, reading: Reading) -> str:
     """Whether the two ends of a scenario have different keys for the user of a message."""
-    kind, user = reading.kind, setting(replay, "peer-name")
-    one, other = setting(replay, "peer-psk", kind), setting(replay, "user", user, kind)
+    kind, user = reading.kind, replay.setting("peer-name")
+    one, other = replay.setting("peer-psk", kind), replay.setting("user", user, kind)
     return said("different keys", kind=kind, user=user) if one and other and one.lower() != other.lower() else ""
 
 
 def discard(replay: Replay, row: Row) -> str:
     """Why a party discards what comes."""
     party = party_name(row.receiver or (row.acts[0][0] if row.acts else ""))
-    server = row.reading.identity if row.octets is not None else setting(replay, "server-name")
-    why = words.cause_said(row.cause, party=party, server=server, user=setting(replay, "peer-name"))
+    server = row.reading.identity if row.octets is not None else replay.setting("server-name")
+    why = words.cause_said(row.cause, party=party, server=server, user=replay.setting("peer-name"))
     if row.was and row.octets:
         at = row.altered[0] if row.altered else 0
         why = said("altered on its way", at=at, came=row.octets[at], was=row.was[at])
@@ -575,7 +569,7 @@ def of_discards(replay: Replay, rows: Sequence[Row]) -> Iterator[Reason]:
             continue
         elif code is not None:
             is_forged = row.kind == "injected" or row.was is not None
-            yield Reason(row, said("forged end") if is_forged else code_said(code, setting(replay, "peer-name")))
+            yield Reason(row, said("forged end") if is_forged else code_said(code, replay.setting("peer-name")))
         elif row.kind == "injected":
             yield Reason(row, said("injected"))
 
@@ -602,7 +596,7 @@ def of_timeouts(replay: Replay, rows: Sequence[Row]) -> Iterator[Reason]:
         since = next((at for at, it in enumerate(rows) if it.octets == asked), 0)
         came = "was taken" if any(it.cause and it.receiver == party for it in rows[since:]) else "came"
         kind = "gives up" if row is not None and row.title == words.MARKS["aaa-timeout"] else "gives up asking"
-        times = setting(replay, "max-retrans") or "4"
+        times = replay.setting("max-retrans") or "4"
         yield Reason(row, said(kind, party=party_name(party), times=times, s="s" * (times != "1"), came=came))
 
 
@@ -618,11 +612,11 @@ def of_ends(replay: Replay, rows: Sequence[Row]) -> Iterator[Reason]:
     # (only where the server came to propose a method, or to look for a user)
     if not any(it.reading.message in ("Nak", "Failure") or "Failure-Code" in it.reading.number for it in rows):
         return
-    methods = {end: [it[1:] for it in replay.settings if it[0] == f"{end}-methods"] for end in ("peer", "server")}
+    methods = {end: replay.given(f"{end}-methods") for end in ("peer", "server")}
     if all(methods.values()) and not set(methods["peer"][0]) & set(methods["server"][0]) - {"-"}:
         yield Reason(None, said("no common method"))
-    name = setting(replay, "peer-name")
-    if name and setting(replay, "server-name") and not any(it[1] == name for it in replay.settings if it[0] == "user"):
+    name = replay.setting("peer-name")
+    if name and replay.setting("server-name") and not replay.given("user", name):
         yield Reason(None, said("no user", name=name))
 
 
@@ -637,7 +631,7 @@ def of_nonces(replay: Replay, rows: Sequence[Row]) -> Iterator[Reason]:
     """Which conversations began with a nonce whose front was there before, in a nonce or in a delivery."""
     if replay.end.get("fresh") != "no":
         return
-    nonces = {end: [it[1].lower() for it in replay.settings if it[0] == f"{end}-nonce"] for end in ("peer", "server")}
+    nonces = {end: [it[0].lower() for it in replay.given(f"{end}-nonce")] for end in ("peer", "server")}
     begun = {"peer": 0, "server": 0}
     used: dict[str, str] = {}
     heard = ""

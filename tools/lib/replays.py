@@ -56,9 +56,13 @@ class Replay:
     comments: list[str] = field(default_factory=list)
     has_losses: bool = True
 
-    @property
-    def users(self) -> list[tuple[str, str, str]]:
-        return [(it[1], it[2], it[3]) for it in self.settings if it[0] == "user"]
+    def given(self, *front: str) -> list[list[str]]:
+        """The words behind these in each setting that begins with them."""
+        return [it[len(front) :] for it in self.settings if it[: len(front)] == list(front)]
+
+    def setting(self, *front: str) -> str:
+        """The first word that a setting has behind these."""
+        return next((it[0] for it in self.given(*front) if it), "")
 
     def states(self) -> dict[str, str]:
         """The state in which each party stands at the end."""
