@@ -63,11 +63,11 @@ def page_of(repository: Repository, crate: str) -> Iterator[str]:
     if any(not it.is_law for it in calls):
         yield from ("", "## Its calls", "")
     for it in [it for it in calls if not it.is_law]:
-        names = it.contract.named()
+        names = [one.name for one in it.contract.clauses if one.kind == "ensures" and one.name]
         asks = [one.text for one in it.contract.clauses if one.kind == "requires"]
         asked = f" It {', '.join(f'`{text}`' for text in asks)}." if asks else ""
         ensures = f" *Ensures {', '.join(names)}.*" if names else ""
-        yield f"- `{it.call}`: {sentence_of(it.comment or it.contract.comment)}{asked}{ensures}"
+        yield f"- `{it.name}`: {sentence_of(it.comment or it.contract.comment)}{asked}{ensures}"
     laws = [it for it in calls if it.is_law]
     if laws:
-        yield from ("", "## Its laws", "", *(f"- `{it.call}`: {sentence_of(it.comment)}" for it in laws))
+        yield from ("", "## Its laws", "", *(f"- `{it.name}`: {sentence_of(it.comment)}" for it in laws))

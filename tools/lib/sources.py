@@ -84,10 +84,6 @@ class Call(Item):
     code: str = ""
 
     @property
-    def call(self) -> str:
-        return f"{self.owner}::{self.name.rpartition('::')[2]}" if self.owner else self.name
-
-    @property
     def is_law(self) -> bool:
         return self.is_open and self.is_empty and not self.owner and bool(self.clauses)
 
@@ -97,21 +93,14 @@ class Call(Item):
         has_own = any(it.kind == "ensures" for it in self.clauses)
         return self if has_own or not self.meets else self.meets
 
-    def named(self) -> List[str]:
-        return [it.name for it in self.clauses if it.kind == "ensures" and it.name]
-
     def with_clauses(self, names: List[str]) -> "Item":
         """Its contract with no more than these of its promises, beside what it asks first."""
         kept = [it for it in self.clauses if it.kind == "requires" or it.name in names]
-        lines = self.head_lines | {line for it in kept for line in it.lines}
+        # (beside theirs, those of its name and its parameters)
+        first = min([line for it in self.clauses for line in it.lines], default=max(self.lines) + 1)
+        lines = {self.at, *range(self.at, first)}.union(*(it.lines for it in kept))
         return Item(self.crate, self.file, self.name, lines, "\n".join([self.front, *(it.text for it in kept)]), "",
                     inside=self.inside)
-
-    @property
-    def head_lines(self) -> Set[int]:
-        """The lines of its name and its parameters."""
-        first = min([line for it in self.clauses for line in it.lines], default=max(self.lines) + 1)
-        return set(range(self.at, first)) or {self.at}
 
 
 class Source:
