@@ -23,8 +23,9 @@ SECONDS = 60
 SETTINGS = (ROOT / "cases/settings").read_text().splitlines()
 
 # (that a line isn't there says little of an output)
-OUTPUT = (">", "|", "last", "sent", "same", "empty", "is", "!", "quiet")
-FORMS = ("from", "row", "$", "set", "take", "run", "<", "file", "input", "unreadable", "=", "in", "at", "old", "new", "never", *OUTPUT)
+OUTPUT = (">", "|", "last", "sent", "same", "empty", "is", "as", "has", "!", "quiet")
+WORDS = ("$", "then", "as")
+FORMS = ("from", "row", *WORDS[:2], "set", "take", "run", "<", "file", "input", "unreadable", "=", "in", "at", "old", "new", "never", *OUTPUT)
 # (a last line that ends without LF follows its form without a space, too)
 FORM = re.compile(rf"({'|'.join(map(re.escape, FORMS))})(?: (.*))?|(<<)(.*)")
 
@@ -49,7 +50,11 @@ class Case:
 
     @property
     def words(self) -> list[str]:
-        return [spelled(it) for it in (self.last("$") or "").split()]
+        return (self.commands("$") or [[]])[-1]
+
+    def commands(self, form: str) -> list[list[str]]:
+        """The words of each line of this form."""
+        return [[spelled(it) for it in rest.split()] for rest in self.all(form)]
 
     def rows(self) -> list[Case]:
         """One case for each row; the case itself where it has none."""
@@ -66,7 +71,7 @@ class Case:
 
     def expanded(self) -> Case:
         """The same with what is written short spelled out, but for the words, which spaces part first."""
-        return Case(self.name, [(form, rest if form == "$" else spelled(rest)) for form, rest in self.lines])
+        return Case(self.name, [(form, rest if form in WORDS else spelled(rest)) for form, rest in self.lines])
 
     def check(self) -> None:
         """Ends with Bad where the case doesn't say what it must."""
@@ -80,7 +85,7 @@ class Case:
     def input(self) -> bytes:
         """A file of the repository, and then the lines and octets."""
         named = self.last("input")
-        lines = scenario(self) if self.words[:1] == ["replay"] and named is None else []
+        lines = scenario(self) if (self.words[:1] == ["replay"] or self.all("run")) and named is None else []
         text = "".join(line + "\n" for line in lines + self.all("<")) + "".join(self.all("<<"))
         octets = text.encode("latin-1") + bytes.fromhex("".join(self.all("file")))
         return ((ROOT / named).read_bytes() if named else b"") + octets
@@ -217,6 +222,7 @@ def faults_in(case: Case, status: int, output: str, errors: str) -> Iterator[Opt
     if ends := case.all("last"):
         yield first_difference(ends, lines[-len(ends) :])
     yield from (f"wanted no line {line!r}, found one" for line in case.all("never") if line in lines)
+    yield from (f"wanted {text!r}, and it isn't there" for text in case.all("has") if text not in output)
     sent = " ".join(line.partition(" length ")[2] for line in lines if " length " in line)
     if case.last("sent") not in (None, sent):
         yield f"wanted the lengths {case.last('sent')}, found {sent}"

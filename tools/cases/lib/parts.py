@@ -20,7 +20,7 @@ from typing import Iterator, Optional, Sequence
 
 from cases.lib.small import Small, texts_of
 from lib.cases import Bad, Case, fault_in, read
-from lib.common import ROOT, Parser, said_by, this_python
+from lib.common import ROOT, Parser, answer, said_by, this_python
 
 HERE = ROOT
 # What needs no program: it is begun first, while that may still be built.
@@ -38,8 +38,11 @@ def module_of(path: Path) -> ModuleType:
 
 
 def run_tool(words: Sequence[str], given: bytes = b"", root: Path = ROOT) -> tuple[int, str, str]:
-    """Runs a tool of dev/ or tools/ within this interpreter, or the same as if it stood in another repository: its status,
-    its output, its errors."""
+    """Runs a tool of dev/ or tools/ within this interpreter, or the same as if it stood in another repository, or the
+    program: its status, its output, its errors."""
+    if words[0] == "eap_login":
+        status, lines = answer(words[1:], given)
+        return status, "".join(f"{line}\n" for line in lines), ""
     place = next(it for it in (words[0], f"dev/{words[0]}", f"tools/{words[0]}") if (HERE / it).is_file())
     module = module_of(HERE / place)
     moved = [it for it in list(sys.modules.values()) if getattr(it, "ROOT", None) == HERE]
@@ -87,8 +90,12 @@ def fault_of(case: Case, folder: str) -> Optional[str]:
                 small.turn(file, *((case.last(it) or "").encode("latin-1").decode() for it in ("old", "new")))
             except ValueError as fault:
                 return str(fault)
-    status, *texts = run_tool(case.words, case.input(), root)
-    return fault_in(case, status, *(it.encode().decode("latin-1") for it in texts))
+    given = case.input()
+    for words in [case.words, *case.commands("then")]:
+        status, out, errors = run_tool(words, given, root)
+        given = out.encode()
+    same = [(">", line) for words in case.commands("as") for line in run_tool(words)[1].splitlines() or [f"what {words} write"]]
+    return fault_in(Case(case.name, case.lines + same), status, given.decode("latin-1"), errors.encode().decode("latin-1"))
 
 
 @functools.lru_cache(maxsize=None)
