@@ -11,56 +11,48 @@ import tempfile
 import time
 from pathlib import Path
 from typing import Iterator, Optional
+from unittest import mock
 
 from cases.lib.small import Run, Small, holds, texts_of
 
 CODE, EDIT = "crates/small/src/lib.rt", "wrong/small/double__is_0.edit"
 
 
-def tells(small: Small, status: int, words: str, *lines: str) -> Iterator[Optional[str]]:
-    """With these words it ends with this status and writes these lines."""
-    said = small.run(*words.split())
-    for line in lines:
-        yield holds(said.status == status and line in said.lines, f"{words} ends with {said.status}, and doesn't write '{line}': {said}")
-
-
 def case_tries(run: Run) -> Iterator[Optional[str]]:
     """An edit counts as refused where a clause refused it, and rt came to its end over sources that stayed; a row is of the
     sources that it was tried on; one that is stopped leaves nothing."""
-    kept = dict(os.environ)
-    with tempfile.TemporaryDirectory() as folder, tempfile.TemporaryDirectory() as rooms:
-        try:
-            os.makedirs(f"{folder}/bin")
-            shutil.copy("dev/cases/rt", f"{folder}/bin/rt")
-            os.environ["PATH"] = f"{folder}/bin:{os.environ['PATH']}"
-            small = Small(run, f"{folder}/small", texts_of("dev/cases/small.texts"))
-            yield from tells(small, 0, "wrong small", "dev/wrong: small: 1 of 1 refused", "wrong: 1 passed, 0 failed")
-            yield from tells(small, 0, "wrong status", "edits: 1 of 1 tried on today's sources")
-            yield from tells(small, 0, "wrong --stale", "wrong: 0 passed, 0 failed")
-            small.turn(CODE, "", "// on a comment no refusal rests\n")
-            yield from tells(small, 0, "wrong --stale", "wrong: 0 passed, 0 failed")
-            small.turn(CODE, "", "\n")
-            yield from tells(small, 0, "wrong status", "edits: 0 of 1 tried on today's sources")
-            yield from tells(small, 0, "wrong --stale", "wrong: 1 passed, 0 failed")
-            os.environ["STOPS"] = "yes"
-            yield from tells(small, 1, "wrong", "dev/wrong: small/double__is_0.edit: it was not tried")
-            del os.environ["STOPS"]
-            os.environ["CHANGES"] = str(small.root / CODE)
-            yield from tells(small, 1, "wrong", "dev/wrong: small: a source changed meanwhile")
-            del os.environ["CHANGES"]
-            for kind in ("by_name", "by_limit", "is_bad", "is_untried", "is_proved"):
-                small.write(f"wrong/small/double__{kind}.edit", small.texts[EDIT])
-            yield from tells(small, 1, "wrong", "wrong: 1 passed, 5 failed")
-            for it in ("dev/wrong", "tools/lib/common.py", "tools/lib/crates.py"):
-                small.write(it, Path(it).read_text())
-            os.environ.update(TMPDIR=rooms, SLEEPS="yes")
-            working = subprocess.Popen([sys.executable, "-B", small.root / "dev/wrong"], stdin=subprocess.DEVNULL,
-                                       stdout=subprocess.DEVNULL, stderr=subprocess.DEVNULL)
-            while not list(Path(rooms).glob("*/crates/small/must-fail/*")) and working.poll() is None:
-                time.sleep(0.05)
-            working.send_signal(signal.SIGTERM)
-            found = working.wait(), os.listdir(rooms)
-            yield holds(found == (143, []), f"wrong leaves something where it is stopped: {found}")
-        finally:
-            os.environ.clear()
-            os.environ.update(kept)
+    with tempfile.TemporaryDirectory() as folder, tempfile.TemporaryDirectory() as rooms, mock.patch.dict(os.environ):
+        os.makedirs(f"{folder}/bin")
+        shutil.copy("dev/cases/rt", f"{folder}/bin/rt")
+        os.environ["PATH"] = f"{folder}/bin:{os.environ['PATH']}"
+        small = Small(f"{folder}/small", texts_of("dev/cases/small.texts"))
+
+        def tells(wanted: int, words: str, line: str, **changes: str) -> Optional[str]:
+            """With these words it ends with this status and writes this line."""
+            with mock.patch.dict(os.environ, changes):
+                status, out, errors = run(words.split(), root=small.root)
+            return holds(status == wanted and line in (out + errors).splitlines(), f"{words} ends with {status}: {out}{errors}")
+
+        yield tells(0, "wrong small", "dev/wrong: small: 1 of 1 refused")
+        yield tells(0, "wrong small", "wrong: 1 passed, 0 failed")
+        yield tells(0, "wrong status", "edits: 1 of 1 tried on today's sources")
+        yield tells(0, "wrong --stale", "wrong: 0 passed, 0 failed")
+        small.turn(CODE, "", "// on a comment no refusal rests\n")
+        yield tells(0, "wrong --stale", "wrong: 0 passed, 0 failed")
+        small.turn(CODE, "", "\n")
+        yield tells(0, "wrong status", "edits: 0 of 1 tried on today's sources")
+        yield tells(0, "wrong --stale", "wrong: 1 passed, 0 failed")
+        yield tells(1, "wrong", "dev/wrong: small/double__is_0.edit: it was not tried", STOPS="yes")
+        yield tells(1, "wrong", "dev/wrong: small: a source changed meanwhile", CHANGES=str(small.root / CODE))
+        for kind in ("by_name", "by_limit", "is_bad", "is_untried", "is_proved"):
+            small.write(f"wrong/small/double__{kind}.edit", small.texts[EDIT])
+        yield tells(1, "wrong", "wrong: 1 passed, 5 failed")
+        for it in ("dev/wrong", "tools/lib/common.py", "tools/lib/crates.py"):
+            small.write(it, Path(it).read_text())
+        working = subprocess.Popen([sys.executable, "-B", small.root / "dev/wrong"], env={**os.environ, "TMPDIR": rooms, "SLEEPS": "yes"},
+                                   stdin=subprocess.DEVNULL, stdout=subprocess.DEVNULL, stderr=subprocess.DEVNULL)
+        while not list(Path(rooms).glob("*/crates/small/must-fail/*")) and working.poll() is None:
+            time.sleep(0.05)
+        working.send_signal(signal.SIGTERM)
+        found = working.wait(), os.listdir(rooms)
+        yield holds(found == (143, []), f"wrong leaves something where it is stopped: {found}")

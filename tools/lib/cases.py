@@ -25,7 +25,8 @@ SETTINGS = (ROOT / "cases/settings").read_text().splitlines()
 # (that a line isn't there says little of an output)
 OUTPUT = (">", "|", "last", "sent", "same", "empty", "is", "as", "has", "!", "quiet")
 WORDS = ("$", "then", "as")
-FORMS = ("from", "row", *WORDS[:2], "set", "take", "run", "<", "file", "input", "unreadable", "=", "in", "at", "old", "new", "never", *OUTPUT)
+FORMS = ("from", "row", *WORDS[:2], "set", "take", "run", "<", "file", "input", "unreadable", "=", "in", "at", "old", "new",
+         "never", "lacks", *OUTPUT)
 # (a last line that ends without LF follows its form without a space, too)
 FORM = re.compile(rf"({'|'.join(map(re.escape, FORMS))})(?: (.*))?|(<<)(.*)")
 
@@ -223,6 +224,7 @@ def faults_in(case: Case, status: int, output: str, errors: str) -> Iterator[Opt
         yield first_difference(ends, lines[-len(ends) :])
     yield from (f"wanted no line {line!r}, found one" for line in case.all("never") if line in lines)
     yield from (f"wanted {text!r}, and it isn't there" for text in case.all("has") if text not in output)
+    yield from (f"wanted no {text!r}, and it is there" for text in case.all("lacks") if text in output)
     sent = " ".join(line.partition(" length ")[2] for line in lines if " length " in line)
     if case.last("sent") not in (None, sent):
         yield f"wanted the lengths {case.last('sent')}, found {sent}"

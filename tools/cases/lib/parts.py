@@ -4,6 +4,7 @@ tools/cases/lib/common.sh. Tools in Python run within this interpreter."""
 
 from __future__ import annotations
 
+import contextlib
 import functools
 import io
 import os
@@ -17,10 +18,11 @@ from itertools import chain
 from pathlib import Path
 from types import ModuleType
 from typing import Iterator, Optional, Sequence
+from unittest import mock
 
 from cases.lib.small import Small, texts_of
 from lib.cases import Bad, Case, fault_in, read
-from lib.common import ROOT, Parser, answer, said_by, this_python
+from lib.common import ROOT, Parser, run, said_by, this_python
 
 HERE = ROOT
 # What needs no program: it is begun first, while that may still be built.
@@ -41,36 +43,24 @@ def run_tool(words: Sequence[str], given: bytes = b"", root: Path = ROOT) -> tup
     """Runs a tool of dev/ or tools/ within this interpreter, or the same as if it stood in another repository, or the
     program: its status, its output, its errors."""
     if words[0] == "eap_login":
-        status, lines = answer(words[1:], given)
-        return status, "".join(f"{line}\n" for line in lines), ""
+        status, octets = run(words[1:], given)
+        return status, octets.decode(), ""
     place = next(it for it in (words[0], f"dev/{words[0]}", f"tools/{words[0]}") if (HERE / it).is_file())
     module = module_of(HERE / place)
-    moved = [it for it in list(sys.modules.values()) if getattr(it, "ROOT", None) == HERE]
-    for it in moved:
-        setattr(it, "ROOT", root)
-    try:
-        return answer_of(module, [place, *words[1:]], given)
-    finally:
+    out, errors, status = io.BytesIO(), io.StringIO(), 0
+    written = io.TextIOWrapper(out, encoding="utf-8", write_through=True)
+    moved = [it for it in list(sys.modules.values()) if getattr(it, "ROOT", None) == HERE] if root != HERE else []
+    with contextlib.ExitStack() as changes:
+        changes.enter_context(mock.patch.multiple(sys, argv=[place, *words[1:]], stdin=io.TextIOWrapper(io.BytesIO(given)),
+                                                  stdout=written, stderr=errors))
         for it in moved:
-            setattr(it, "ROOT", HERE)
-
-
-def answer_of(module: ModuleType, words: Sequence[str], given: bytes) -> tuple[int, str, str]:
-    kept = sys.argv, sys.stdin, sys.stdout, sys.stderr
-    out, errors = io.BytesIO(), io.StringIO()
-    sys.argv = [*words]
-    sys.stdin = io.TextIOWrapper(io.BytesIO(given))
-    written = sys.stdout = io.TextIOWrapper(out, encoding="utf-8", write_through=True)
-    sys.stderr = errors
-    try:
-        module.tool(module.main)
-    except SystemExit as ended:
-        status = ended.code if isinstance(ended.code, int) else 0
-        if status == 130:
-            raise KeyboardInterrupt
-    finally:
-        sys.argv, sys.stdin, sys.stdout, sys.stderr = kept
-    written.flush()
+            changes.enter_context(mock.patch.object(it, "ROOT", root))
+        try:
+            module.tool(module.main)
+        except SystemExit as ended:
+            status = ended.code if isinstance(ended.code, int) else 0
+    if status == 130:
+        raise KeyboardInterrupt
     return status, out.getvalue().decode(), errors.getvalue()
 
 
@@ -100,7 +90,7 @@ def fault_of(case: Case, folder: str) -> Optional[str]:
 
 @functools.lru_cache(maxsize=None)
 def small_of(folder: str, named: str) -> Small:
-    return Small(run_tool, tempfile.mkdtemp(dir=folder), texts_of(named))
+    return Small(tempfile.mkdtemp(dir=folder), texts_of(named))
 
 
 def of_texts(path: Path) -> Iterator[Optional[str]]:

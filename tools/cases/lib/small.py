@@ -5,21 +5,9 @@ from __future__ import annotations
 import re
 import subprocess
 from pathlib import Path
-from typing import Callable, NamedTuple, Optional
+from typing import Callable, Optional
 
 Run = Callable[..., tuple[int, str, str]]
-
-
-class Said(NamedTuple):
-    """What a tool ended with, and the lines that it wrote."""
-
-    status: int
-    out: list[str]
-    errors: list[str]
-
-    @property
-    def lines(self) -> list[str]:
-        return self.out + self.errors
 
 
 def holds(is_so: object, otherwise: str) -> Optional[str]:
@@ -35,8 +23,8 @@ def texts_of(names: str) -> dict[str, str]:
 class Small:
     """A repository of these texts, by their places, in a folder that is there for it alone, with a commit of all."""
 
-    def __init__(self, run: Run, folder: str, texts: dict[str, str]) -> None:
-        self.runs, self.root, self.texts = run, Path(folder), texts
+    def __init__(self, folder: str, texts: dict[str, str]) -> None:
+        self.root, self.texts = Path(folder), texts
         self.changed = set(texts)
         self.again()
         git = ("git", "-C", folder, "-c", "user.name=small", "-c", "user.email=small@example.org")
@@ -66,7 +54,3 @@ class Small:
         if text == was:
             raise ValueError(f"{name} doesn't have {old}")
         self.write(name, text)
-
-    def run(self, *words: str) -> Said:
-        status, out, errors = self.runs(words, root=self.root)
-        return Said(status, out.splitlines(), errors.splitlines())
