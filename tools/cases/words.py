@@ -199,28 +199,25 @@ def case_forms(run: Run) -> Iterator[Optional[str]]:
     usage = answer([], b"")[1][0].removeprefix("usage: eap_login ").split(" | ")
     found = {it.split(" ")[0] for it in usage}
     yield None if found == {it.words.split(" ")[0] for it in words.FORMS} else f"the usage line has {found}"
-    for form in ("bulk {} 1", "bulk 0 {}"):
-        low, high = (it for it in words.BULK_WORDS[form.index("{") // 6].range.split(" to "))
-        for word, wanted in ((low, 0), (high, 0), (str(int(high) + 1), 1), (f"0{low}", 1)):
-            if not (form == "bulk 0 {}" and word == high):
-                status = answer(form.format(word).split(), b"")[0]
-                yield None if status == wanted else f"{form.format(word)} ends with {status}"
+    low, high = (it.range.split(" to ") for it in words.BULK_WORDS)
+    rows = [(f"bulk {low[0]} 1", 0), (f"bulk {low[1]} 1", 0), (f"bulk {int(low[1]) + 1} 1", 1), (f"bulk 0{low[0]} 1", 1)]
+    rows += [(f"bulk 0 {high[0]}", 0), (f"bulk 0 {int(high[1]) + 1}", 1), (f"bulk 0 0{high[0]}", 1)]
     for kind, (least, most) in words.KEY_SIZES.items():
-        for size, wanted in ((least, 2), (most, 2), (least - 1, 1), (most + 1, 1)):
-            status = answer(["pcap", "a", kind, hex_of(size)], b"")[0]
-            yield None if status == wanted else f"pcap a {kind} of {size} octets ends with {status}"
+        sizes = ((least, 2), (most, 2), (least - 1, 1), (most + 1, 1))
+        rows += [(f"pcap a {kind} {hex_of(size)}", status) for size, status in sizes]
+    for form, wanted in rows:
+        status = answer(form.split(), b"")[0]
+        yield None if status == wanted else f"{form[:40]} ends with {status}"
 
 
 def case_statuses(run: Run) -> Iterator[Optional[str]]:
     """Each status but the one for want of memory."""
-    program = str(Path(answer.__globals__["os"].environ["EAP_LOGIN"]))
     altered = Path("examples/altered.capture").read_bytes()
-    ended = {answer(["decode"], b"")[0], answer(["other"], b"")[0], answer(["replay"], b"")[0], answer(["check"], altered)[0]}
-    ended.add(answer(["decode"], b"0" * 5000)[0])
-    with open("/dev/full", "wb") as full:
-        ended.add(subprocess.run([program, "check"], input=altered, stdout=full).returncode)
-    ended.add(subprocess.run(f'"{program}" decode </', shell=True, stdout=subprocess.DEVNULL).returncode)
-    ended.add(subprocess.run([program.encode(), b"\xff"], stdout=subprocess.DEVNULL).returncode)
+    given = (("decode", b""), ("other", b""), ("replay", b""), ("check", altered), ("decode", b"0" * 5000))
+    ended = {answer([word], octets)[0] for word, octets in given}
+    for words_to in ("check <examples/altered.capture >/dev/full", "decode </", r'"$(printf "\377")"'):
+        done = subprocess.run(f'"$EAP_LOGIN" {words_to}', shell=True, stdout=subprocess.DEVNULL)
+        ended.add(done.returncode)
     yield None if {str(it) for it in ended} == set(words.STATUSES) - {"5"} else f"the statuses are {sorted(ended)}"
 
 
@@ -234,16 +231,13 @@ def said_in_cases(pattern: str) -> set[str]:
 def case_causes(run: Run) -> Iterator[Optional[str]]:
     """The causes are those of the border; a case has each, and each skip."""
     header = re.findall(r"TUV_CAUSE_(\w+) = \d+", Path("c/tuvaddri.h").read_text())
-    named = [re.sub(r"(?<=[a-z])(?=[A-Z])", "_", it.word).upper() for it in words.CAUSES]
-    yield None if set(header) == set(named) else f"c/tuvaddri.h has other causes: {set(header) ^ set(named)}"
     causes = said_in_cases(r"\d+ (?:cause|malformed) (\w+)$") | said_in_cases(r"\d+ cause (\w+)")
-    other = {it for it in causes if it[0].isupper()} - set(words.CAUSE_OF)
-    yield f"cases have other causes: {other}" if other else None
-    skips = said_in_cases(r"\d+ skip (\w+)$")
-    yield None if skips == set(words.SKIPS) else f"cases have other skips: {skips ^ set(words.SKIPS)}"
-    radius = said_in_cases(r"read ([A-Z]\w+)$")
-    yield None if set(words.RADIUS_CAUSES) >= radius else f"other causes of radius: {radius - set(words.RADIUS_CAUSES)}"
-    faults = said_in_cases(r"refused record \w+ (\w+)$")
-    yield None if faults == set(words.PCAP_FAULTS) else f"other faults of pcap: {faults ^ set(words.PCAP_FAULTS)}"
-    findings = said_in_cases(r"^(?:> |\| )?\d+ (good|malformed|no-\w+|tag-\w+)\b")
-    yield None if findings == set(words.FINDING_OF) else f"other findings: {findings ^ set(words.FINDING_OF)}"
+    for what, found, known in (
+        ("causes in c/tuvaddri.h", set(header), {re.sub(r"(?<=[a-z])(?=[A-Z])", "_", it.word).upper() for it in words.CAUSES}),
+        ("skips", said_in_cases(r"\d+ skip (\w+)$"), set(words.SKIPS)),
+        ("faults of pcap", said_in_cases(r"refused record \w+ (\w+)$"), set(words.PCAP_FAULTS)),
+        ("findings", said_in_cases(r"^(?:> |\| )?\d+ (good|malformed|no-\w+|tag-\w+)\b"), set(words.FINDING_OF)),
+        ("causes", {it for it in causes if it[0].isupper()} - set(words.CAUSE_OF), set()),
+        ("causes of radius", said_in_cases(r"read ([A-Z]\w+)$") - set(words.RADIUS_CAUSES), set()),
+    ):
+        yield None if found == known else f"there are other {what}: {found ^ known}"
