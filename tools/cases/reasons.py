@@ -10,6 +10,7 @@ import struct
 import tempfile
 from pathlib import Path
 from typing import Iterator, Optional
+from unittest import mock
 
 from cases.lib import wire
 from cases.lib.small import Run, holds
@@ -219,31 +220,29 @@ while sleep 0.1; do :; done
 
 
 def case_interface(run: Run) -> Iterator[Optional[str]]:
-    """With -i what tcpdump writes is told; that tcpdump fails, or isn't there, is said. (A stand-in for tcpdump.)"""
-    kept = listening.PATH
-    with tempfile.TemporaryDirectory() as folder:
-        Path(f"{folder}/file").write_bytes(wire.pcap(framed(*WRONG)))
-        Path(f"{folder}/tcpdump").write_text(TCPDUMP)
-        os.chmod(f"{folder}/tcpdump", 0o755)
-        try:
-            listening.PATH = f"{folder}:{kept}"
-            status, out, errors = run(["why", "-i", "eth0", "alice", "51", KEY.hex()])
-            yield holds(status == 0 and found_in(out) == set(REFUSED.split(", ")), f"it says {out}{errors}")
-            yield holds("capturing at eth0 by tcpdump, and waiting for a login" in errors, f"it waits for {errors}")
-            Path(f"{folder}/file").write_bytes(wire.pcapng(at_two([*WRONG])))
-            status, out, errors = run(["why", "-i", "any", "alice", "51", KEY.hex()])
-            yield holds(status == 0 and found_in(out) == {*REFUSED.split(", "), "interfaces"} and out.count("it failed") == 1, f"of any: {out}{errors}")
-            for name in ("INT", "TERM"):
-                Path(f"{folder}/tcpdump").write_text(SLOW.replace("SIGNAL", name))
-                status, out, errors = run(["why", "-i", "eth0", "alice", "51", KEY.hex()])
-                yield holds(status == 0 and out.count("it failed") == 1, f"stopped by {name} it ends with {status}: {out}{errors}")
-            Path(f"{folder}/tcpdump").write_text(TCPDUMP)
-            status, out, errors = run(["why", "-i", "nowhere", "alice", "51", KEY.hex()])
-            yield holds(status == 2 and not out and "tcpdump can't capture at nowhere: nowhere: No such" in errors, f"it says {errors}")
-            listening.PATH = "/nowhere"
-            status, out, errors = run(["why", "-i", "eth0", KEY.hex()])
-            yield holds(status == 2 and not out and "tcpdump can't be run: No such file" in errors, f"without tcpdump: {errors}")
-        finally:
-            listening.PATH = kept
+    """With -i what tcpdump writes is told; that tcpdump fails, or isn't there, is said."""
+    with tempfile.TemporaryDirectory() as folder, mock.patch.object(listening, "PATH", f"{folder}:{listening.PATH}"):
+        def why(interface: str, octets: bytes, tcpdump: str = TCPDUMP) -> tuple[int, str, str]:
+            """What is told of these octets, which a stand-in for tcpdump writes."""
+            Path(f"{folder}/file").write_bytes(octets)
+            Path(f"{folder}/tcpdump").write_text(tcpdump)
+            os.chmod(f"{folder}/tcpdump", 0o755)
+            return run(["why", "-i", interface, "alice", "51", KEY.hex()])
+
+        once, twice = wire.pcap(framed(*WRONG)), wire.pcapng(at_two([*WRONG]))
+        status, out, errors = why("eth0", once)
+        yield holds(status == 0 and found_in(out) == set(REFUSED.split(", ")), f"it says {out}{errors}")
+        yield holds("capturing at eth0 by tcpdump, and waiting for a login" in errors, f"it waits for {errors}")
+        status, out, errors = why("any", twice)
+        right = status == 0 and found_in(out) == {*REFUSED.split(", "), "interfaces"} and out.count("it failed") == 1
+        yield holds(right, f"of any: {out}{errors}")
+        for name in ("INT", "TERM"):
+            status, out, errors = why("eth0", twice, SLOW.replace("SIGNAL", name))
+            yield holds(status == 0 and out.count("it failed") == 1, f"stopped by {name} it ends with {status}: {out}{errors}")
+        status, out, errors = why("nowhere", once)
+        yield holds(status == 2 and not out and "tcpdump can't capture at nowhere: nowhere: No such" in errors, f"it says {errors}")
+        listening.PATH = "/nowhere"
+        status, out, errors = why("eth0", once)
+        yield holds(status == 2 and not out and "tcpdump can't be run: No such file" in errors, f"without tcpdump: {errors}")
     status, _, errors = run(["why", "-i", "eth0", "alice", "51", "00"])
     yield holds(status == 2 and "the users aren't whole: HEX of alice: it has 1 octets" in errors, f"a short key: {errors}")

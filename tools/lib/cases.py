@@ -194,7 +194,7 @@ def program_faults(cases: Sequence[Case]) -> Iterator[Optional[str]]:
         try:
             return fault_in(case, *answer_to(case))
         except (OSError, subprocess.TimeoutExpired, ValueError) as error:
-            return str(error)
+            return f"{case.name}: {error}"
 
     with concurrent.futures.ThreadPoolExecutor(len(os.sched_getaffinity(0))) as pool:
         yield from pool.map(look, cases)
@@ -204,7 +204,8 @@ def program_faults(cases: Sequence[Case]) -> Iterator[Optional[str]]:
 
 
 def fault_in(case: Case, status: int, output: str, errors: str) -> Optional[str]:
-    return next((fault for fault in faults_in(case, status, output, errors) if fault), None)
+    """The first fault, behind the case's name."""
+    return next((f"{case.name}: {fault}" for fault in faults_in(case, status, output, errors) if fault), None)
 
 
 def faults_in(case: Case, status: int, output: str, errors: str) -> Iterator[Optional[str]]:

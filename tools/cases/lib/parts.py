@@ -79,7 +79,7 @@ def fault_of(case: Case, folder: str) -> Optional[str]:
             try:
                 small.turn(file, *((case.last(it) or "").encode("latin-1").decode() for it in ("old", "new")))
             except ValueError as fault:
-                return str(fault)
+                return f"{case.name}: {fault}"
     given = case.input()
     for words in [case.words, *case.commands("then")]:
         status, out, errors = run_tool(words, given, root)
@@ -100,9 +100,7 @@ def of_texts(path: Path) -> Iterator[Optional[str]]:
         yield str(bad)
         return
     with tempfile.TemporaryDirectory() as folder:
-        for case in cases:
-            fault = fault_of(case, folder)
-            yield f"{case.name}: {fault}" if fault else None
+        yield from (fault_of(case, folder) for case in cases)
 
 
 # ---- Cases in Python, and in shell.
