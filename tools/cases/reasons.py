@@ -190,13 +190,14 @@ def case_macs(run: Run) -> Iterator[Optional[str]]:
     """The MAC that is computed is the right one: that of an altered message as it was. (Of ciphersuite 1 and of EAP-PSK it is
     what hostapd and wpa_supplicant made.)"""
     files = [(wire.pcap(framed(*GOOD.front, altered(GOOD.gpsk2, -1))), f"alice 51 {KEY.hex()}", GOOD.gpsk2[-32:])]
-    psk, gpsk = (open(f"examples/failing/{it}.pcap", "rb").read() for it in ("other-method", "barred"))
-    for octets, name, message, at, size in ((psk, "alice 47 " + KEY[:16].hex(), b"\x2f\x40", 6 + 32, 16), (psk, "alice 47 " + KEY[:16].hex(), b"\x2f\x80", 6 + 16, 16),
-                                            (psk, "alice 47 " + KEY[:16].hex(), b"\x2f\x80", 6 + 16 + 16 + 4, 16), (gpsk, "alice 51 " + KEY.hex(), b"\x33\2", -16, 16)):
+    psk, gpsk = ("other-method", f"alice 47 {KEY[:16].hex()}"), ("barred", f"alice 51 {KEY.hex()}")
+    # (MAC_P, MAC_S, the tag of PCHANNEL, and the MAC at the end of GPSK-2)
+    for (name, words), message, at in ((psk, b"\x2f\x40", 38), (psk, b"\x2f\x80", 22), (psk, b"\x2f\x80", 42), (gpsk, b"\x33\2", -16)):
+        octets = Path(f"examples/failing/{name}.pcap").read_bytes()
         place = octets.index(message) - 4
-        at = place + at if at > 0 else place + int.from_bytes(octets[place + 2 : place + 4], "big") + at
-        right = octets[at : at + size]
-        files.append((octets[:at] + bytes([right[0] ^ 1]) + octets[at + 1 :], name, right))
+        at += place + (int.from_bytes(octets[place + 2 : place + 4], "big") if at < 0 else 0)
+        right = octets[at : at + 16]
+        files.append((octets[:at] + bytes([right[0] ^ 1]) + octets[at + 1 :], words, right))
     for octets, words, right in files:
         _, out, _ = run(["why", "-", *words.split()], octets)
         changed = bytes([right[0] ^ (len(right) == 16)]) + right[1:-1] + bytes([right[-1] ^ (len(right) == 32)])

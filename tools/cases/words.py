@@ -27,36 +27,22 @@ def hex_of(size: int) -> str:
     return "5a" * size or "-"
 
 
-def taken(field: Field, kind: str) -> list[str]:
-    """Words at the limits of a field, which are taken."""
+def limits(field: Field, kind: str) -> tuple[list[str], list[tuple[str, str]]]:
+    """Words at the limits of a field, which are taken, and words past them, each with its fault."""
+    least, most = words.KEY_SIZES[kind] if field.spelling == "key" else (field.least, field.most)
     if field.spelling == "number":
-        return [str(field.least), str(field.most)]
-    if field.spelling == "hex":
-        return [hex_of(field.least), hex_of(field.most)]
-    if field.spelling == "name":
-        return ["~", "a" * field.most]
-    if field.spelling == "key":
-        return [hex_of(it) for it in words.KEY_SIZES[kind]]
-    ways = {"choice": list(field.choices), "method": [kind], "methods": ["47", "51 47", "-"], "suites": ["1", "2 1"]}
-    return ways[field.spelling]
-
-
-def refused(field: Field, kind: str) -> list[tuple[str, str]]:
-    """Words past the limits, each with its fault."""
-    if field.spelling == "number":
-        under = [(str(field.least - 1), "BadNumber")] if field.least else []
-        return [*under, (str(field.most + 1), "BadNumber")]
+        under = [(str(least - 1), "BadNumber")] if least else []
+        return [str(least), str(most)], [*under, (str(most + 1), "BadNumber")]
     if field.spelling in ("hex", "key"):
-        least, most = words.KEY_SIZES[kind] if field.spelling == "key" else (field.least, field.most)
-        under = [(hex_of(least - 1), "BadSize")] if least > 1 else []
-        over = [(hex_of(most + 1), "BadSize")] if most < words.MOST_OCTETS else [("5a" * (most + 1), "BadSize")]
-        return [*under, *over, *([("-", "BadSize")] if least == 1 else [])]
-    ways = {
-        "choice": [("other", "BadChoice")],
-        "name": [("a" * (field.most + 1), "BadSize")],
-        "method": [("48", "BadNumber")],
-        "methods": [("48", "BadNumber"), ("47 47", "Repeated"), ("47 51 47", "BadCount"), ("- 47", "BadNumber")],
-        "suites": [("3", "BadNumber"), ("2 2", "Repeated"), ("1 2 1", "BadCount")],
+        under = [(hex_of(least - 1), "BadSize")] if least else []
+        return [hex_of(least), hex_of(most)], [*under, (hex_of(most + 1), "BadSize")]
+    ways: dict[str, tuple[list[str], list[tuple[str, str]]]] = {
+        "choice": (list(field.choices), [("other", "BadChoice")]),
+        "name": (["~", "a" * most], [("a" * (most + 1), "BadSize")]),
+        "method": ([kind], [("48", "BadNumber")]),
+        "methods": (["47", "51 47", "-"],
+                    [("48", "BadNumber"), ("47 47", "Repeated"), ("47 51 47", "BadCount"), ("- 47", "BadNumber")]),
+        "suites": (["1", "2 1"], [("3", "BadNumber"), ("2 2", "Repeated"), ("1 2 1", "BadCount")]),
     }
     return ways[field.spelling]
 
@@ -67,20 +53,20 @@ def kinds_of(line: Line) -> tuple[str, ...]:
 
 def with_word(line: Line, at: int, word: str, kind: str) -> str:
     """The line with this word at a place, and good ones elsewhere."""
-    others = [taken(it, kind)[0] for it in line.fields]
+    others = [limits(it, kind)[0][0] for it in line.fields]
     return " ".join([line.keyword, *others[:at], word, *others[at + 1 :]])
 
 
 def good_lines(line: Line) -> list[str]:
     found = [with_word(line, at, word, kind) for kind in kinds_of(line) for at, field in enumerate(line.fields)
-             for word in taken(field, kind)]
+             for word in limits(field, kind)[0]]
     return list(dict.fromkeys(found or [line.keyword]))
 
 
 def bad_lines(line: Line) -> list[tuple[str, str]]:
     """Lines with one word that is wrong, or a word too many, or too few."""
     found = [(with_word(line, at, word, kind), fault) for kind in kinds_of(line) for at, field in enumerate(line.fields)
-             for word, fault in refused(field, kind)]
+             for word, fault in limits(field, kind)[1]]
     found += [(f"{line.keyword} {word}", fault) for word, fault in ANYWHERE.get(line.keyword, [])]
     # (the keyword alone; where that is right, with a word behind it)
     found.append((line.keyword if line.fields else f"{line.keyword} x", "BadCount"))
