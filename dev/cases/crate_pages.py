@@ -22,13 +22,6 @@ def case_page(_: Run) -> Iterator[Optional[str]]:
         yield holds(page == texts[f"crates/{crate}/README.md"], f"the page of {crate} is another one: {page}")
 
 
-def case_made(run: Run) -> Iterator[Optional[str]]:
-    """All that is made is as dev/make-docs makes it: the pages of the crates, and of the man page the forms, statuses and
-    faults, by the words that the program is held to."""
-    status, _, errors = run(["make-docs", "--check"])
-    yield holds(status == 0, f"a page isn't as dev/make-docs makes it: {errors}")
-
-
 def case_every_crate(_: Run) -> Iterator[Optional[str]]:
     """Each crate says in at most three lines what it is, and each of its calls what it does."""
     for crate in crates_of(text_here()):

@@ -5,7 +5,6 @@ The allocations are counted by what the program was built with where that is Add
 
 from __future__ import annotations
 
-import functools
 import os
 import re
 import shutil
@@ -25,26 +24,24 @@ WITHOUT = {
 WITH = {"replay": "gpsk-login.scenario", "replay names": "through.scenario", "bulk 1 3": "gpsk-login.scenario"}
 
 
+def counted(words: list[str], given: bytes, shared: str) -> int:
+    """How often the program allocates; -1 where nothing counts it."""
+    said = b""
+    for env in ({"ASAN_OPTIONS": "atexit=1"}, {"LD_PRELOAD": shared}):
+        said += subprocess.run([os.environ["EAP_LOGIN"], *words], input=given, capture_output=True, env=env).stderr
+    found = re.search(rb"malloced.* by (\d+) calls", said)
+    return int(found[1]) if found else -1
+
+
 def case_allocations(run: Run) -> Iterator[Optional[str]]:
     with tempfile.TemporaryDirectory() as folder:
         shared, compiler = f"{folder}/counting.so", shutil.which("cc") or shutil.which("gcc")
         if compiler:
             subprocess.run([compiler, "-shared", "-fPIC", "-o", shared, "tools/cases/lib/counting.c"], check=True)
-
-        @functools.lru_cache(maxsize=None)
-        def counted(words: tuple[str, ...], given: bytes) -> int:
-            """How often the program allocates; -1 where nothing counts it."""
-            said = b""
-            for env in ({"ASAN_OPTIONS": "atexit=1"}, {"LD_PRELOAD": shared}):
-                said += subprocess.run([os.environ["EAP_LOGIN"], *words], input=given, capture_output=True, env=env).stderr
-                if found := re.search(rb"malloced.* by (\d+) calls", said):
-                    return int(found[1])
-            return -1
-
         for line, name in {**WITHOUT, **WITH}.items():
             words = line.split()
-            least = counted(("nothing", *words[1:]), b"")
-            count = counted((*words,), Path("examples", name).read_bytes())
+            least = counted(["nothing", *words[1:]], b"", shared)
+            count = counted(words, Path("examples", name).read_bytes(), shared)
             if min(least, count) < 0:
                 print("tools/check: allocations are passed over: nothing counts them", file=sys.stderr)
                 return

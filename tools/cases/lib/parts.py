@@ -174,25 +174,23 @@ def check(text: str, place: str) -> int:
     os.chdir(ROOT)
     passed = failed = 0
     begun: dict[Path, subprocess.Popen[bytes]] = {}
-    with tempfile.TemporaryDirectory(prefix="tools-") as folder, this_python():
-        tempfile.tempdir = folder
-        paths = [path for part in asked for path in parts[part]]
+    signal.signal(signal.SIGTERM, signal.default_int_handler)
+    with tempfile.TemporaryDirectory(prefix="tools-") as folder, this_python(), mock.patch.object(tempfile, "tempdir", folder):
+        # (cases in shell start processes, and so run beside the others, which come first)
+        paths = sorted((path for part in asked for path in parts[part]), key=lambda it: it.suffix == ".sh")
         shells = [it for it in paths if it.suffix == ".sh"]
-        signal.signal(signal.SIGTERM, signal.default_int_handler)
         try:
-            # (cases in shell start processes, and so run beside the others)
             begun.update((it, begin(it)) for it in shells if it.stem == ALONE)
             if place == "tools":
                 os.environ["EAP_LOGIN"] = program()
             begun.update((it, begin(it)) for it in shells if it not in begun)
-            for path in [*(it for it in paths if it not in shells), *shells]:
+            for path in paths:
                 right, wrong = counted(path, begun[path]) if path in begun else count(path)
                 passed, failed = passed + right, failed + wrong
                 print(f"{path.name}: {right} passed, {wrong} failed")
         finally:
             for it in begun.values():
                 it.terminate()
-        tempfile.tempdir = None
     print(f"{sum(os.times()[:4]):.0f} s of a processor")
     print(f"{place}: {passed} passed, {failed} failed")
     return 1 if failed or not passed else 0
