@@ -24,9 +24,10 @@ SETTINGS = (ROOT / "cases/settings").read_text().splitlines()
 
 # (that a line isn't there says little of an output)
 OUTPUT = (">", "|", "last", "sent", "same", "empty", "is", "as", "has", "!", "quiet")
+# What is written so is parted into words first.
 WORDS = ("$", "then", "as")
-FORMS = ("from", "row", *WORDS[:2], "set", "take", "run", "<", "file", "input", "unreadable", "=", "in", "at", "old", "new",
-         "never", "lacks", *OUTPUT)
+FORMS = ("from", "row", *WORDS, "set", "take", "run", "<", "file", "input", "unreadable", "=", "in", "at", "old", "new", "never", "lacks",
+         *OUTPUT)
 # (a last line that ends without LF follows its form without a space, too)
 FORM = re.compile(rf"({'|'.join(map(re.escape, FORMS))})(?: (.*))?|(<<)(.*)")
 
