@@ -24,10 +24,9 @@ SETTINGS = (ROOT / "cases/settings").read_text().splitlines()
 
 # (that a line isn't there says little of an output)
 OUTPUT = (">", "|", "last", "sent", "same", "empty", "is", "as", "has", "!", "quiet")
-# What is written so is parted into words first.
-WORDS = ("$", "then", "as")
-FORMS = ("from", "row", *WORDS, "set", "take", "run", "<", "file", "input", "unreadable", "=", "in", "at", "old", "new", "never", "lacks",
-         *OUTPUT)
+# (a tool's cases alone)
+TOOLS = ("then", "as", "in", "at", "old", "new")
+FORMS = ("from", "row", "$", "set", "take", "run", "<", "file", "input", "unreadable", "=", "never", "lacks", *TOOLS, *OUTPUT)
 # (a last line that ends without LF follows its form without a space, too)
 FORM = re.compile(rf"({'|'.join(map(re.escape, FORMS))})(?: (.*))?|(<<)(.*)")
 
@@ -73,7 +72,7 @@ class Case:
 
     def expanded(self) -> Case:
         """The same with what is written short spelled out, but for the words, which spaces part first."""
-        return Case(self.name, [(form, rest if form in WORDS else spelled(rest)) for form, rest in self.lines])
+        return Case(self.name, [(form, rest if form in ("$", "then", "as") else spelled(rest)) for form, rest in self.lines])
 
     def check(self) -> None:
         """Ends with Bad where the case doesn't say what it must."""
@@ -192,6 +191,8 @@ def at_terminal(command: list[bytes], given: IO[bytes], out: IO[bytes]) -> tuple
 def program_faults(cases: Sequence[Case]) -> Iterator[Optional[str]]:
     """What is wrong with the program's answer to each case, None for nothing."""
     def look(case: Case) -> Optional[str]:
+        if form := next((it for it in TOOLS if case.all(it)), None):
+            return f"{case.name}: the form `{form}` is for the cases of tools"
         try:
             return fault_in(case, *answer_to(case))
         except (OSError, subprocess.TimeoutExpired, ValueError) as error:
