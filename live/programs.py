@@ -25,8 +25,8 @@ PACKAGES = {
     "unshare": "util-linux",
     "wpa_supplicant": "wpasupplicant",
 }
-# How long a program of a login runs at most.
-MOST_SECONDS = 120
+# How long a command that is waited for runs at most.
+MOST_SECONDS = 400
 
 
 def lacks(*programs: str) -> List[str]:
@@ -35,17 +35,20 @@ def lacks(*programs: str) -> List[str]:
 
 
 class Process:
-    """A program whose output goes into a file of the folder. It has MOST_SECONDS, if nobody stops it before."""
+    """A program whose output goes into a file of the folder, and its limit, if nobody stops it before."""
+
+    limit: Sequence[str] = ("timeout", "-k", "5", "120")
 
     def __init__(self, folder: str, name: str, words: Sequence[str], where: Sequence[str] = ()) -> None:
         self.name, self.log = name, f"{folder}/{name}.log"
-        words = [*where, "timeout", "-k", "5", str(MOST_SECONDS), *words]
+        words = [*where, *self.limit, *words]
         with open(self.log, "wb") as log:
             self.process = subprocess.Popen(words, stdin=subprocess.DEVNULL, stdout=log, stderr=subprocess.STDOUT, cwd=folder)
         started.append(self)
 
     def text(self) -> str:
-        with open(self.log, errors="replace") as log:
+        # (a log may have any octets)
+        with open(self.log, encoding="latin-1") as log:
             return log.read()
 
     def wait_for(self, pattern: str, seconds: float) -> bool:
@@ -68,9 +71,12 @@ class Process:
         return self.text()
 
     def stop(self) -> None:
-        # (what doesn't end by this is killed by `timeout`)
         self.process.terminate()
-        self.process.wait()
+        try:
+            self.process.wait(30)
+        except subprocess.TimeoutExpired:
+            self.process.kill()
+            self.process.wait()
 
 
 class Cable:
@@ -105,16 +111,17 @@ def stop_all() -> None:
         started.pop().stop()
 
 
-def answer(words: Sequence[str], environment: Optional[Mapping[str, str]] = None) -> Tuple[int, str]:
+def answer(words: Sequence[str], environment: Optional[Mapping[str, str]] = None, given: str = "") -> Tuple[int, str]:
     """The status with which a command ends, and what it says."""
+    pipe, errors = subprocess.PIPE, subprocess.STDOUT
     done = subprocess.run(
-        words, stdin=subprocess.DEVNULL, stdout=subprocess.PIPE, stderr=subprocess.STDOUT, text=True, errors="replace", env=environment
+        words, input=given, stdout=pipe, stderr=errors, text=True, errors="replace", env=environment, timeout=MOST_SECONDS
     )
     return done.returncode, done.stdout
 
 
-def run(*words: str) -> None:
-    status, text = answer(words)
+def run(*words: str, given: str = "") -> None:
+    status, text = answer(words, given=given)
     if status:
         raise ends.Failed(f"{' '.join(words)}: {text.strip()}")
 

@@ -6,9 +6,7 @@ import pathlib
 import re
 import shutil
 import string
-import subprocess
 import sys
-import time
 from typing import NamedTuple, Sequence
 
 HERE = pathlib.Path(__file__).resolve().parent
@@ -17,6 +15,7 @@ sys.path.append(f"{ROOT}/live")
 import ends  # noqa: E402
 import programs  # noqa: E402
 import ways  # noqa: E402
+from programs import answer  # noqa: E402
 
 SECRET, HOME_SECRET = "testing123", "homesecret"
 PORT, HOME_PORTS = 1812, (1813, 1814)
@@ -75,57 +74,34 @@ def write_users(work: str) -> None:
 
 
 def add_rows(work: str, text: str) -> None:
-    subprocess.run(["sqlite3", f"{work}/users.db"], input=text, text=True, check=True, stdout=subprocess.DEVNULL)
+    programs.run("sqlite3", f"{work}/users.db", given=text)
 
 
 def keys_of(work: str, form: str) -> str:
     return answer([f"{work}/load", "keys", form, str(USERS)])[1]
 
 
-def answer(words: Sequence[str], given: str = "") -> tuple[int, str]:
-    """The status with which a command ends, and what it writes."""
-    pipe = subprocess.PIPE
-    done = subprocess.run(words, input=given, stdout=pipe, stderr=subprocess.STDOUT, text=True, errors="replace", timeout=400)
-    return done.returncode, done.stdout
+class Server(programs.Process):
+    """A program that listens, until the end of the block, however long that is."""
 
+    limit = ()
 
-class Server:
-    """A program that listens, until the end of the block."""
-
-    def __init__(self, words: Sequence[str], log: str, ready: str, seconds: float = 120) -> None:
-        self.words, self.log, self.ready, self.seconds = words, pathlib.Path(log), ready, seconds
+    def __init__(self, folder: str, name: str, words: Sequence[str], ready: str, seconds: float = 120) -> None:
+        super().__init__(folder, name, words)
+        self.ready, self.seconds = ready, seconds
 
     def __enter__(self) -> Server:
-        with self.log.open("wb") as log:
-            self.process = subprocess.Popen(self.words, stdin=subprocess.DEVNULL, stdout=log, stderr=subprocess.STDOUT)
-        if not self.says(self.ready, self.seconds):
-            self.__exit__()
-            raise ends.Failed(f"{self.words[0]} doesn't begin: {self.said()[-1500:]}")
+        if not self.wait_for(self.ready, self.seconds):
+            self.stop()
+            raise ends.Failed(f"{self.name} doesn't begin: {self.text()[-1500:]}")
         return self
 
     def __exit__(self, *_: object) -> None:
-        self.process.terminate()
-        try:
-            self.process.wait(30)
-        except subprocess.TimeoutExpired:
-            self.process.kill()
-            self.process.wait()
-
-    def said(self) -> str:
-        return self.log.read_text(encoding="latin-1")
-
-    def says(self, pattern: str, seconds: float) -> bool:
-        """Whether it comes to say this within so many seconds, before it ends."""
-        until = time.monotonic() + seconds
-        while not re.search(pattern, self.said()):
-            if self.process.poll() is not None or time.monotonic() > until:
-                return False
-            time.sleep(0.05)
-        return True
+        self.stop()
 
     def lines(self) -> list[str]:
         """What the modules have logged of logins."""
-        return re.findall(r"^.{24} : Auth: (EAP-G?PSK .*)", self.said(), re.M)
+        return re.findall(r"^.{24} : Auth: (EAP-G?PSK .*)", self.text(), re.M)
 
     def refused(self, reason: str) -> bool:
         """Whether the last login was refused for this reason."""
@@ -139,11 +115,11 @@ class Searched(Server):
     leaks: list[str] = []
     reasons: set[str] = set()
 
-    def __exit__(self, *_: object) -> None:
-        super().__exit__()
+    def stop(self) -> None:
+        super().stop()
         Searched.logs += 1
         Searched.reasons.update(re.findall(r" reason=([a-z-]+): ", "\n".join(self.lines())))
-        Searched.leaks += [f"{self.log}: {it}" for it in keys_in(self.said())]
+        Searched.leaks += [f"{self.log}: {it}" for it in keys_in(self.text())]
 
 
 # The keys of the stores, and those that logins have given, each as its runs of sixteen hex digits.
@@ -191,7 +167,7 @@ def freeradius(
     (folder / "radiusd.conf").write_text(Text((HERE / "radiusd.conf").read_text()).substitute(told, **{**WORDS, **own}))
     (folder / "dictionary").write_text(f"$INCLUDE {HERE}/dictionary\n")
     ask = [*before, "freeradius", "-d", str(folder), "-f", "-l", "stdout"]
-    return Searched(ask, f"{folder}/server.log", "Ready to process requests", seconds)
+    return Searched(str(folder), "server", ask, "Ready to process requests", seconds)
 
 
 def modules(settings: dict[str, str]) -> str:
@@ -212,8 +188,7 @@ def hostapd(work: str, method: str, before: Sequence[str] = ()) -> Server:
     clients = programs.write(work, "hostapd.clients", f"127.0.0.1 {SECRET}")
     lines = ["driver=none", "interface=lo0", "eap_server=1", f"eap_user_file={users}", "server_id=srv"]
     lines += [f"radius_server_clients={clients}", f"radius_server_auth_port={PORT}"]
-    words = [*before, "hostapd", programs.write(work, "hostapd.conf", *lines)]
-    return Server(words, f"{work}/hostapd.log", "AP-ENABLED")
+    return Server(work, "hostapd", [*before, "hostapd", programs.write(work, "hostapd.conf", *lines)], "AP-ENABLED")
 
 
 class Station(NamedTuple):
