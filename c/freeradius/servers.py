@@ -5,7 +5,6 @@ from __future__ import annotations
 import pathlib
 import re
 import shutil
-import string
 import sys
 from typing import NamedTuple, Sequence
 
@@ -20,43 +19,23 @@ from programs import answer  # noqa: E402
 SECRET, HOME_SECRET = "testing123", "homesecret"
 PORT, HOME_PORTS = 1812, (1813, 1814)
 USERS = 1000
-DORAS_KEY = "a key of forty octets, as text, for dora"
-PASSWORD = "a password of gerda"
+
+
+def part(name: str) -> list[str]:
+    """The lines of a part of logins.txt."""
+    text = re.sub("\n +", " ", (HERE / "logins.txt").read_text())
+    lines: str = re.findall(rf"\npart {name}\n(.*?)\n(?:\n|$)", text, re.S)[0]
+    return lines.splitlines()
+
+
 # Keys by a name of theirs, which is the user's where it is one.
-KEYS = {
-    "alice": {"GPSK": bytes(range(32)).hex(), "PSK": "00112233445566778899aabbccddeeff"},
-    "bob": {"PSK": "ffeeddccbbaa99887766554433221100"},
-    "dora": {"GPSK": DORAS_KEY.encode().hex()},
-    "erna": {"GPSK": bytes(range(32, 64)).hex()},
-    "digits": {"GPSK": bytes(range(32)).hex().encode().hex()},
-    "old": {"GPSK": "a0" * 31 + "a1", "PSK": "a0" * 15 + "a1"},
-    "new": {"GPSK": "b0" * 31 + "b1", "PSK": "b0" * 15 + "b1"},
-    "wrong": {"GPSK": "ff" * 32, "PSK": "ff" * 16},
-}
-# The users of all stores beside those of load, with names of keys: as octets, and as text in quotes.
-NAMED = f"""alice	GPSK := alice, PSK := alice
-alice@far	GPSK := alice, PSK := alice
-bob	EAP-Type := PSK, PSK := bob
-carol	EAP-Type := GPSK, Tuvaddri-GPSK-Key := 0x0001
-dora	Cleartext-Password := "{DORAS_KEY}"
-erna	Cleartext-Password := "0x{KEYS["erna"]["GPSK"]}"
-frank	Cleartext-Password := "0x{'00' * 65}"
-gerda	Cleartext-Password := "{PASSWORD}"
-hugo	Auth-Type := Reject, GPSK := alice, PSK := alice
-ida	GPSK := old, GPSK += new, PSK := old, PSK += new
-jan	GPSK := old, GPSK += new, GPSK += erna
-kai	GPSK := "alice", PSK := "alice"
-lea	GPSK := "alice", GPSK += alice
-mia	GPSK := alice, GPSK += "alice"
-"""
-
-
-def with_key(found: re.Match[str]) -> str:
-    method, operator, quote, name = found.groups()
-    return f"Tuvaddri-{method}-Key {operator} {quote or '0x'}{KEYS[name][method]}"
-
-
-PEOPLE = re.sub(r'\b(G?PSK) (:=|\+=) ("?)(\w+)', with_key, NAMED)
+KEYS: dict[str, dict[str, str]] = {}
+for whose, method, *octets in map(str.split, part("keys")):
+    KEYS.setdefault(whose, {})[method] = "".join(octets)
+# The users of all stores beside those of load, and what is no key in hex of theirs.
+PEOPLE = re.sub(r"\{(\w+) (G?PSK)\}", lambda it: KEYS[it[1]][it[2]], "\n".join(part("users")) + "\n")
+PEOPLE = re.sub(r"\b(G?PSK) (?=[:+]=)", r"Tuvaddri-\1-Key ", PEOPLE)
+PASSWORDS = re.findall('Password := "(a [^"]*)"', PEOPLE)
 
 
 def write_users(work: str) -> None:
@@ -133,21 +112,15 @@ def know(text: str) -> None:
 
 def keys_in(text: str) -> list[str]:
     """What of a key stands in a text: sixteen digits in a row, eight octets of one of the people as they are, or a password."""
-    found = [it for it in (DORAS_KEY, PASSWORD) if it in text]
+    found = [it for it in PASSWORDS if it in text]
     found += [it for it in re.findall("0x([0-9a-f]{16})", PEOPLE) if bytes.fromhex(it).decode("latin-1") in text]
     for run in re.findall("[0-9A-Fa-f]{16,}", text):
         found += [run for at in range(len(run) - 15) if run[at : at + 16].lower() in known]
     return found
 
 
-class Text(string.Template):
-    """FreeRADIUS's own words begin with a dollar sign."""
-
-    delimiter = "@"
-
-
 # What one server can differ in from another, by radiusd.conf; window is in seconds.
-WORDS = {"first": "gpsk", "threads": 4, "port": PORT, "secret": SECRET, "timer": 60, "sessions": 65536, "window": 20}
+WORDS = {"first": "gpsk", "threads": "4", "port": str(PORT), "secret": SECRET, "timer": "60", "sessions": "65536", "window": "20"}
 
 
 def freeradius(
@@ -160,11 +133,12 @@ def freeradius(
     folder.mkdir()
     site, *given = words.split()
     settings = dict(it.split("=") for it in given)
-    own = {it: settings.pop(it) for it in WORDS if it in settings}
-    # (where the virtual server "inner" looks a name up)
-    store = "sql" if site in ("sql", "once") else "files"
-    told = {"site": site, "modules": modules(settings), "work": work, "folder": folder, "store": store, "more": more}
-    (folder / "radiusd.conf").write_text(Text((HERE / "radiusd.conf").read_text()).substitute(told, **{**WORDS, **own}))
+    told = {it: settings.pop(it, word) for it, word in WORDS.items()}
+    # (the store is where the virtual server "inner" looks a name up)
+    told.update(site=site, store="sql" if site in ("sql", "once") else "files", modules=modules(settings))
+    told.update(work=work, folder=str(folder), more=more)
+    conf = re.sub("@([a-z]+)", lambda it: told[it[1]], (HERE / "radiusd.conf").read_text())
+    (folder / "radiusd.conf").write_text(conf)
     (folder / "dictionary").write_text(f"$INCLUDE {HERE}/dictionary\n")
     ask = [*before, "freeradius", "-d", str(folder), "-f", "-l", "stdout"]
     return Searched(str(folder), "server", ask, "Ready to process requests", seconds)
