@@ -30,29 +30,24 @@ import tempfile
 WAYS = (("47", "0"), ("51", "1"), ("51", "2"))
 
 
+def xtime(a):
+    return (a << 1 ^ (0x1B if a & 0x80 else 0)) & 0xFF
+
+
 def sbox():
-    """The S-box of AES (FIPS 197 section 5.1.1)."""
-    box, p, q = [0] * 256, 1, 1
-    while True:
-        p = p ^ (p << 1) & 0xFF ^ (0x1B if p & 0x80 else 0)
-        for shift in (1, 2, 4):
-            q = (q ^ q << shift) & 0xFF
-        q ^= 0x09 if q & 0x80 else 0
-        turned = q
+    """The S-box of AES (FIPS 197 section 5.1.1); each octet but 0 is a power of 3, which has its inverse among them."""
+    powers, box = [1], [0x63] * 256
+    for _ in range(254):
+        powers.append(powers[-1] ^ xtime(powers[-1]))
+    for i, power in enumerate(powers):
+        turned = inverse = powers[-i]
         for shift in (1, 2, 3, 4):
-            turned ^= (q << shift | q >> 8 - shift) & 0xFF
-        box[p] = turned ^ 0x63
-        if p == 1:
-            break
-    box[0] = 0x63
+            turned ^= inverse << shift | inverse >> 8 - shift
+        box[power] = turned & 0xFF ^ 0x63
     return box
 
 
 SBOX = sbox()
-
-
-def xtime(a):
-    return (a << 1 ^ (0x1B if a & 0x80 else 0)) & 0xFF
 
 
 def xor(a, b):
@@ -175,11 +170,6 @@ def gpsk_keys(suite, psk, text):
     return keys
 
 
-def gpsk_id(suite, key, text):
-    """The Session-Id of EAP-GPSK (RFC 5433 section 4): its Method-ID is of a key of zeros, theirs of the PSK's front."""
-    return b"\x33" + gkdf(suite, key, b"Method ID\x33" + bytes(4) + suite.to_bytes(2, "big") + text, 16)
-
-
 def psk_keys(psk, rand_p):
     """The keys of EAP-PSK (RFC 4764 section 3.2)."""
 
@@ -259,7 +249,9 @@ def ids_of(method, suite, keys, packets):
         if method == 47:
             yield b"\x2f" + text, b"\x2f" + text
         else:
-            yield gpsk_id(suite, bytes(32), text), gpsk_id(suite, keys[16:48], text)
+            # (the Method-ID of RFC 5433 section 4 is of a key of zeros, theirs of the PSK's front)
+            seed = b"Method ID\x33" + bytes(4) + suite.to_bytes(2, "big") + text
+            yield tuple(b"\x33" + gkdf(suite, key, seed, 16) for key in (bytes(32), keys[16:48]))
 
 
 def writable(pid):
@@ -345,8 +337,7 @@ def run_checked(program, way):
 
 def listed(path):
     with open(path, encoding="utf-8") as it:
-        lines = [line.split("#")[0].split() for line in it]
-    return {words[0]: int(words[1]) for words in lines if words}
+        return {function: int(places) for function, places in re.findall(r"^([^#\s]+) (\d+)", it.read(), re.M)}
 
 
 def branches(path, program):
