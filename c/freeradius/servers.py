@@ -128,9 +128,7 @@ def freeradius(
 ) -> Server:
     """FreeRADIUS in a folder of this name: the words are its site, what it differs in, and settings of both methods; `before`
     stands before its program's words, `more` behind its configuration."""
-    folder = pathlib.Path(work, name)
-    shutil.rmtree(folder, ignore_errors=True)
-    folder.mkdir()
+    folder = anew(work, name)
     site, *given = words.split()
     settings = dict(it.split("=") for it in given)
     told = {it: settings.pop(it, word) for it, word in WORDS.items()}
@@ -142,6 +140,14 @@ def freeradius(
     (folder / "dictionary").write_text(f"$INCLUDE {HERE}/dictionary\n")
     ask = [*before, "freeradius", "-d", str(folder), "-f", "-l", "stdout"]
     return Searched(str(folder), "server", ask, "Ready to process requests", seconds)
+
+
+def anew(work: str, name: str) -> pathlib.Path:
+    """A folder of this name in which nothing is."""
+    folder = pathlib.Path(work, name)
+    shutil.rmtree(folder, ignore_errors=True)
+    folder.mkdir()
+    return folder
 
 
 def modules(settings: dict[str, str]) -> str:
