@@ -14,6 +14,8 @@ import ends
 # The most octets of a file; the program's own limit is higher.
 MOST_OCTETS = 1000000
 HEADERS = {"peer": "eap-end 1", "server": "eap-end 1", "radius": "eap-radius 1"}
+# How the lines of each text of the program begin; those of none are comments, or blank.
+FORMS = {"peer": "peer-", "server": "server-|(user|max-retrans)( |$)", "radius": "secret( |$)", "": "#|$"}
 
 
 class Settings:
@@ -26,27 +28,22 @@ class Settings:
         # (in each text of the program the lines of the others are empty, so that its lines have the numbers of the file's)
         self.texts: Dict[str, List[str]] = {text: [] for text in HEADERS}
         for number, line in enumerate(read_file(path).decode("latin-1").split("\n"), 1):
-            own = self.text_of(number, line.rstrip("\r"))
+            line = line.rstrip("\r")
+            own = self.text_of(number, line)
             for text, lines in self.texts.items():
-                lines.append(line.rstrip("\r") if text == own else "")
+                lines.append(line if text == own else "")
         for text in HEADERS:
             if text in wanted or self.lines(text):
                 self.judge(text, text in wanted)
 
     def text_of(self, number: int, line: str) -> str:
         """The text of the program in which a line stands."""
-        keyword = line.partition(" ")[0]
-        if line == "" or line.startswith("#"):
-            return ""
-        if keyword in ("peer-nonce", "server-nonce"):
+        if re.match("(peer|server)-nonce( |$)", line):
             raise self.fault(number, "a nonce is no setting of a live login, each draws its own")
-        if keyword == "secret":
-            return "radius"
-        if keyword in ("user", "max-retrans") or keyword.startswith("server-"):
-            return "server"
-        if not keyword.startswith("peer-"):
-            raise self.fault(number, f"{ends.shown(keyword)!a} is no setting of a live login; live/README.md has them")
-        return "peer"
+        for text, form in FORMS.items():
+            if re.match(form, line):
+                return text
+        raise self.fault(number, f"{ends.shown(line.partition(' ')[0])!a} is no setting of a live login; live/README.md has them")
 
     def fault(self, number: int, text: str) -> ends.Failed:
         return ends.Failed(f"{self.path} line {number}: {text}")
@@ -63,7 +60,7 @@ class Settings:
         """The key that the server's users have for a name and a method, and whether that user is allowed."""
         for line in self.lines("server"):
             words = line.split(" ")
-            if words[0] == "user" and words[1:3] == [name, str(kind)]:
+            if words[:3] == ["user", name, str(kind)]:
                 return words[3], words[4] == "allowed"
         return None
 
