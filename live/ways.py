@@ -143,57 +143,24 @@ def eapol_test(folder: str, login: Login) -> Process:
     return Process(folder, "eapol_test", ["eapol_test", *words])
 
 
-# The ways.
+# The ways. Each gives the process of our end, those of the other ends, and whether these succeeded.
+
+Run = Tuple[Process, List[Process], bool]
 
 
-@dataclasses.dataclass
-class Outcome:
-    """How both ends stand after a login: what ours has said, and by that its state and the names of its (MSK, EMSK); what the
-    other has said, whether it succeeded, and the names of its keys; and the name of the link keys as the access point has
-    them, None where the way has none."""
-
-    trace: str
-    their_text: str
-    is_success: bool
-    their_keys: Optional[ends.Names]
-    link: Optional[str]
-
-    @property
-    def state(self) -> str:
-        return verdicts(self.trace)[0][0]
-
-    @property
-    def our_keys(self) -> Optional[ends.Names]:
-        return verdicts(self.trace)[0][1]
-
-
-def by_radius(folder: str, login: Login) -> Outcome:
+def by_radius(folder: str, login: Login) -> Run:
     server = radius_server(folder, login)
-    client = radius_client(folder, dataclasses.replace(login, lose="0", repeat="0")).ended(MOST_SECONDS)
-    server.stop()
-    state, keys = verdicts(client)[0]
-    return Outcome(server.text(), client, state == "SUCCESS", keys, our_link(client))
+    client = radius_client(folder, dataclasses.replace(login, lose="0", repeat="0"))
+    return server, [client], state_of(client) == "SUCCESS"
 
 
-def keys_of_many(folder: str, login: Login, count: int) -> Tuple[List[ends.Names], List[ends.Names]]:
-    """Several clients at once at one server: the names of the keys that each holds, there and here, in order."""
-    server = radius_server(folder, login)
-    clients = [radius_client(folder, login, f"radius_client{it}") for it in range(count)]
-    here = [verdicts(it.ended(MOST_SECONDS))[0] for it in clients]
-    server.stop()
-    there = [it for it in verdicts(server.text()) if it[0] == "SUCCESS"]
-    return sorted(keys or ("", "") for _, keys in there), sorted(keys or ("", "") for _, keys in here)
-
-
-def by_eapol_test(folder: str, login: Login) -> Outcome:
+def by_eapol_test(folder: str, login: Login) -> Run:
     server = radius_server(folder, login)
     tester = eapol_test(folder, login)
     await_end(server, tester, login)
     there = tester.ended(5 if login.state == "SUCCESS" else 0)
-    server.stop()
     # (one that is ended by a signal writes SUCCESS as its last line, whatever came before)
-    is_success = tester.process.returncode == 0 and THEIR_SUCCESS in there and EQUAL_LINK_KEYS in there
-    return Outcome(server.text(), there, is_success, their_keys(there), their_link(there))
+    return server, [tester], tester.process.returncode == 0 and THEIR_SUCCESS in there and EQUAL_LINK_KEYS in there
 
 
 def await_end(server: Process, other: Process, login: Login) -> None:
@@ -206,23 +173,21 @@ def await_end(server: Process, other: Process, login: Login) -> None:
         other.wait_for(login.there or THEIR_SUCCESS, 0.5)
 
 
-def by_hostapd_radius(folder: str, login: Login) -> Outcome:
+def by_hostapd_radius(folder: str, login: Login) -> Run:
     server = hostapd(folder, login, "radius")
-    client = radius_client(folder, login).ended(MOST_SECONDS)
-    return outcome_at(server, client, our_link(client))
+    return at_hostapd(server, radius_client(folder, login))
 
 
-def by_hostapd_wired(folder: str, login: Login) -> Outcome:
+def by_hostapd_wired(folder: str, login: Login) -> Run:
     server = hostapd(folder, login, "wired", Cable(folder).far)
-    return outcome_at(server, wired(folder, login).ended(MOST_SECONDS), None)
+    return at_hostapd(server, wired(folder, login))
 
 
-def outcome_at(server: Process, ours: str, link: Optional[str]) -> Outcome:
-    is_success = server.wait_for(THEIR_SUCCESS, 2 if verdicts(ours)[0][0] == "SUCCESS" else 0)
-    return Outcome(ours, server.text(), is_success, their_keys(server.text()), link)
+def at_hostapd(server: Process, ours: Process) -> Run:
+    return ours, [server], server.wait_for(THEIR_SUCCESS, 2 if state_of(ours) == "SUCCESS" else 0)
 
 
-def by_wpa_supplicant(folder: str, login: Login) -> Outcome:
+def by_wpa_supplicant(folder: str, login: Login) -> Run:
     far = Cable(folder).far
     server = radius_server(folder, login, far)
     authenticator = hostapd(folder, login, "authenticator", far)
@@ -231,10 +196,25 @@ def by_wpa_supplicant(folder: str, login: Login) -> Outcome:
     await_end(server, supplicant, login)
     is_success = "CTRL-EVENT-EAP-SUCCESS" in supplicant.text()
     is_success = is_success and authenticator.wait_for("AUTH_PAE entering state AUTHENTICATED", 2)
-    for it in (supplicant, authenticator, server):
-        it.stop()
-    there = supplicant.text() + authenticator.text()
-    return Outcome(server.text(), there, is_success, their_keys(supplicant.text()), their_link(authenticator.text()))
+    return server, [supplicant, authenticator], is_success
+
+
+def keys_of_many(folder: str, login: Login, count: int) -> Tuple[List[ends.Names], List[ends.Names]]:
+    """Several clients at once at one server: the names of the keys that each holds, there and here, in order."""
+    server = radius_server(folder, login)
+    clients = [radius_client(folder, login, f"radius_client{it}") for it in range(count)]
+    here = [verdicts(it.ended(MOST_SECONDS))[0] for it in clients]
+    server.stop()
+    there = [it for it in verdicts(server.text()) if it[0] == "SUCCESS"]
+    return sorted(keys or ("", "") for _, keys in there), sorted(keys or ("", "") for _, keys in here)
+
+
+# What came of a login.
+
+
+def state_of(script: Process) -> str:
+    """The state in which a script of ours ends."""
+    return verdicts(script.ended(MOST_SECONDS))[0][0]
 
 
 def verdicts(text: str) -> List[Tuple[str, Optional[ends.Names]]]:
@@ -243,26 +223,20 @@ def verdicts(text: str) -> List[Tuple[str, Optional[ends.Names]]]:
     return found or [("none", None)]
 
 
-def our_link(text: str) -> str:
-    """The name of the link keys that came to our client; none where none came."""
-    found = OUR_LINK.search(text)
-    return found[1] if found else ""
-
-
-def their_keys(text: str) -> Optional[ends.Names]:
-    """The names of the last MSK and EMSK in a log."""
+def keys_in(text: str) -> Optional[ends.Names]:
+    """The names of the last MSK and EMSK in a log, or of those that a script of ours tells."""
     found = {name: name_of(bytes.fromhex(dump)) for name, dump in THEIR_KEY.findall(text)}
-    return (found["MSK"], found["EMSK"]) if len(found) == 2 else None
+    return (found["MSK"], found["EMSK"]) if len(found) == 2 else verdicts(text)[0][1]
 
 
-def their_link(text: str) -> str:
-    """The name of the link keys in a log, one behind the other."""
-    found = dict(LINK_KEY.findall(text))
-    return name_of(bytes.fromhex(found["Recv"] + found["Send"])) if len(found) == 2 else ""
+def link_in(text: str) -> str:
+    """The name of the link keys that came to our client, or that a log has one behind the other; none where none came."""
+    found, ours = dict(LINK_KEY.findall(text)), OUR_LINK.search(text)
+    return ours[1] if ours else name_of(bytes.fromhex(found["Recv"] + found["Send"])) if len(found) == 2 else ""
 
 
 # Each way: what runs it, and the programs that it takes.
-WAYS: Dict[str, Tuple[Callable[[str, Login], Outcome], Tuple[str, ...]]] = {
+WAYS: Dict[str, Tuple[Callable[[str, Login], Run], Tuple[str, ...]]] = {
     "radius": (by_radius, ()),
     "eapol_test": (by_eapol_test, ("eapol_test",)),
     "hostapd-radius": (by_hostapd_radius, ("hostapd",)),
@@ -279,12 +253,30 @@ def reason_against(way: str, script_words: Sequence[str]) -> Optional[str]:
     return f"{', '.join(missing)} isn't installed (live/install does that)" if missing else enter_namespace(script_words)
 
 
+@dataclasses.dataclass
+class Outcome:
+    """How both ends stand after a login: what ours has said, its state and the names of its (MSK, EMSK); what the other has
+    said, whether it succeeded, and the names of its keys; and the name of the link keys as the access point has them, None
+    where the way has none."""
+
+    trace: str
+    state: str
+    our_keys: Optional[ends.Names]
+    their_text: str
+    is_success: bool
+    their_keys: Optional[ends.Names]
+    link: Optional[str]
+
+
 def log_in(way: str, folder: str, login: Login) -> Outcome:
     """A login, after which nothing of it runs on."""
     try:
-        return WAYS[way][0](folder, login)
+        end, others, is_success = WAYS[way][0](folder, login)
     finally:
         stop_all()
+    here, there = end.text(), "".join(it.text() for it in others)
+    link = None if way == "hostapd-wired" else link_in(here + there)
+    return Outcome(here, *verdicts(here)[0], there, is_success, keys_in(there), link)
 
 
 def complaints(login: Login, outcome: Outcome) -> List[str]:
