@@ -186,6 +186,9 @@ class End:
             turn.sends = bytes.fromhex(self.next("send")[0])
         if path != ["-"]:
             self.state = path[-1]
+        # (in SUCCESS an end has its keys, whose line stands behind its last packet at the latest)
+        if self.state == "SUCCESS" and not self.keys:
+            self.keep_keys(self.next("keys"))
         self.trace(f"{self.word} < {line}")
         self.trace(f"{self.word} {' '.join(path)}{' cause ' + turn.cause if turn.cause else ''}")
         if turn.sends:
@@ -193,32 +196,19 @@ class End:
         return turn
 
     def next(self, wanted: str = "") -> List[str]:
-        """The words of the next line behind its number, and behind the word that is wanted."""
-        words = self.words.get()
-        # (an end holds its keys at any turn, so their line is read before the next path)
-        while words and self.take_keys(words):
-            words = self.words.get()
+        """The words of the next line behind its number, and behind the word that is wanted. An end can hold its keys before
+        SUCCESS, so their line is read before another one."""
+        while (words := self.words.get()) and words[1:2] == ["keys"] and wanted != "keys":
+            self.keep_keys(words[2:])
         if words is None:
             raise Failed(f"{self.words.name} ended before its answer")
         if words[0] != str(self.count) or (wanted and words[1] != wanted):
             raise Failed(f"{self.words.name} says {' '.join(words)} where {self.count} {wanted or 'PATH'} was to come")
         return words[2:] if wanted else words[1:]
 
-    def take_keys(self, words: List[str]) -> bool:
-        """Keeps the names of the MSK and the EMSK, where the line has them."""
-        if words[1:2] != ["keys"]:
-            return False
-        self.keys = (words[3], words[5])
-        return True
-
-    def success_keys(self) -> Names:
-        """The names of the keys of an end in SUCCESS; their line stands behind its last packet at the latest."""
-        if self.keys is None:
-            words = self.words.get()
-            if words is None or not self.take_keys(words):
-                raise Failed(f"{self.words.name} stands in SUCCESS and names no keys")
-        assert self.keys
-        return self.keys
+    def keep_keys(self, words: List[str]) -> None:
+        """Keeps the names of the MSK and the EMSK."""
+        self.keys = (words[1], words[3])
 
     def last_cause(self) -> str:
         """Why it discarded what came last, in words."""
@@ -227,18 +217,14 @@ class End:
         return f"the last cause is {self.cause}" if self.cause else "nothing was discarded"
 
     def end(self) -> str:
-        """Ends it, and answers the state in which it stood."""
+        """Ends it, and answers the state in which it stood, with the names of the keys where it holds some."""
         self.words.put("end")
         for words in self.words.close():
             if words[0] == "state":
                 self.state = words[1]
-            else:
-                self.take_keys(words)
-        return self.state
-
-    def verdict(self) -> str:
-        """The state at the end, and the names of the keys where it holds some."""
-        return f"state {self.end()}" + (f" msk {self.keys[0]} emsk {self.keys[1]}" if self.keys else "")
+            elif words[1:2] == ["keys"]:
+                self.keep_keys(words[2:])
+        return f"state {self.state}" + (f" msk {self.keys[0]} emsk {self.keys[1]}" if self.keys else "")
 
 
 def failure(identifier: int) -> bytes:
@@ -252,7 +238,7 @@ class Read:
     def __init__(self, words: List[str]) -> None:
         is_whole = len(words) > 2
         self.kind, self.identifier = (words[1], int(words[3])) if is_whole else ("", 0)
-        self.eap, self.verdict = (octets_of(words[5]), words[6]) if is_whole else (b"", words[1])
+        self.eap, self.verdict = (bytes.fromhex(words[5].strip("-")), words[6]) if is_whole else (b"", words[1])
 
     def is_good(self, *kinds: str) -> bool:
         return self.verdict == "good" and self.kind in kinds
@@ -289,10 +275,6 @@ class Radius:
 
 def hex_of(octets: bytes) -> str:
     return octets.hex() or "-"
-
-
-def octets_of(word: str) -> bytes:
-    return b"" if word == "-" else bytes.fromhex(word)
 
 
 class Faults:
@@ -377,9 +359,15 @@ def add_faults(made: Parser, is_peer: bool) -> None:
     made.add_argument("--trace", action="store_true", help="write what each end is told and says to standard error")
 
 
-def udp_socket(address: str) -> socket.socket:
-    family = socket.AF_INET6 if ":" in address else socket.AF_INET
-    return socket.socket(family, socket.SOCK_DGRAM)
+def udp_socket(words: argparse.Namespace, is_server: bool) -> socket.socket:
+    """The socket of a server at the address and port of the words, or that of a client of the server there."""
+    made = socket.socket(socket.AF_INET6 if ":" in words.address else socket.AF_INET, socket.SOCK_DGRAM)
+    try:
+        (made.bind if is_server else made.connect)((words.address, words.port))
+    except OSError as fault:
+        can = "listened at" if is_server else "used"
+        raise Failed(f"{words.address} port {words.port} can't be {can}: {fault.strerror}")
+    return made
 
 
 def tracer(is_wanted: bool) -> Trace:
