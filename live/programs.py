@@ -154,13 +154,17 @@ def script(name: str, *words: str) -> List[str]:
 def table(name: str) -> Iterator[str]:
     """The lines of a text of this folder; in one, {NAME} stands for what a line `NAME = TEXT` above it has set."""
     texts: Dict[str, str] = {}
-    with open(f"{HERE}/{name}") as file:
-        for line in file.read().splitlines():
-            line = re.sub(r"\{([a-z ]+)\}", lambda it: texts[it[1]], line)
-            if found := re.fullmatch("([a-z ]+) = (.*)", line):
-                texts[found[1]] = found[2]
-            elif line and not line.startswith("#"):
-                yield line
+    for line in read(f"{HERE}/{name}").splitlines():
+        line = re.sub(r"\{([a-z ]+)\}", lambda it: texts[it[1]], line)
+        if found := re.fullmatch("([a-z ]+) = (.*)", line):
+            texts[found[1]] = found[2]
+        elif line and not line.startswith("#"):
+            yield line
+
+
+def read(path: str) -> str:
+    with open(path, errors="replace") as text:
+        return text.read()
 
 
 def write(folder: str, name: str, *lines: str) -> str:

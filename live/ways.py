@@ -16,7 +16,7 @@ from typing import Any, Callable, Dict, List, Optional, Sequence, Tuple
 
 import ends
 from login_keys import name_of
-from programs import HERE, Cable, Process, enter_namespace, lacks, need, script, stop_all, table, write
+from programs import HERE, Cable, Process, enter_namespace, lacks, need, read, script, stop_all, table, write
 
 SECRET, WRONG_SECRET = "testing123", "testing124"
 PORT = "1812"
@@ -94,8 +94,7 @@ def configured(folder: str, login: Login, name: str, source: str = "") -> str:
     values.update(secret=login.secret(), secret_in_hex=login.secret().encode().hex(), type=TYPES[login.method])
     values.update(methods=",".join(login.methods()), types=" ".join(TYPES[it] for it in login.methods()))
     values.update(may="barred" if login.barred else "allowed", is_expanded="yes" if login.expanded else "no")
-    with open(f"{HERE}/configurations/{source or name}") as text:
-        return write(folder, name, Template(text.read()).substitute(values).rstrip())
+    return write(folder, name, Template(read(f"{HERE}/configurations/{source or name}")).substitute(values).rstrip())
 
 
 # Our ends.
