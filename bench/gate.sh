@@ -95,12 +95,11 @@ mine = resource.getrusage(resource.RUSAGE_CHILDREN)
 
 rows = collections.defaultdict(collections.Counter)
 for (crate, part), ticks in used.values():
-    rows[crate][part] += ticks / TICK
+    for it in (crate, "all"):
+        rows[it][part] += ticks / TICK
 print(f"{'crate':16}{'proof, s':>10}{'tests, s':>10}{'edits, s':>10}{'all, s':>10}")
-for crate, parts in sorted(rows.items(), key=lambda it: -sum(it[1].values())):
+for crate, parts in sorted(rows.items(), key=lambda it: (it[0] == "all", -sum(it[1].values()))):
     print(f"{crate:16}" + "".join(f"{parts[it]:10.0f}" for it in ("proof", "tests", "edits")) + f"{sum(parts.values()):10.0f}")
-sums = {it: sum(parts[it] for parts in rows.values()) for it in ("proof", "tests", "edits")}
-print(f"{'all':16}" + "".join(f"{it:10.0f}" for it in sums.values()) + f"{sum(sums.values()):10.0f}")
 print(f"processor minutes {(mine.ru_utime + mine.ru_stime) / 60:.1f}")
 print(f"minutes by the clock {(time.time() - begun) / 60:.1f}, on {os.cpu_count()} processors")
 print(f"memory: the largest process {mine.ru_maxrss / 1e6:.1f} GB, all together {(before - least) / 1e6:.1f} GB")
