@@ -19,6 +19,7 @@ import signal
 import socket
 import subprocess
 import sys
+import time
 from typing import Callable, List, NoReturn, Optional, Tuple
 
 ROOT = os.path.dirname(os.path.dirname(os.path.realpath(__file__)))
@@ -288,10 +289,10 @@ class Faults:
     def altered(self, packet: bytes) -> bytes:
         """The EAP packet as it goes out, the next of those that the end has made."""
         self.written += 1
-        if not self.alter or self.written != self.alter[0] or self.alter[1] >= len(packet):
+        number, at = self.alter or (0, 0)
+        if self.written != number or at >= len(packet):
             return packet
-        self.trace(f"packet {self.written} is altered at {self.alter[1]}")
-        at = self.alter[1]
+        self.trace(f"packet {number} is altered at {at}")
         return packet[:at] + bytes([packet[at] ^ 1]) + packet[at + 1 :]
 
     def times(self) -> int:
@@ -349,7 +350,8 @@ def parser(name: str, text: Optional[str]) -> Parser:
     return made
 
 
-def add_faults(made: Parser, is_peer: bool) -> None:
+def asked(made: Parser, is_peer: bool) -> argparse.Namespace:
+    """The words of a script, those of faults among them, once the program is there."""
     count = number(0, 1000000)
     made.add_argument("--lose", type=count, default=0, metavar="N", help="the N-th packet isn't sent")
     made.add_argument("--repeat", type=count, default=0, metavar="N", help="the N-th packet is sent twice")
@@ -357,6 +359,9 @@ def add_faults(made: Parser, is_peer: bool) -> None:
         help_text = "the N-th packet of the peer has its octet at PLACE altered"
         made.add_argument("--alter", type=count, nargs=2, metavar=("N", "PLACE"), help=help_text)
     made.add_argument("--trace", action="store_true", help="write what each end is told and says to standard error")
+    words = made.parse_args()
+    try_program()
+    return words
 
 
 def udp_socket(words: argparse.Namespace, is_server: bool) -> socket.socket:
@@ -368,6 +373,12 @@ def udp_socket(words: argparse.Namespace, is_server: bool) -> socket.socket:
         can = "listened at" if is_server else "used"
         raise Failed(f"{words.address} port {words.port} can't be {can}: {fault.strerror}")
     return made
+
+
+def comes(to: socket.socket, until: float) -> bool:
+    """Whether something comes to a socket before then."""
+    left = until - time.monotonic()
+    return left > 0 and bool(select.select([to], [], [], left)[0])
 
 
 def tracer(is_wanted: bool) -> Trace:

@@ -150,7 +150,7 @@ Run = Tuple[Process, List[Process], bool]
 def by_radius(folder: str, login: Login) -> Run:
     server = radius_server(folder, login)
     client = radius_client(folder, dataclasses.replace(login, lose="0", repeat="0"))
-    return server, [client], state_of(client) == "SUCCESS"
+    return server, [client], verdict_of(client)[0] == "SUCCESS"
 
 
 def by_eapol_test(folder: str, login: Login) -> Run:
@@ -183,7 +183,7 @@ def by_hostapd_wired(folder: str, login: Login) -> Run:
 
 
 def at_hostapd(server: Process, ours: Process) -> Run:
-    return ours, [server], server.wait_for(THEIR_SUCCESS, 2 if state_of(ours) == "SUCCESS" else 0)
+    return ours, [server], server.wait_for(THEIR_SUCCESS, 2 if verdict_of(ours)[0] == "SUCCESS" else 0)
 
 
 def by_wpa_supplicant(folder: str, login: Login) -> Run:
@@ -198,25 +198,18 @@ def by_wpa_supplicant(folder: str, login: Login) -> Run:
     return server, [supplicant, authenticator], is_success
 
 
-def keys_of_many(folder: str, login: Login, count: int) -> Tuple[List[ends.Names], List[ends.Names]]:
-    """Several clients at once at one server: the names of the keys that each holds, there and here, in order."""
-    server = radius_server(folder, login)
-    clients = [radius_client(folder, login, f"radius_client{it}") for it in range(count)]
-    here = [verdicts(it.ended(MOST_SECONDS))[0] for it in clients]
-    server.stop()
-    there = [it for it in verdicts(server.text()) if it[0] == "SUCCESS"]
-    return sorted(keys or ("", "") for _, keys in there), sorted(keys or ("", "") for _, keys in here)
-
-
 # What came of a login.
 
 
-def state_of(script: Process) -> str:
-    """The state in which a script of ours ends."""
-    return verdicts(script.ended(MOST_SECONDS))[0][0]
+Verdict = Tuple[str, Optional[ends.Names]]
 
 
-def verdicts(text: str) -> List[Tuple[str, Optional[ends.Names]]]:
+def verdict_of(script: Process) -> Verdict:
+    """How the end of a script of ours stands, once that has ended."""
+    return verdicts(script.ended(MOST_SECONDS))[0]
+
+
+def verdicts(text: str) -> List[Verdict]:
     """The states and the names of the keys that one of our scripts tells of its logins; "none" where it tells of none."""
     found = [(it[1], (it[2], it[3]) if it[2] else None) for it in OUR_VERDICT.finditer(text)]
     return found or [("none", None)]
