@@ -10,19 +10,18 @@ case $#:${1-} in
 0:) ;;
 3:compare)
     exec awk '
-        function tell(crate,    one, other) {
-            one = before[crate]
-            other = after[crate]
-            printf "%-18s%10s%10s%8s\n", crate, one == "" ? "-" : one, other == "" ? "-" : other, one * other == 0 ? "-" : sprintf("%.2f", other / one)
-        }
         NF == 5 && $5 ~ /^[0-9]+$/ {
             if ($1 != "all" && !seen[$1]++) order[++count] = $1
-            if (FNR == NR) before[$1] = $5; else after[$1] = $5
+            seconds[FNR == NR, $1] = $5
         }
         END {
             printf "%-18s%10s%10s%8s\n", "crate", "before, s", "after, s", "ratio"
-            for (place = 1; place <= count; place++) tell(order[place])
-            tell("all")
+            order[++count] = "all"
+            for (place = 1; place <= count; place++) {
+                one = seconds[1, order[place]]
+                other = seconds[0, order[place]]
+                printf "%-18s%10s%10s%8s\n", order[place], one == "" ? "-" : one, other == "" ? "-" : other, one * other == 0 ? "-" : sprintf("%.2f", other / one)
+            }
         }' "$2" "$3"
     ;;
 *)
