@@ -18,24 +18,19 @@ SCRIPTS = ("radius_server", "radius_client", "wired", "login", "check")
 KEY = "a1b2c3d4a1b2c3d4"
 
 
-def ends_badly(words: Sequence[str], wanted: str, environment: Optional[Dict[str, str]] = None) -> List[str]:
-    """What is wrong with a script that is to end with status 1, to say something, and neither that it is ready nor a key."""
-    status, text = programs.answer(words, environment)
-    is_right = status == 1 and wanted in text and not re.search("^ready ", text, re.M) and KEY not in text
-    return [] if is_right else [f"status {status}, and it says: {text.strip()[-300:]}"]
-
-
-def ends_well(words: Sequence[str], wanted: str, environment: Optional[Dict[str, str]] = None) -> List[str]:
-    status, text = programs.answer(words, environment)
-    return [] if status == 0 and wanted in text else [f"status {status}: {text[-300:]}"]
+def ends(status: int, words: Sequence[str], wanted: str, environment: Optional[Dict[str, str]] = None) -> List[str]:
+    """What is wrong with a script that is to end with a status and to say something; with 1 no key, nor that it is ready."""
+    ended, text = programs.answer(words, environment)
+    is_right = ended == status and wanted in text and not (status and (re.search("^ready ", text, re.M) or KEY in text))
+    return [] if is_right else [f"status {ended}, and it says: {text.strip()[-300:]}"]
 
 
 def cases() -> Iterator[Case]:
     for script in SCRIPTS[:-1]:
-        yield f"{script} without words", ends_badly(programs.script(script), f"usage: live/{script} ")
-    yield "check of no way", ends_badly(programs.script("check", "nowhere"), "usage: live/check [WAY ..], where WAY is one of radius, ")
+        yield f"{script} without words", ends(1, programs.script(script), f"usage: live/{script} ")
+    yield "check of no way", ends(1, programs.script("check", "nowhere"), "usage: live/check [WAY ..], where WAY is one of radius, ")
     for script in SCRIPTS:
-        yield f"{script} --help", ends_well(programs.script(script, "--help"), f"live/{script} ")
+        yield f"{script} --help", ends(0, programs.script(script, "--help"), f"live/{script} ")
     with tempfile.TemporaryDirectory(prefix="live-") as folder:
         for line in programs.table("said.txt"):
             row = re.sub(r"\{(\d+)\*(\w+)\}", lambda it: it[2] * int(it[1]), line)
@@ -49,12 +44,12 @@ def case_of(folder: str, kind: str, script: str, given: str, wanted: str) -> Cas
     if kind == "settings":
         settings = programs.write(folder, "some.settings", *given.split("; "))
         place = ["lo"] if script == "wired" else ["127.0.0.1", "9"]
-        return f"settings: {wanted}", ends_badly(programs.script(script, settings, *place), wanted)
+        return f"settings: {wanted}", ends(1, programs.script(script, settings, *place), wanted)
     if kind == "numbers":
         runs = [(programs.script(script, *given.format(it).split(" ")), f"'{it}' is no number of ") for it in wanted.split(" ")]
-        return f"{script} {given}: {wanted}", [fault for run in runs for fault in ends_badly(*run)]
+        return f"{script} {given}: {wanted}", [fault for run in runs for fault in ends(1, *run)]
     name = f"{script} {given}" if kind == "bounds" else f"{script}: {wanted}"
-    return name, ends_badly(programs.script(script, *given.split(" ")), wanted)
+    return name, ends(1, programs.script(script, *given.split(" ")), wanted)
 
 
 # live/install, over stand-ins for the tools of Debian.
@@ -70,15 +65,15 @@ def install_cases(folder: str) -> Iterator[Case]:
     for name, text in (("dpkg-query", QUERY), ("apt-get", APT), ("id", "#!/bin/sh\necho 0\n")):
         os.chmod(programs.write(folder, name, text.format(folder)), 0o755)
     wanted = "not installed: eapoltest"
-    yield "install, with a package that isn't to be had", ends_badly(install, wanted, environment)
+    yield "install, with a package that isn't to be had", ends(1, install, wanted, environment)
     wanted = "there already: hostapd wpasupplicant iproute2"
-    yield "install, once more", ends_badly(install, wanted, environment)
+    yield "install, once more", ends(1, install, wanted, environment)
     programs.write(folder, "installed-eapoltest")
     wanted = "there already: hostapd wpasupplicant eapoltest iproute2\n"
-    yield "install, with all there", ends_well(install, wanted, environment)
+    yield "install, with all there", ends(0, install, wanted, environment)
     os.remove(f"{folder}/installed-wpasupplicant")
     wanted = "wpasupplicant starts a service at boot: "
-    yield "install, with a package that starts a service", ends_well([*install, "wpasupplicant"], wanted, environment)
+    yield "install, with a package that starts a service", ends(0, [*install, "wpasupplicant"], wanted, environment)
     programs.write(folder, "id", "#!/bin/sh\necho 1000\n")
     os.remove(f"{folder}/installed-hostapd")
-    yield "install, without root", ends_badly(install, "apt-get wants root", environment)
+    yield "install, without root", ends(1, install, "apt-get wants root", environment)
