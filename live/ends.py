@@ -20,7 +20,7 @@ import socket
 import subprocess
 import sys
 import time
-from typing import Callable, List, NoReturn, Optional, Tuple
+from typing import Callable, List, NamedTuple, NoReturn, Optional, Tuple
 
 ROOT = os.path.dirname(os.path.dirname(os.path.realpath(__file__)))
 # How long the program may think about a line, in seconds; what is slower has stopped.
@@ -233,16 +233,13 @@ def failure(identifier: int) -> bytes:
     return bytes([FAILURE, identifier, 0, 4])
 
 
-class Read:
-    """What `radius` says of a packet: its kind, Identifier, EAP packet and verdict; or a cause alone."""
+class Read(NamedTuple):
+    """What `radius` says of a packet: its kind, Identifier and EAP packet; and what is wrong with it, if something is."""
 
-    def __init__(self, words: List[str]) -> None:
-        is_whole = len(words) > 2
-        self.kind, self.identifier = (words[1], int(words[3])) if is_whole else ("", 0)
-        self.eap, self.verdict = (bytes.fromhex(words[5].strip("-")), words[6]) if is_whole else (b"", words[1])
-
-    def is_good(self, *kinds: str) -> bool:
-        return self.verdict == "good" and self.kind in kinds
+    kind: str = ""
+    identifier: int = 0
+    eap: bytes = b""
+    fault: str = ""
 
 
 class Radius:
@@ -261,8 +258,16 @@ class Radius:
             raise Failed("eap_login radius ended before its answer")
         return answer
 
-    def read(self, octets: bytes) -> Read:
-        return Read(self.ask("read", hex_of(octets)))
+    def read(self, octets: bytes, *kinds: str) -> Read:
+        """Reads a packet, which is to be a good one of these kinds."""
+        if len(octets) > MOST_OCTETS:
+            return Read(fault=f"a packet of over {MOST_OCTETS} octets")
+        words = self.ask("read", hex_of(octets))
+        # (a cause alone is said of what isn't whole)
+        if len(words) < 3:
+            return Read(fault=f"a packet {words[1]}")
+        fault = "" if words[6] == "good" and words[1] in kinds else f"{words[1]} {words[6]}"
+        return Read(words[1], int(words[3]), bytes.fromhex(words[5].strip("-")), fault)
 
     def request(self, identifier: int, authenticator: bytes, user: bytes, state: bytes, eap: bytes) -> bytes:
         """An Access-Request (RFC 2865 section 4.1, RFC 3579 section 3)."""
