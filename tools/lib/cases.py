@@ -98,12 +98,8 @@ def spelled(text: str) -> str:
     while count:
         text, count = re.subn(r"\{(\d+)\*([^{}]*)\}", lambda found: found[2] * int(found[1]), text)
     if "deliver " in text:
-        text = re.sub(r"deliver (\d+)\.\.(\d+)", lambda found: deliveries(int(found[1]), int(found[2])), text)
+        text = re.sub(r"deliver (\d+)\.\.(\d+)", lambda it: ";".join(f"deliver {at}" for at in range(int(it[1]), int(it[2]) + 1)), text)
     return re.sub(r"\\x([0-9a-f]{2})", lambda found: chr(int(found[1], 16)), text) if "\\" in text else text
-
-
-def deliveries(first: int, last: int) -> str:
-    return ";".join(f"deliver {number}" for number in range(first, last + 1))
 
 
 def scenario(case: Case) -> list[str]:

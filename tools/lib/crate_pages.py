@@ -3,6 +3,7 @@
 from __future__ import annotations
 
 import re
+import textwrap
 from typing import Iterator, Optional
 
 from lib.sources import Call, Repository
@@ -46,19 +47,14 @@ def caller_of(repository: Repository, crate: str) -> Optional[Call]:
     return min(found, key=lambda it: it[:3])[3] if found else None
 
 
-def undented(code: str) -> str:
-    lines = code.split("\n")
-    most = min((len(it) - len(it.lstrip()) for it in lines[1:] if it.strip()), default=0)
-    return "\n".join([lines[0], *(it[most:] for it in lines[1:])])
-
-
 def page_of(repository: Repository, crate: str) -> Iterator[str]:
     yield from (f"# {crate}", "", repository.heading(crate), "")
     below, above = repository.below[crate], repository.above(crate)
     yield f"Built on: {', '.join(below) or 'the kit alone'}. Used by: {', '.join(above) or 'none'}."
     caller = caller_of(repository, crate)
     if caller:
-        yield from ("", f"## A caller: `{caller.place}`", "", "```rust", undented(caller.code), "```")
+        head, _, rest = caller.code.partition("\n")
+        yield from ("", f"## A caller: `{caller.place}`", "", "```rust", head, textwrap.dedent(rest), "```")
     calls = calls_of(repository, crate)
     if any(not it.is_law for it in calls):
         yield from ("", "## Its calls", "")

@@ -40,10 +40,6 @@ class Tally:
         return bool(fact)
 
 
-def parts_of(page: Path) -> Tuple[Lines, List[Block]]:
-    return parts_in(page.read_text())
-
-
 def parts_in(text: str) -> Tuple[Lines, List[Block]]:
     """The prose of a page, with its fenced blocks as empty lines, and these blocks: their line, their kind, their
     lines."""
@@ -73,7 +69,7 @@ def sentences_in(text: str) -> Iterator[Tuple[int, str]]:
 
 def anchors_of(page: Path) -> Set[str]:
     """The names by which a browser finds the headings."""
-    heads = [line.lstrip("#").strip().lower() for _, line in parts_of(page)[0] if line.startswith("#")]
+    heads = [line.lstrip("#").strip().lower() for _, line in parts_in(page.read_text())[0] if line.startswith("#")]
     return {re.sub(r"[^\w\- ]", "", it).replace(" ", "-") for it in heads}
 
 
@@ -167,7 +163,7 @@ def check_counts(check: Tally, crates: List[str]) -> None:
     counts = counted(crates)
     told = set()
     for page in (ROOT / "README.md", ROOT / "docs/ASSURANCE.md"):
-        for number, line in parts_of(page)[0]:
+        for number, line in parts_in(page.read_text())[0]:
             label, *cells = (it.strip() for it in line.strip().strip("|").split(" | "))
             if line.startswith("|") and label in counts:
                 told.add(label)
@@ -255,7 +251,7 @@ def check_pages(check: Tally, with_commands: bool) -> None:
     """Looks at the links, names and commands of all pages."""
     blocks, tree = {}, Tree()
     for page in sorted(file for it in ("*.md", "docs/*.md", "*/README.md", "*/*/README.md") for file in ROOT.glob(it)):
-        prose, blocks[page] = parts_of(page)
+        prose, blocks[page] = parts_in(page.read_text())
         check_links(check, page, prose)
         check_names(check, tree, page, prose)
     if with_commands:

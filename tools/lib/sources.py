@@ -2,6 +2,7 @@
 
 import difflib
 import functools
+import itertools
 import re
 from dataclasses import dataclass, field
 from pathlib import Path
@@ -117,12 +118,8 @@ class Source:
     @property
     def heading(self) -> str:
         """The comment at the top of the file."""
-        found = []
-        for line in self.lines:
-            if not line.startswith(self.mark):
-                break
-            found.append(line.lstrip("/-! "))
-        return " ".join(found)
+        top = itertools.takewhile(lambda line: line.startswith(self.mark), self.lines)
+        return " ".join(line.lstrip("/-! ") for line in top)
 
     def front(self, at: int) -> int:
         """The first of the lines of comments and attributes right above this one."""
@@ -243,10 +240,8 @@ class Source:
         return found
 
 
-@functools.lru_cache(maxsize=None)
-def source_of(file: str, text: str) -> Source:
-    """A file with this text, which is taken apart once."""
-    return Source(file, text)
+# (a file with the same text is taken apart once)
+source_of = functools.lru_cache(maxsize=None)(Source)
 
 
 class Repository:

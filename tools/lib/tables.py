@@ -1,7 +1,7 @@
 """The tables of what is to be read: by file, by section of the standards, and that of docs/ASSURANCE.md."""
 
 import re
-from typing import Dict, Iterable, Iterator, List, Set, Tuple
+from typing import Iterable, Iterator, List, Set, Tuple
 
 from lib import sources
 from lib.common import grouped
@@ -37,13 +37,9 @@ def named(items: Iterable[Item]) -> int:
     return sum(it.name != "" for it in items)
 
 
-def by_file(order: List[Item]) -> Dict[str, List[Item]]:
-    return grouped((it.file, it) for it in order)
-
-
 def of_files(repository: Repository, order: List[Item], foreign: Set[Tuple[str, str]]) -> Iterator[str]:
     yield "| File | Definitions | Lines | Sections |\n|---|---|---|---|"
-    files = by_file(order)
+    files = grouped((it.file, it) for it in order)
     for file, items in files.items():
         source = repository.sources[file]
         lines = f"{lines_of(items)} of {len(source.lines)}"
@@ -83,4 +79,4 @@ def of_promises(repository: Repository) -> Iterator[str]:
     orders = [sources.closure(repository, repository.root(it))[0] for it in PROMISES]
     yield from ("| Promise | Files | Definitions | Lines |", "|---|---|---|---|")
     for promise, order in zip(PROMISES, orders):
-        yield f"| `{promise}` | {len(by_file(order))} | {named(order)} | {lines_of(order)} |"
+        yield f"| `{promise}` | {len({it.file for it in order})} | {named(order)} | {lines_of(order)} |"
