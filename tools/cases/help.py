@@ -7,8 +7,9 @@ import re
 import subprocess
 import tempfile
 from pathlib import Path
-from typing import Any, Iterator, Optional
+from typing import Iterator, Optional
 
+from cases.lib.small import Run
 from lib.common import ROOT
 
 FOLDERS = ("", ".ci", "bench", "c", "c/freeradius", "c/hostapd", "cases", "dev", "examples", "live", "tools")
@@ -31,23 +32,18 @@ def head_of(text: str) -> str:
     return found[1].removesuffix('"""') if found else ""
 
 
-def case_help(run: Any) -> Iterator[Optional[str]]:
+def case_help(_: Run) -> Iterator[Optional[str]]:
     with tempfile.TemporaryDirectory() as folder:
         for name in WORK:
             stub = Path(folder) / name
             stub.write_text(f"#!/bin/sh\n: >'{folder}/begun'\nexit 9\n")
             stub.chmod(0o755)
         for path, text in scripts():
-            name, head = str(path.relative_to(ROOT)), head_of(text)
-            if name.startswith(("dev/", "tools/")) and "python3" in text[:40]:
-                status, out, errors = run([name, "--help"])
-            else:
-                done = subprocess.run([path, "--help"], cwd=folder, stdin=subprocess.DEVNULL, capture_output=True, text=True, timeout=60,
-                                      env={**os.environ, "PATH": f"{folder}:{os.environ['PATH']}"})
-                status, out, errors = done.returncode, done.stdout, done.stderr
-            begun = Path(folder) / "begun"
-            if (status, errors) != (0, "") or not head or head not in out or begun.exists():
+            head, begun = head_of(text), Path(folder) / "begun"
+            done = subprocess.run([path, "--help"], cwd=folder, stdin=subprocess.DEVNULL, capture_output=True, text=True, timeout=60,
+                                  env={**os.environ, "PATH": f"{folder}:{os.environ['PATH']}"})
+            if (done.returncode, done.stderr) != (0, "") or not head or head not in done.stdout or begun.exists():
                 begun.unlink(missing_ok=True)
-                yield f"{name} --help ends with {status} and writes {(out + errors)[:80]!r}"
+                yield f"{path.relative_to(ROOT)} --help ends with {done.returncode} and writes {(done.stdout + done.stderr)[:80]!r}"
             else:
                 yield None

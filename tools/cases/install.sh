@@ -160,16 +160,10 @@ refuses "$work has no rlm_eap_gpsk.so; c/freeradius/build builds it" tools/insta
 
 # The stand-in's program is proved: it is installed by its own name, below DESTDIR, with the library, which another
 # program finds by pkg-config. When a source has changed it isn't proved, and is refused, with nothing put in place.
-mkdir -p "$copy/share" "$copy/docs" "$copy/c/examples" "$copy/c/hostapd" "$copy/c/out" "$copy/examples"
-cp tools/install tools/why tools/page tools/chart tools/capture-of tools/by-station "$copy/tools"
-cp -r tools/lib "$copy/tools"
-cp -r c/python c/rust "$copy/c"
-cp -r share/* "$copy/share"
-cp docs/*.md "$copy/docs"
-cp c/tuvaddri.h c/README.md c/NOTICE c/spdx.json c/numbers.txt c/*.c "$copy/c"
-cp c/examples/* "$copy/c/examples"
-cp c/hostapd/README.md c/hostapd/*.c "$copy/c/hostapd"
-cp examples/keys.txt "$copy/examples"
+cp -R --parents tools/install tools/why tools/page tools/chart tools/capture-of tools/by-station tools/lib share docs/*.md \
+    examples/keys.txt c/python c/rust c/examples c/hostapd/README.md c/hostapd/*.c \
+    c/tuvaddri.h c/README.md c/NOTICE c/spdx.json c/numbers.txt c/*.c "$copy"
+mkdir -p "$copy/c/out"
 DESTDIR=$work/dest in_copy tools/install --prefix /opt/eap
 holds "install of a proved program" [ "$ended $(head -n 1 "$work/out")" = "0 $work/dest/opt/eap/bin/eap_login" ]
 says "tools/install: the library for C is left out: c/library proves and builds it"

@@ -14,7 +14,7 @@ import tty
 from pathlib import Path
 from typing import IO, Iterator, Optional, Sequence
 
-from lib.common import ROOT
+from lib.common import ROOT, Refused
 
 SCRIPT = ROOT / "eap_login"
 SECONDS = 60
@@ -31,7 +31,7 @@ FORMS = ("from", "row", "$", "set", "take", "run", "<", "file", "input", "unread
 FORM = re.compile(rf"({'|'.join(map(re.escape, FORMS))})(?: (.*))?|(<<)(.*)")
 
 
-class Bad(Exception):
+class Bad(Refused):
     """What is wrong with a file of cases."""
 
 
@@ -170,18 +170,14 @@ def at_terminal(command: list[bytes], given: IO[bytes], out: IO[bytes]) -> tuple
     """The status and the errors of a run whose standard error is a terminal."""
     near, far = pty.openpty()
     errors = b""
-    try:
-        tty.setraw(far)
-        try:
-            status = subprocess.run(command, stdin=given, stdout=out, stderr=far, timeout=SECONDS).returncode
-        finally:
-            os.close(far)
+    with open(near, "rb", buffering=0) as reader:
+        with open(far, "wb", buffering=0) as terminal:
+            tty.setraw(far)
+            status = subprocess.run(command, stdin=given, stdout=out, stderr=terminal, timeout=SECONDS).returncode
         with contextlib.suppress(OSError):  # so it ends
-            while piece := os.read(near, 4096):
+            while piece := reader.read(4096):
                 errors += piece
-        return status, errors
-    finally:
-        os.close(near)
+    return status, errors
 
 
 def program_faults(cases: Sequence[Case]) -> Iterator[Optional[str]]:

@@ -227,8 +227,7 @@ def rows_of(part: Packets, findings: Sequence[str]) -> list[Row]:
     rows = []
     for it, finding in zip(part, findings):
         sender, receiver = ("server", "peer") if it.is_to_peer else ("peer", "server")
-        row = Row("arrow", str(it.number), sender=sender, receiver=receiver, title=title_of(it.octets), octets=it.octets)
-        row.finding, row.at = finding, it.at
+        row = Row("arrow", str(it.number), "", sender, receiver, title_of(it.octets), octets=it.octets, finding=finding, at=it.at)
         if it.radius:
             row.carrier = f"{it.radius.name}, {it.radius.verdict}" if it.radius.verdict else it.radius.name
             row.exchange = id(it.radius.request or it.radius)

@@ -9,6 +9,7 @@ import tempfile
 from pathlib import Path
 from typing import Dict, Iterator, List, Optional, Set, Tuple
 
+from lib.cases import first_lost, read
 from lib.common import ROOT, this_python
 from lib.crates import files_of
 
@@ -130,12 +131,6 @@ def lines_of(part: str, crates: List[str]) -> int:
     return sum(len(it.read_text().splitlines()) for crate in crates for it in files_of(crate, (part,)))
 
 
-def cases() -> int:
-    """How many cases cases/run runs: each `case` of a file, or each of its rows."""
-    files = [re.split(r"^case ", it.read_text("latin-1"), flags=re.M) for it in (ROOT / "cases").glob("*.cases")]
-    return sum(max(1, len(re.findall(r"^row\b", front + it, re.M))) for front, *own in files for it in own)
-
-
 def counted(crates: List[str]) -> Dict[str, List[int]]:
     """What docs/ASSURANCE.md and README.md count, by the first cell of the row."""
     tests = [it for it in crates if it.endswith("_tests")]
@@ -149,7 +144,7 @@ def counted(crates: List[str]) -> Dict[str, List[int]]:
         "wrong bodies in the gate": [len(list(ROOT.glob("crates/*/must-fail/*.edit")))],
         "wrong bodies in `wrong/`": [len(list(ROOT.glob("wrong/*/*.edit")))],
         "of all these refused, as `wrong/refused.txt` has it": [sum(refused)],
-        "cases of texts": [cases()],
+        "cases of texts": [sum(len(read(it)) for it in (ROOT / "cases").glob("*.cases"))],
         "tests in code": [sum(len(has_test.findall(it.read_text())) for it in ROOT.glob("crates/*/src/**/*.rt"))],
         "stored outputs in `examples/`": [len([it for it in ROOT.glob("examples/*") if it.name.endswith(outputs)])],
         "Lines of code, of definitions, of proofs, of tests": [
@@ -229,8 +224,7 @@ def check_blocks(check: Tally, tree: Tree, page: Path, blocks: List[Block], kept
         for (number, kind, lines), (text_number, next_kind, text) in zip(blocks, [*blocks[1:], last]):
             said = said_by(check, folder, f"{name}:{number}", lines, kept) if kind == "sh" else None
             if said is not None and next_kind == "text":
-                rest = iter(said)
-                lost = next((line for line in text if line not in rest), None)
+                lost = first_lost(text, said)
                 check.holds(lost is None, f"{name}:{text_number}: the commands before don't write: {lost}")
 
 

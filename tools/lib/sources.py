@@ -180,12 +180,10 @@ class Source:
         for name, begin, end in rattle.types_in(blank):
             # (one that has a model is closed, and a reader sees no field of it)
             yield self.item(name, self.lines_at(begin, begin + 1 if name in closed else end))
-        heads: Dict[Optional[rattle.Block], Item] = {}
-        for block in blocks:
-            heads[block] = self.head_of(blank, block, [it for it in functions if it.block == block])
-            yield heads[block]
-        for it in functions:
-            yield self.call(it, heads.get(it.block))
+        heads: Dict[Optional[rattle.Block], Item] = {
+            block: self.head_of(blank, block, [it for it in functions if it.block == block]) for block in blocks}
+        yield from heads.values()
+        yield from (self.call(it, heads.get(it.block)) for it in functions)
 
     def lines_at(self, begin: int, end: int) -> Set[int]:
         """The lines of what stands here, comments and attributes above it among them."""
@@ -216,11 +214,6 @@ class Source:
     def clause(self, it: rattle.Clause) -> Clause:
         text = " ".join(self.bare(self.text[it.begin : it.end].splitlines()).split())
         return Clause(it.kind, it.name, text, range(self.line_of(it.begin), self.line_of(it.end - 1) + 1))
-
-    @functools.cached_property
-    def named(self) -> List[Tuple[Item, List[str]]]:
-        """The definitions and types, each with its names."""
-        return [(it, [it.name, *it.inner]) for it in self.items if it.name and not isinstance(it, Call)]
 
     @functools.cached_property
     def imports(self) -> Dict[str, List[Tuple[str, Optional[str]]]]:
@@ -319,7 +312,8 @@ class Repository:
     def named_by(self, item: Item) -> Tuple[List[Item], Set[Tuple[str, str]]]:
         """The items that an item names, and the names that come from the kit."""
         source = self.sources[item.file]
-        found = [it for it, names in source.named if it is not item and any(is_named(one, item.tokens) for one in names)]
+        found = [it for it in source.items if it.name and it is not item and not isinstance(it, Call)
+                 and any(is_named(one, item.tokens) for one in (it.name, *it.inner))]
         foreign = set()
         for name in [it for it in source.imports if is_named(it, item.tokens)]:
             for module, there in source.imports[name]:
@@ -364,18 +358,13 @@ class Repository:
         files = sorted({it.file for it in found})
         if not found:
             names = [it for _, it in self.of] if crate not in self.crates else [f"{crate}::{it}" for its, it in self.of if its == crate]
-            raise Refused(f"there is no definition, type or contract {name}{nearest(name, names)}")
+            near = [f"; is {it} meant?" for it in difflib.get_close_matches(name, names, 1)]
+            raise Refused(f"there is no definition, type or contract {name}{''.join(near)}")
         if len({it.crate for it in found}) > 1:
             raise Refused(f"{name} stands in several crates ({', '.join(files)}): CRATE::NAME says which")
         if not clauses:
             return found
         return [it for one in found for it in promised(one, re.findall(r"\w+", clauses))]
-
-
-def nearest(name: str, names: Iterable[str]) -> str:
-    """Which of these names is meant, by one that is none of them."""
-    near = difflib.get_close_matches(name, list(names), 1)
-    return f"; is {near[0]} meant?" if near else ""
 
 
 def exports_of(source: Optional[Source]) -> Set[str]:

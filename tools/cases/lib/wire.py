@@ -50,14 +50,8 @@ class Login:
         # GPSK-Protected-Fail, Authorization Failure, and the peer's, which is the same
         barred = b"\x33\6" + struct.pack(">I", 3)
         self.barred, self.answer_to_barred = (eap(code, at + 2, barred + mac(sk, barred[2:])) for code in (1, 2))
-
-    @property
-    def front(self) -> list[bytes]:
-        return [self.asked, self.named, self.gpsk1]
-
-    @property
-    def whole(self) -> list[bytes]:
-        return [*self.front, self.gpsk2, self.gpsk3, self.gpsk4, self.success]
+        self.front = [self.asked, self.named, self.gpsk1]
+        self.whole = [*self.front, self.gpsk2, self.gpsk3, self.gpsk4, self.success]
 
 
 def altered(packet: bytes, at: int) -> bytes:
