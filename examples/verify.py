@@ -13,7 +13,7 @@ from cryptography.hazmat.primitives.cmac import CMAC
 
 sys.path.append(str(Path(__file__).resolve().parent.parent / "tools"))
 
-from lib.replays import Event, bring, parts_of, tell
+from lib.replays import bring, parts_of, tell
 
 # Before the Vendor-Type of a Type of the IETF.
 EXPANDED = b"\xfe" + bytes(6)
@@ -226,13 +226,12 @@ class Run:
         self.scenario, self.sent, self.heard, self.fronts, self.ends = Scenario(text), {}, [], [], {}
         self.packets = self.names = 0
         self.wrong, self.fresh = [], "yes"
-        events = [Event(number, words) for number, words in enumerate([["start"], *self.scenario.events])]
         for words in trace:
             if words[0].isdigit():
-                tell(events[int(words[0])], words[1:])
+                tell(self.scenario.events[int(words[0])], words[1:])
         for who in self.scenario.nonces:
             self.begins(who)
-        for event in events:
+        for event in self.scenario.events:
             if not event.skip:
                 self.happens(event)
         fresh = [words[1] for words in trace if words[0] == "fresh"]
