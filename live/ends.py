@@ -20,9 +20,15 @@ import socket
 import subprocess
 import sys
 import time
-from typing import Callable, List, NamedTuple, NoReturn, Optional, Tuple
+from typing import Callable, List, NoReturn, Optional, Tuple
 
 ROOT = os.path.dirname(os.path.dirname(os.path.realpath(__file__)))
+sys.path.append(f"{ROOT}/tools")
+from lib import common  # noqa: E402
+
+# Why a script can't go on, in a line.
+Failed = common.Refused
+
 # How long the program may think about a line, in seconds; what is slower has stopped.
 ANSWER_SECONDS = 20
 # The most lines that an end is told in a login. The program takes 10,000.
@@ -39,10 +45,6 @@ Trace = Callable[[str], None]
 Names = Tuple[str, str]
 
 
-class Failed(Exception):
-    """Why a script can't go on, in a line."""
-
-
 def program() -> str:
     return os.environ.get("EAP_LOGIN") or f"{ROOT}/eap_login"
 
@@ -50,6 +52,7 @@ def program() -> str:
 def try_program() -> None:
     """Runs the program once on nothing, so that it is built, and its complaints are read, before a login begins.
     Who is started by a script that has tried it doesn't."""
+    common.told.append(True)
     if os.environ.get("LIVE_TRIED") == program():
         return
     try:
@@ -79,30 +82,25 @@ class Words:
         )
         assert self.process.stdin and self.process.stdout
         self.into, self.out = self.process.stdin, self.process.stdout
-        self.read = b""
         self.told: List[str] = []
 
-    def put(self, line: str) -> None:
-        self.told.append(line)
+    def put(self, *lines: str) -> None:
+        self.told += lines
         try:
-            self.into.write(line.encode("latin-1") + b"\n")
+            self.into.write("\n".join([*lines, ""]).encode("latin-1"))
         except BrokenPipeError:
             pass  # what it wrote before it ended is read by `get`
 
     def get(self) -> Optional[List[str]]:
         """The next line, or None at the end of what it writes."""
-        while b"\n" not in self.read:
-            if not select.select([self.out], [], [], ANSWER_SECONDS)[0]:
-                raise Failed(f"{self.name} gives no answer to the line: {self.line_of(len(self.told))}")
-            more = os.read(self.out.fileno(), 65536)
-            if not more:
-                return None
-            self.read += more
-        line, self.read = self.read.split(b"\n", 1)
-        words = line.decode().split(" ")
+        if not select.select([self.out], [], [], ANSWER_SECONDS)[0]:
+            raise Failed(f"{self.name} gives no answer to the line: {self.line_of(len(self.told))}")
+        # (which has no buffer, so a next line stays there for `select`)
+        line = self.out.readline().decode()
+        words = line.rstrip("\n").split(" ")
         if words[0] == "refused":
             raise Failed(f"{self.name} refuses line {words[2]} ({words[3]}): {self.line_of(int(words[2]))}")
-        return words
+        return words if line else None
 
     def line_of(self, number: int) -> str:
         return shown(self.told[number - 1]) if 0 < number <= len(self.told) else "(none)"
@@ -110,19 +108,15 @@ class Words:
     def close(self) -> List[List[str]]:
         """Tells it that no more comes, and reads the rest."""
         self.into.close()
-        rest = []
-        while (words := self.get()) is not None:
-            rest.append(words)
+        rest = list(iter(self.get, None))
         self.out.close()
         self.process.wait(ANSWER_SECONDS)
         return rest
 
     def stop(self) -> None:
         """Ends it, wherever it is."""
-        self.process.kill()
-        self.process.wait()
-        self.into.close()
-        self.out.close()
+        with self.process:
+            self.process.kill()
 
 
 @dataclasses.dataclass
@@ -156,8 +150,7 @@ class End:
         self.keys: Optional[Names] = None
         # (why it discarded last)
         self.cause = ""
-        for line in ["eap-end 1", *settings, f"{word}-nonce {secrets.token_hex(32)}", "events"]:
-            self.words.put(line)
+        self.words.put("eap-end 1", *settings, f"{word}-nonce {secrets.token_hex(32)}", "events")
 
     def start(self) -> Turn:
         """The first Request of a server, which it makes by itself."""
@@ -189,7 +182,7 @@ class End:
             self.state = path[-1]
         # (in SUCCESS an end has its keys, whose line stands behind its last packet at the latest)
         if self.state == "SUCCESS" and not self.keys:
-            self.keep_keys(self.next("keys"))
+            self.next("keys")
         self.trace(f"{self.word} < {line}")
         self.trace(f"{self.word} {' '.join(path)}{' cause ' + turn.cause if turn.cause else ''}")
         if turn.sends:
@@ -199,17 +192,15 @@ class End:
     def next(self, wanted: str = "") -> List[str]:
         """The words of the next line behind its number, and behind the word that is wanted. An end can hold its keys before
         SUCCESS, so their line is read before another one."""
-        while (words := self.words.get()) and words[1:2] == ["keys"] and wanted != "keys":
-            self.keep_keys(words[2:])
+        words = self.words.get()
         if words is None:
             raise Failed(f"{self.words.name} ended before its answer")
+        if words[1:2] == ["keys"]:
+            self.keys = (words[3], words[5])
+            return [] if wanted == "keys" else self.next(wanted)
         if words[0] != str(self.count) or (wanted and words[1] != wanted):
             raise Failed(f"{self.words.name} says {' '.join(words)} where {self.count} {wanted or 'PATH'} was to come")
         return words[2:] if wanted else words[1:]
-
-    def keep_keys(self, words: List[str]) -> None:
-        """Keeps the names of the MSK and the EMSK."""
-        self.keys = (words[1], words[3])
 
     def last_cause(self) -> str:
         """Why it discarded what came last, in words."""
@@ -224,59 +215,13 @@ class End:
             if words[0] == "state":
                 self.state = words[1]
             elif words[1:2] == ["keys"]:
-                self.keep_keys(words[2:])
+                self.keys = (words[3], words[5])
         return f"state {self.state}" + (f" msk {self.keys[0]} emsk {self.keys[1]}" if self.keys else "")
 
 
 def failure(identifier: int) -> bytes:
     """A Failure, which a server that has given its peer up doesn't send (RFC 3748 section 4.2)."""
     return bytes([FAILURE, identifier, 0, 4])
-
-
-class Read(NamedTuple):
-    """What `radius` says of a packet: its kind, Identifier and EAP packet; and what is wrong with it, if something is."""
-
-    kind: str = ""
-    identifier: int = 0
-    eap: bytes = b""
-    fault: str = ""
-
-
-class Radius:
-    """`eap_login radius` with the secret of both sides."""
-
-    def __init__(self, secret: str) -> None:
-        self.words = Words("radius")
-        self.words.put("eap-radius 1")
-        self.words.put(f"secret {secret}")
-
-    def ask(self, *words: str) -> List[str]:
-        self.words.put(" ".join(words))
-        self.words.told = self.words.told[-2:]
-        answer = self.words.get()
-        if answer is None:
-            raise Failed("eap_login radius ended before its answer")
-        return answer
-
-    def read(self, octets: bytes, *kinds: str) -> Read:
-        """Reads a packet, which is to be a good one of these kinds."""
-        if len(octets) > MOST_OCTETS:
-            return Read(fault=f"a packet of over {MOST_OCTETS} octets")
-        words = self.ask("read", hex_of(octets))
-        # (a cause alone is said of what isn't whole)
-        if len(words) < 3:
-            return Read(fault=f"a packet {words[1]}")
-        fault = "" if words[6] == "good" and words[1] in kinds else f"{words[1]} {words[6]}"
-        return Read(words[1], int(words[3]), bytes.fromhex(words[5].strip("-")), fault)
-
-    def request(self, identifier: int, authenticator: bytes, user: bytes, state: bytes, eap: bytes) -> bytes:
-        """An Access-Request (RFC 2865 section 4.1, RFC 3579 section 3)."""
-        words = self.ask("request", str(identifier), hex_of(authenticator), hex_of(user), hex_of(state), hex_of(eap))
-        return bytes.fromhex(words[1])
-
-    def reply(self, kind: str, state: bytes, eap: bytes) -> bytes:
-        """The answer to the Access-Request that was read last."""
-        return bytes.fromhex(self.ask("reply", kind, hex_of(state), hex_of(eap))[1])
 
 
 def hex_of(octets: bytes) -> str:
@@ -367,17 +312,6 @@ def asked(made: Parser, is_peer: bool) -> argparse.Namespace:
     words = made.parse_args()
     try_program()
     return words
-
-
-def udp_socket(words: argparse.Namespace, is_server: bool) -> socket.socket:
-    """The socket of a server at the address and port of the words, or that of a client of the server there."""
-    made = socket.socket(socket.AF_INET6 if ":" in words.address else socket.AF_INET, socket.SOCK_DGRAM)
-    try:
-        (made.bind if is_server else made.connect)((words.address, words.port))
-    except OSError as fault:
-        can = "listened at" if is_server else "used"
-        raise Failed(f"{words.address} port {words.port} can't be {can}: {fault.strerror}")
-    return made
 
 
 def comes(to: socket.socket, until: float) -> bool:

@@ -4,12 +4,12 @@ sent. Faults are told with the numbers of the file's own lines, and in the words
 
 from __future__ import annotations
 
-import os
 import re
-import subprocess
 from typing import Dict, List, Optional, Tuple
 
 import ends
+from lib.common import octets_of, run
+from lib.refusals import Refusal
 
 # The most octets of a file; the program's own limit is higher.
 MOST_OCTETS = 1000000
@@ -27,7 +27,10 @@ class Settings:
         self.path = path
         # (in each text of the program the lines of the others are empty, so that its lines have the numbers of the file's)
         self.texts: Dict[str, List[str]] = {text: [] for text in HEADERS}
-        for number, line in enumerate(read_file(path).decode("latin-1").split("\n"), 1):
+        octets = octets_of(path)
+        if len(octets) > MOST_OCTETS:
+            raise ends.Failed(f"{path} has over {MOST_OCTETS} octets")
+        for number, line in enumerate(octets.decode("latin-1").split("\n"), 1):
             line = line.rstrip("\r")
             own = self.text_of(number, line)
             for text, lines in self.texts.items():
@@ -56,11 +59,11 @@ class Settings:
         words = [line.partition(" ") for lines in self.texts.values() for line in lines]
         return next(rest.encode("latin-1") for first, _, rest in words if first == keyword)
 
-    def key_of(self, name: str, kind: int) -> Optional[Tuple[str, bool]]:
+    def key_of(self, name: str, kind: str) -> Optional[Tuple[str, bool]]:
         """The key that the server's users have for a name and a method, and whether that user is allowed."""
         for line in self.lines("server"):
             words = line.split(" ")
-            if words[:3] == ["user", name, str(kind)]:
+            if words[:3] == ["user", name, kind]:
                 return words[3], words[4] == "allowed"
         return None
 
@@ -68,47 +71,22 @@ class Settings:
         if text == "radius" and not self.lines(text):
             raise ends.Failed(f"{self.path} has no line `secret HEX`")
         rest = ["end"] if text == "radius" else [f"{text}-nonce {'00' * 32}", "events", "end"]
-        told = "\n".join([HEADERS[text], *self.texts[text], *rest]) + "\n"
-        last = ask([ends.program(), text], told)[-1:]
-        found = re.fullmatch("refused line ([0-9]+) ([A-Za-z]+)", "".join(last))
+        told = "\n".join([HEADERS[text], *self.texts[text], *rest, ""]).encode("latin-1")
+        found = re.search("^refused line ([0-9]+) ([A-Za-z]+)$", run([text], told)[1].decode("latin-1"), re.M)
         if not found:
             return
         # (the header stands before the file's first line)
         number, fault = int(found[1]) - 1, found[2]
+        refusal = Refusal(text, told, number + 1, fault)
         if number <= len(self.texts[text]):
             line = ends.shown(self.texts[text][number - 1])
-            reasons = [it for it in why(text, told) if not it.startswith(f"{fault}: ")]
+            reasons = map(in_file, filter(None, (refusal.specific(), refusal.allowed())))
             raise self.fault(number, "; ".join([f"{line!a} is refused ({fault})", *reasons]))
         if is_wanted:
-            missing = (it for it in why(text, told) if it.startswith("missing: "))
-            raise ends.Failed(f"{self.path}: {next(missing, fault)}")
+            raise ends.Failed(f"{self.path}: {refusal.missing() if fault == 'Missing' else fault}")
 
 
-def read_file(path: str) -> bytes:
-    try:
-        with open(path, "rb") as file:
-            octets = file.read(MOST_OCTETS + 1)
-    except OSError as fault:
-        raise ends.Failed(f"{path} can't be read: {fault.strerror}")
-    if len(octets) > MOST_OCTETS:
-        raise ends.Failed(f"{path} has over {MOST_OCTETS} octets")
-    return octets
-
-
-def ask(words: List[str], told: str) -> List[str]:
-    done = subprocess.run(
-        words, input=told.encode("latin-1"), stdout=subprocess.PIPE, stderr=subprocess.DEVNULL, timeout=ends.ANSWER_SECONDS
-    )
-    return done.stdout.decode("latin-1").splitlines()
-
-
-def why(text: str, told: str) -> List[str]:
-    """What tools/why says of a refused text, in the numbers of the file's lines; without the line itself, and without what
-    may be a key."""
-    os.environ["EAP_LOGIN"] = ends.program()
-    try:
-        lines = ask([f"{ends.ROOT}/tools/why", text], told)[1:]
-    except (OSError, subprocess.SubprocessError):
-        return []
-    lines = [re.sub("([0-9A-Fa-f]{8})[0-9A-Fa-f]{9,}", r"\1..", it) for it in lines]
-    return [re.sub("line ([0-9]+)", lambda it: f"line {int(it[1]) - 1}", line) for line in lines]
+def in_file(reason: str) -> str:
+    """A reason in the numbers of the file's lines, without what may be a key."""
+    reason = re.sub("([0-9A-Fa-f]{8})[0-9A-Fa-f]{9,}", r"\1..", reason)
+    return re.sub("line ([0-9]+)", lambda it: f"line {int(it[1]) - 1}", reason)

@@ -1,15 +1,19 @@
-"""Attributes of RADIUS packets that the scripts read, add and seal themselves, beside those of `eap_login radius`:
-Proxy-State (RFC 2865 section 5.33), Error-Cause (RFC 3579 section 2.2), and the link keys (RFC 2548 section 2.4).
+"""RADIUS packets that carry EAP, over UDP: those of `eap_login radius`, and the attributes that the scripts read, add and seal
+themselves: Proxy-State (RFC 2865 section 5.33), Error-Cause (RFC 3579 section 2.2), and the link keys (RFC 2548 section 2.4).
 
-A packet here is one that `radius` has written, or has found good.
+Attributes are read only of a packet that `radius` has written, or has found good.
 """
 
 from __future__ import annotations
 
+import argparse
 import hashlib
 import hmac
 import secrets
-from typing import Dict, Iterator, List, Optional, Tuple
+import socket
+from typing import Dict, Iterator, List, NamedTuple, Optional, Tuple
+
+import ends
 
 STATE, VENDOR_SPECIFIC, PROXY_STATE, MESSAGE_AUTHENTICATOR, ERROR_CAUSE = 24, 26, 33, 80, 101
 ACCESS_REQUEST = 1
@@ -17,6 +21,68 @@ ACCESS_REQUEST = 1
 MICROSOFT, SEND_KEY, RECV_KEY = (311).to_bytes(4, "big"), 16, 17
 # The most octets of a RADIUS packet (RFC 2865 section 3).
 MOST_OCTETS = 4096
+
+
+def udp_socket(words: argparse.Namespace, is_server: bool) -> socket.socket:
+    """The socket of a server at the address and port of the words, or that of a client of the server there."""
+    made = socket.socket(socket.AF_INET6 if ":" in words.address else socket.AF_INET, socket.SOCK_DGRAM)
+    try:
+        (made.bind if is_server else made.connect)((words.address, words.port))
+    except OSError as fault:
+        can = "listened at" if is_server else "used"
+        raise ends.Failed(f"{words.address} port {words.port} can't be {can}: {fault.strerror}")
+    return made
+
+
+class Read(NamedTuple):
+    """What `radius` says of a packet: its kind, Identifier and EAP packet; and what is wrong with it, if something is."""
+
+    kind: str = ""
+    identifier: int = 0
+    eap: bytes = b""
+    fault: str = ""
+
+
+class Radius:
+    """`eap_login radius` with the secret of both sides."""
+
+    def __init__(self, secret: bytes) -> None:
+        self.secret, self.words = secret, ends.Words("radius")
+        self.words.put("eap-radius 1", f"secret {secret.hex()}")
+
+    def ask(self, *words: object) -> List[str]:
+        self.words.put(" ".join(ends.hex_of(it) if isinstance(it, bytes) else str(it) for it in words))
+        self.words.told = self.words.told[-2:]
+        answer = self.words.get()
+        if answer is None:
+            raise ends.Failed("eap_login radius ended before its answer")
+        return answer
+
+    def read(self, octets: bytes, *kinds: str) -> Read:
+        """Reads a packet, which is to be a good one of these kinds."""
+        if len(octets) > ends.MOST_OCTETS:
+            return Read(fault=f"a packet of over {ends.MOST_OCTETS} octets")
+        words = self.ask("read", octets)
+        # (a cause alone is said of what isn't whole)
+        if len(words) < 3:
+            return Read(fault=f"a packet {words[1]}")
+        fault = "" if words[6] == "good" and words[1] in kinds else f"{words[1]} {words[6]}"
+        return Read(words[1], int(words[3]), bytes.fromhex(words[5].strip("-")), fault)
+
+    def request(self, identifier: int, user: bytes, state: bytes, eap: bytes, more: bytes) -> bytes:
+        """An Access-Request (RFC 2865 section 4.1, RFC 3579 section 3), with more attributes."""
+        asked = secrets.token_bytes(16)
+        packet = bytes.fromhex(self.ask("request", identifier, asked, user, state, eap)[1])
+        return with_more(self.secret, packet, asked, more)
+
+    def reply(self, request: bytes, kind: str, state: bytes, eap: bytes, more: bytes) -> bytes:
+        """The answer to an Access-Request, with its Proxy-States and more attributes."""
+        self.read(request)
+        packet = bytes.fromhex(self.ask("reply", kind, state, eap)[1])
+        return with_more(self.secret, packet, request[4:20], proxy_states(request) + more)
+
+
+# The attributes.
 
 
 def attribute(kind: int, octets: bytes) -> bytes:
@@ -34,18 +100,14 @@ def parts(octets: bytes) -> Iterator[Tuple[int, bytes]]:
         octets = octets[octets[1] :]
 
 
-def attributes(packet: bytes) -> Iterator[Tuple[int, bytes]]:
-    return parts(packet[20 : int.from_bytes(packet[2:4], "big")])
-
-
 def values(packet: bytes, kind: int) -> List[bytes]:
     """The values of all attributes of a type, in their order."""
-    return [octets for its_kind, octets in attributes(packet) if its_kind == kind]
+    return [octets for its_kind, octets in parts(packet[20 : int.from_bytes(packet[2:4], "big")]) if its_kind == kind]
 
 
-def state(packet: bytes) -> bytes:
+def state_of(packet: bytes) -> bytes:
     """The attribute State; no octets where there is none."""
-    return next(iter(values(packet, STATE)), b"")
+    return b"".join(values(packet, STATE)[:1])
 
 
 def proxy_states(packet: bytes) -> bytes:
@@ -54,13 +116,12 @@ def proxy_states(packet: bytes) -> bytes:
 
 
 def with_more(secret: bytes, packet: bytes, asked: bytes, more: bytes) -> bytes:
-    """A packet with more attributes before its Message-Authenticator, which is made anew over the Request Authenticator
+    """A packet of `radius` with more attributes before its Message-Authenticator, which is made anew over the Request Authenticator
     (RFC 3579 section 3.2), as is the Response Authenticator of a reply (RFC 2865 section 3). That of an Access-Request is a
     number drawn for it, and stays."""
     if not more:
         return packet
-    body = b"".join(attribute(*it) for it in attributes(packet) if it[0] != MESSAGE_AUTHENTICATOR) + more
-    body += bytes([MESSAGE_AUTHENTICATOR, 18])
+    body = packet[20:-18] + more + bytes([MESSAGE_AUTHENTICATOR, 18])
     length = 20 + len(body) + 16
     if length > MOST_OCTETS:
         raise ValueError(f"a packet of {length} octets")
