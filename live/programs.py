@@ -10,6 +10,7 @@ import shutil
 import subprocess
 import sys
 import time
+from pathlib import Path
 from typing import Dict, Iterator, List, Mapping, Optional, Sequence, Tuple, Union
 
 import ends
@@ -47,9 +48,7 @@ class Process:
         started.append(self)
 
     def text(self) -> str:
-        # (a log may have any octets)
-        with open(self.log, encoding="latin-1") as log:
-            return log.read()
+        return read(self.log)
 
     def wait_for(self, pattern: str, seconds: float) -> bool:
         """Whether the output comes to have this within so many seconds; a program that has ended writes no more."""
@@ -163,13 +162,12 @@ def table(name: str) -> Iterator[str]:
 
 
 def read(path: str) -> str:
-    with open(path, errors="replace") as text:
-        return text.read()
+    # (a log may have any octets)
+    return Path(path).read_text("latin-1")
 
 
 def write(folder: str, name: str, *lines: str) -> str:
-    with open(f"{folder}/{name}", "w") as text:
-        text.write("\n".join(lines) + "\n")
+    Path(folder, name).write_text("\n".join(lines) + "\n")
     return f"{folder}/{name}"
 
 

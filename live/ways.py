@@ -1,16 +1,12 @@
-"""The ways of logging in with a real end: hostapd, wpa_supplicant and eapol_test, each with a configuration of its own.
-
-    radius          radius_client at radius_server, with no other program
-    eapol_test      eapol_test at radius_server
-    hostapd-radius  radius_client at hostapd's RADIUS server
-    hostapd-wired   wired over EAPOL at hostapd, authenticator and server in one
-    wpa_supplicant  wpa_supplicant over EAPOL at hostapd, an authenticator over RADIUS, at radius_server
+"""The ways of logging in with a real end (README.md): hostapd, wpa_supplicant and eapol_test, each with a configuration of its
+own.
 """
 
 from __future__ import annotations
 
 import dataclasses
 import re
+from functools import partial
 from string import Template
 from typing import Any, Callable, Dict, List, Optional, Sequence, Tuple
 
@@ -59,14 +55,11 @@ class Login:
     here: str = ""  # what our end says: a pattern
     there: str = ""  # what the other end says: a pattern
 
-    def methods(self) -> List[str]:
-        return (self.proposed or self.method).split(",")
-
-    def key(self) -> str:
-        return (WRONG_KEYS if self.wrong_key else KEYS)[self.method]
-
     def secret(self) -> str:
         return WRONG_SECRET if self.wrong_secret else SECRET
+
+    def proxies(self) -> List[str]:
+        return [it for it in self.proxy_states.split(",") if it]
 
 
 def logins() -> Dict[str, List[Login]]:
@@ -90,9 +83,10 @@ def logins() -> Dict[str, List[Login]]:
 
 def configured(folder: str, login: Login, name: str, source: str = "") -> str:
     """The file of this name, as the one of configurations/ has it for a login."""
-    values: Dict[str, str] = {**vars(login), **KEYS, "folder": folder, "key": login.key(), "right_key": KEYS[login.method]}
-    values.update(secret=login.secret(), secret_in_hex=login.secret().encode().hex(), type=TYPES[login.method])
-    values.update(methods=",".join(login.methods()), types=" ".join(TYPES[it] for it in login.methods()))
+    methods, secret = login.proposed or login.method, login.secret()
+    values: Dict[str, str] = {**vars(login), **KEYS, "folder": folder, "methods": methods, "right_key": KEYS[login.method]}
+    values.update(secret=secret, secret_in_hex=secret.encode().hex(), type=TYPES[login.method])
+    values.update(key=(WRONG_KEYS if login.wrong_key else KEYS)[login.method], types=" ".join(TYPES[it] for it in methods.split(",")))
     values.update(may="barred" if login.barred else "allowed", is_expanded="yes" if login.expanded else "no")
     return write(folder, name, Template(read(f"{HERE}/configurations/{source or name}")).substitute(values).rstrip())
 
@@ -115,8 +109,7 @@ def radius_server(folder: str, login: Login, where: Sequence[str] = ()) -> Proce
 
 def radius_client(folder: str, login: Login, log: str = "") -> Process:
     words = ["127.0.0.1", PORT, "--timer", "0.7", "--tries", "8" if login.state == "SUCCESS" else "4"]
-    for it in re.findall("[0-9a-f]+", login.proxy_states):
-        words += ["--proxy-state", it]
+    words += [word for it in login.proxies() for word in ("--proxy-state", it)]
     return ours(folder, login, "radius_client", "peer.settings", *words, log=log)
 
 
@@ -138,7 +131,7 @@ def hostapd(folder: str, login: Login, kind: str, where: Sequence[str] = ()) -> 
 
 def eapol_test(folder: str, login: Login) -> Process:
     words = ["-c", configured(folder, login, "station.conf"), "-a", "127.0.0.1", "-p", PORT, "-s", login.secret()]
-    words += ["-t", str(MOST_SECONDS), *(f"-N33:x:{it}" for it in re.findall("[0-9a-f]+", login.proxy_states))]
+    words += ["-t", str(MOST_SECONDS), *(f"-N33:x:{it}" for it in login.proxies())]
     return Process(folder, "eapol_test", ["eapol_test", *words])
 
 
@@ -172,18 +165,10 @@ def await_end(server: Process, other: Process, login: Login) -> None:
         other.wait_for(login.there or THEIR_SUCCESS, 0.5)
 
 
-def by_hostapd_radius(folder: str, login: Login) -> Run:
-    server = hostapd(folder, login, "radius")
-    return at_hostapd(server, radius_client(folder, login))
-
-
-def by_hostapd_wired(folder: str, login: Login) -> Run:
-    server = hostapd(folder, login, "wired", Cable(folder).far)
-    return at_hostapd(server, wired(folder, login))
-
-
-def at_hostapd(server: Process, ours: Process) -> Run:
-    return ours, [server], server.wait_for(THEIR_SUCCESS, 2 if verdict_of(ours)[0] == "SUCCESS" else 0)
+def by_hostapd(kind: str, folder: str, login: Login) -> Run:
+    server = hostapd(folder, login, kind, Cable(folder).far if kind == "wired" else ())
+    peer = (wired if kind == "wired" else radius_client)(folder, login)
+    return peer, [server], server.wait_for(THEIR_SUCCESS, 2 if verdict_of(peer)[0] == "SUCCESS" else 0)
 
 
 def by_wpa_supplicant(folder: str, login: Login) -> Run:
@@ -199,7 +184,6 @@ def by_wpa_supplicant(folder: str, login: Login) -> Run:
 
 
 # What came of a login.
-
 
 Verdict = Tuple[str, Optional[ends.Names]]
 
@@ -231,8 +215,8 @@ def link_in(text: str) -> str:
 WAYS: Dict[str, Tuple[Callable[[str, Login], Run], Tuple[str, ...]]] = {
     "radius": (by_radius, ()),
     "eapol_test": (by_eapol_test, ("eapol_test",)),
-    "hostapd-radius": (by_hostapd_radius, ("hostapd",)),
-    "hostapd-wired": (by_hostapd_wired, ("hostapd", "nsenter")),
+    "hostapd-radius": (partial(by_hostapd, "radius"), ("hostapd",)),
+    "hostapd-wired": (partial(by_hostapd, "wired"), ("hostapd", "nsenter")),
     "wpa_supplicant": (by_wpa_supplicant, ("wpa_supplicant", "hostapd", "nsenter")),
 }
 # The state in which our end is left by a wrong key: a server gives the peer up, a peer is refused.
