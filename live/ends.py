@@ -11,6 +11,7 @@ from __future__ import annotations
 import argparse
 import dataclasses
 import ipaddress
+import logging
 import os
 import re
 import secrets
@@ -40,7 +41,8 @@ OVER = ("SUCCESS", "FAILURE", "TIMEOUT_FAILURE")
 # The first octet of an EAP packet (RFC 3748 section 4).
 REQUEST, RESPONSE, SUCCESS, FAILURE = 1, 2, 3, 4
 
-Trace = Callable[[str], None]
+# What is told where --trace asks for it.
+trace = logging.debug
 # The names of an MSK and an EMSK.
 Names = Tuple[str, str]
 
@@ -139,18 +141,18 @@ def says_send(word: str, line: str, path: List[str]) -> bool:
     return word == "server" and path[-1] in ("SUCCESS", "FAILURE") or path == ["RETRANSMIT", "IDLE"]
 
 
-class End:
+class End(Words):
     """One end of one login: `eap_login peer` or `eap_login server`, with a nonce of its own from the system's source."""
 
-    def __init__(self, word: str, settings: List[str], trace: Trace) -> None:
-        self.word, self.trace = word, trace
-        self.words = Words(word)
+    def __init__(self, word: str, settings: List[str]) -> None:
+        super().__init__(word)
+        self.word = word
         self.count = 0
         self.state = "IDLE"
         self.keys: Optional[Names] = None
         # (why it discarded last)
         self.cause = ""
-        self.words.put("eap-end 1", *settings, f"{word}-nonce {secrets.token_hex(32)}", "events")
+        self.put("eap-end 1", *settings, f"{word}-nonce {secrets.token_hex(32)}", "events")
 
     def start(self) -> Turn:
         """The first Request of a server, which it makes by itself."""
@@ -161,7 +163,7 @@ class End:
         if self.count >= MOST_INPUTS:
             raise Failed(f"a login that takes over {MOST_INPUTS} packets and timers is given up")
         self.count += 1
-        self.words.put(line)
+        self.put(line)
         return self.turn(line)
 
     def packet(self, octets: bytes) -> Turn:
@@ -183,23 +185,23 @@ class End:
         # (in SUCCESS an end has its keys, whose line stands behind its last packet at the latest)
         if self.state == "SUCCESS" and not self.keys:
             self.next("keys")
-        self.trace(f"{self.word} < {line}")
-        self.trace(f"{self.word} {' '.join(path)}{' cause ' + turn.cause if turn.cause else ''}")
+        trace(f"{self.word} < {line}")
+        trace(f"{self.word} {' '.join(path)}{' cause ' + turn.cause if turn.cause else ''}")
         if turn.sends:
-            self.trace(f"{self.word} > packet {turn.sends.hex()}")
+            trace(f"{self.word} > packet {turn.sends.hex()}")
         return turn
 
     def next(self, wanted: str = "") -> List[str]:
         """The words of the next line behind its number, and behind the word that is wanted. An end can hold its keys before
         SUCCESS, so their line is read before another one."""
-        words = self.words.get()
+        words = self.get()
         if words is None:
-            raise Failed(f"{self.words.name} ended before its answer")
+            raise Failed(f"{self.name} ended before its answer")
         if words[1:2] == ["keys"]:
             self.keys = (words[3], words[5])
             return [] if wanted == "keys" else self.next(wanted)
         if words[0] != str(self.count) or (wanted and words[1] != wanted):
-            raise Failed(f"{self.words.name} says {' '.join(words)} where {self.count} {wanted or 'PATH'} was to come")
+            raise Failed(f"{self.name} says {' '.join(words)} where {self.count} {wanted or 'PATH'} was to come")
         return words[2:] if wanted else words[1:]
 
     def last_cause(self) -> str:
@@ -210,8 +212,8 @@ class End:
 
     def end(self) -> str:
         """Ends it, and answers the state in which it stood, with the names of the keys where it holds some."""
-        self.words.put("end")
-        for words in self.words.close():
+        self.put("end")
+        for words in self.close():
             if words[0] == "state":
                 self.state = words[1]
             elif words[1:2] == ["keys"]:
@@ -231,8 +233,8 @@ def hex_of(octets: bytes) -> str:
 class Faults:
     """What is done to the packets that a script sends, counted from 1: one is lost, one is sent twice, one is altered."""
 
-    def __init__(self, words: argparse.Namespace, trace: Trace) -> None:
-        self.lose, self.repeat, self.trace, self.count = words.lose, words.repeat, trace, 0
+    def __init__(self, words: argparse.Namespace) -> None:
+        self.lose, self.repeat, self.count = words.lose, words.repeat, 0
         self.alter = getattr(words, "alter", None)
         self.written = 0
 
@@ -242,17 +244,17 @@ class Faults:
         number, at = self.alter or (0, 0)
         if self.written != number or at >= len(packet):
             return packet
-        self.trace(f"packet {number} is altered at {at}")
+        trace(f"packet {number} is altered at {at}")
         return packet[:at] + bytes([packet[at] ^ 1]) + packet[at + 1 :]
 
     def times(self) -> int:
         """How often the next packet goes out."""
         self.count += 1
         if self.count == self.lose:
-            self.trace(f"packet {self.count} is lost")
+            trace(f"packet {self.count} is lost")
             return 0
         if self.count == self.repeat:
-            self.trace(f"packet {self.count} is sent twice")
+            trace(f"packet {self.count} is sent twice")
             return 2
         return 1
 
@@ -310,6 +312,7 @@ def asked(made: Parser, is_peer: bool) -> argparse.Namespace:
         made.add_argument("--alter", type=count, nargs=2, metavar=("N", "PLACE"), help=help_text)
     made.add_argument("--trace", action="store_true", help="write what each end is told and says to standard error")
     words = made.parse_args()
+    logging.basicConfig(format="%(message)s", level="DEBUG" if words.trace else "INFO")
     try_program()
     return words
 
@@ -318,10 +321,6 @@ def comes(to: socket.socket, until: float) -> bool:
     """Whether something comes to a socket before then."""
     left = until - time.monotonic()
     return left > 0 and bool(select.select([to], [], [], left)[0])
-
-
-def tracer(is_wanted: bool) -> Trace:
-    return say if is_wanted else (lambda line: None)
 
 
 def say(line: str) -> None:

@@ -4,6 +4,7 @@ way out.
 
 from __future__ import annotations
 
+import contextlib
 import os
 import re
 import shutil
@@ -11,7 +12,7 @@ import subprocess
 import sys
 import time
 from pathlib import Path
-from typing import Dict, Iterator, List, Mapping, Optional, Sequence, Tuple, Union
+from typing import Dict, Iterator, List, Mapping, Optional, Sequence, Tuple
 
 import ends
 
@@ -26,6 +27,8 @@ PACKAGES = {
     "unshare": "util-linux",
     "wpa_supplicant": "wpasupplicant",
 }
+# What a login has started, which is stopped after it by `close`, the last first.
+started = contextlib.ExitStack()
 # How long a command that is waited for runs at most.
 MOST_SECONDS = 400
 
@@ -45,7 +48,7 @@ class Process:
         words = [*where, *self.limit, *words]
         with open(self.log, "wb") as log:
             self.process = subprocess.Popen(words, stdin=subprocess.DEVNULL, stdout=log, stderr=subprocess.STDOUT, cwd=folder)
-        started.append(self)
+        started.callback(self.stop)
 
     def text(self) -> str:
         return read(self.log)
@@ -90,7 +93,7 @@ class Cable:
         pid = holder.text().strip()
         self.far = ["nsenter", "-t", pid, "-n"]
         run("ip", "link", "add", "name", self.NEAR, "type", "veth", "peer", "name", self.FAR)
-        started.append(self)
+        started.callback(self.stop)
         run("ip", "link", "set", self.FAR, "netns", pid)
         run("ip", "link", "set", self.NEAR, "up")
         run(*self.far, "ip", "link", "set", self.FAR, "up")
@@ -99,15 +102,6 @@ class Cable:
     def stop(self) -> None:
         # (the pair goes at once so, and not when the kernel comes to the far namespace)
         subprocess.run(["ip", "link", "del", self.NEAR], stderr=subprocess.DEVNULL)
-
-
-# What a login has started, which is stopped after it, the last first.
-started: List[Union[Process, Cable]] = []
-
-
-def stop_all() -> None:
-    while started:
-        started.pop().stop()
 
 
 def answer(words: Sequence[str], environment: Optional[Mapping[str, str]] = None, given: str = "") -> Tuple[int, str]:

@@ -43,17 +43,18 @@ class Read(NamedTuple):
     fault: str = ""
 
 
-class Radius:
+class Radius(ends.Words):
     """`eap_login radius` with the secret of both sides."""
 
     def __init__(self, secret: bytes) -> None:
-        self.secret, self.words = secret, ends.Words("radius")
-        self.words.put("eap-radius 1", f"secret {secret.hex()}")
+        super().__init__("radius")
+        self.secret = secret
+        self.put("eap-radius 1", f"secret {secret.hex()}")
 
     def ask(self, *words: object) -> List[str]:
-        self.words.put(" ".join(ends.hex_of(it) if isinstance(it, bytes) else str(it) for it in words))
-        self.words.told = self.words.told[-2:]
-        answer = self.words.get()
+        self.put(" ".join(ends.hex_of(it) if isinstance(it, bytes) else str(it) for it in words))
+        self.told = self.told[-2:]
+        answer = self.get()
         if answer is None:
             raise ends.Failed("eap_login radius ended before its answer")
         return answer

@@ -12,7 +12,7 @@ from typing import Any, Callable, Dict, List, Optional, Sequence, Tuple
 
 import ends
 from login_keys import name_of
-from programs import HERE, Cable, Process, enter_namespace, lacks, need, read, script, stop_all, table, write
+from programs import HERE, Cable, Process, enter_namespace, lacks, need, read, script, started, table, write
 
 SECRET, WRONG_SECRET = "testing123", "testing124"
 PORT = "1812"
@@ -249,7 +249,7 @@ def log_in(way: str, folder: str, login: Login) -> Outcome:
     try:
         end, others, is_success = WAYS[way][0](folder, login)
     finally:
-        stop_all()
+        started.close()
     here, there = end.text(), "".join(it.text() for it in others)
     link = None if way == "hostapd-wired" else link_in(here + there)
     return Outcome(here, *verdicts(here)[0], there, is_success, keys_in(there), link)
