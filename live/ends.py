@@ -234,14 +234,12 @@ class Faults:
     """What is done to the packets that a script sends, counted from 1: one is lost, one is sent twice, one is altered."""
 
     def __init__(self, words: argparse.Namespace) -> None:
-        self.lose, self.repeat, self.count = words.lose, words.repeat, 0
-        self.alter = getattr(words, "alter", None)
-        self.written = 0
+        self.words, self.count, self.written = words, 0, 0
 
     def altered(self, packet: bytes) -> bytes:
         """The EAP packet as it goes out, the next of those that the end has made."""
         self.written += 1
-        number, at = self.alter or (0, 0)
+        number, at = self.words.alter or (0, 0)
         if self.written != number or at >= len(packet):
             return packet
         trace(f"packet {number} is altered at {at}")
@@ -250,10 +248,10 @@ class Faults:
     def times(self) -> int:
         """How often the next packet goes out."""
         self.count += 1
-        if self.count == self.lose:
+        if self.count == self.words.lose:
             trace(f"packet {self.count} is lost")
             return 0
-        if self.count == self.repeat:
+        if self.count == self.words.repeat:
             trace(f"packet {self.count} is sent twice")
             return 2
         return 1

@@ -155,7 +155,7 @@ def table(name: str) -> Iterator[str]:
             yield line
 
 
-def read(path: str) -> str:
+def read(path: str | Path) -> str:
     # (a log may have any octets)
     return Path(path).read_text("latin-1")
 

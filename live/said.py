@@ -40,7 +40,6 @@ def cases() -> Iterator[Case]:
 
 
 def case_of(folder: str, kind: str, script: str, given: str, wanted: str) -> Case:
-    """The case of a row."""
     if kind == "settings":
         settings = programs.write(folder, "some.settings", *given.split("; "))
         place = ["lo"] if script == "wired" else ["127.0.0.1", "9"]
