@@ -154,6 +154,11 @@ def _room(octets: Octets) -> Any:
     return (ctypes.c_uint8 * max(view.nbytes, 1)).from_buffer_copy(view.cast("B") if view.nbytes else b"\0")
 
 
+def _sized(octets: Octets) -> Tuple[Any, int]:
+    """A copy with its length, as calls take octets."""
+    return _room(octets), memoryview(octets).nbytes
+
+
 def _nonce(nonce: Optional[Octets]) -> Any:
     octets = os.urandom(_abi.NONCE_LEN) if nonce is None else nonce
     if memoryview(octets).nbytes != _abi.NONCE_LEN:
@@ -235,28 +240,23 @@ class _End(_Cleared):
 
     def _turn(self, name: str, *words: Any) -> Turn:
         with self._lock:
-            turn = self._call(name, *words)
-            self._place(name, turn)
+            turn, packet, cause = self._taken(name, *words)
             self._state = _library.tuv_state_word(turn.state).decode()
-            return Turn(*self._came_to(turn), self._state)
+            return Turn(packet, cause, self._state)
 
-    def _place(self, name: str, turn: Any) -> None:
+    def _taken(self, name: str, *words: Any) -> Tuple[Any, Optional[bytes], Optional[str]]:
+        """A call that has a place here, the packet that it sends, and why it discards."""
+        turn = self._call(name, *words)
         if turn.misplaced:
             word = name.partition("_")[2]
             raise Misplaced(f"{word} has no place at a {type(self).__name__}{self._state and ' in ' + self._state}; nothing is changed")
-
-    def _came_to(self, turn: Any) -> Tuple[Optional[bytes], Optional[str]]:
         packet = self._packet("end_packet") if turn.sends else None
-        return packet, _library.tuv_cause_word(turn.cause).decode() if turn.discards else None
+        return turn, packet, _library.tuv_cause_word(turn.cause).decode() if turn.discards else None
 
     def _packet(self, name: str) -> Optional[bytes]:
         room = (ctypes.c_uint8 * _abi.PACKET_MAX)()
         length = self._call(name, room, _abi.PACKET_MAX)
         return bytes(room[:length]) if length else None
-
-    def _octets(self, name: str, octets: Octets) -> Turn:
-        room = _room(octets)
-        return self._turn(name, room, memoryview(octets).nbytes)
 
     @property
     def closed(self) -> bool:
@@ -306,7 +306,7 @@ class _Machine(_End):
 
     def deliver(self, octets: Octets) -> Turn:
         """Octets come, as one packet."""
-        return self._octets("end_deliver", octets)
+        return self._turn("end_deliver", *_sized(octets))
 
     def restart(self, nonce: Optional[Octets] = None) -> Turn:
         """A new conversation begins, with the settings that the end has."""
@@ -383,10 +383,10 @@ class PassThrough(_End):
         return self._turn("pass_restart")
 
     def from_peer(self, octets: Octets) -> Turn:
-        return self._octets("pass_from_peer", octets)
+        return self._turn("pass_from_peer", *_sized(octets))
 
     def from_backend(self, octets: Octets) -> Turn:
-        return self._octets("pass_from_backend", octets)
+        return self._turn("pass_from_backend", *_sized(octets))
 
     def timeout(self) -> Turn:
         """In IDLE and IDLE2."""
@@ -438,7 +438,7 @@ class Method(_End):
     def handle(self, octets: Octets, next_id: Optional[int] = None) -> MethodTurn:
         """A whole Request comes to a peer's method, a whole Response to a server's, whose next Request has the Identifier
         `next_id`, or the one after the Response's."""
-        room, length = _room(octets), memoryview(octets).nbytes
+        room, length = _sized(octets)
         if not self._is_server and next_id is not None:
             raise ValueError("a peer's method sends no Request: it takes no next_id")
         name, words = "peer_method_handle", [room, length]
@@ -446,14 +446,13 @@ class Method(_End):
             follows = (room[1] + 1) % 256 if length > 1 else 0
             name, words = "server_method_handle", [room, length, follows if next_id is None else _number("next_id", next_id)]
         with self._lock:
-            turn = self._call(name, *words)
-            self._place(name, turn)
+            turn, packet, cause = self._taken(name, *words)
             self._state = _METHOD_STATES[turn.state]
-            return MethodTurn(*self._came_to(turn), self._state, _DECISIONS[turn.decision])
+            return MethodTurn(packet, cause, self._state, _DECISIONS[turn.decision])
 
 
 def response_name(octets: Octets) -> Optional[bytes]:
     """The name of the peer in a whole PSK-2 or GPSK-2, of which no tag was checked; None in any other octets."""
     room = (ctypes.c_uint8 * _abi.NAME_MAX)()
-    length = _library.tuv_response_name(_room(octets), memoryview(octets).nbytes, room)
+    length = _library.tuv_response_name(*_sized(octets), room)
     return bytes(room[:length]) if length else None

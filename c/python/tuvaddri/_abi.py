@@ -13,6 +13,10 @@ PACKET_MAX, NAME_MAX, KEY_MAX, NONCE_LEN, RAND_MAX, SESSION_ID_MAX = 1500, 253, 
 NAME = f"libtuvaddri.so.{VERSION}"
 
 
+def _fields(kind: Any, names: str) -> List[Any]:
+    return [(name, kind) for name in names.split()]
+
+
 class End(Structure):
     _fields_ = [("at", c_void_p)]
 
@@ -24,51 +28,33 @@ class Octets(Structure):
 class Settings(Structure):
     _fields_ = [
         ("size", c_size_t),
-        ("name", Octets),
-        ("other", Octets),
-        ("psk_key", Octets),
-        ("gpsk_key", Octets),
-        ("methods", c_uint8 * 2),
-        ("suites", c_uint8 * 2),
-        ("expanded", c_uint8),
-        ("barred", c_uint8),
+        *_fields(Octets, "name other psk_key gpsk_key"),
+        *_fields(c_uint8 * 2, "methods suites"),
+        *_fields(c_uint8, "expanded barred"),
     ]
 
 
 class Turn(Structure):
-    _fields_ = [("sends", c_bool), ("discards", c_bool), ("misplaced", c_bool), ("cause", c_uint8), ("state", c_uint8)]
+    _fields_ = [*_fields(c_bool, "sends discards misplaced"), *_fields(c_uint8, "cause state")]
 
 
 class MethodTurn(Structure):
-    _fields_ = [
-        ("sends", c_bool),
-        ("discards", c_bool),
-        ("misplaced", c_bool),
-        ("cause", c_uint8),
-        ("state", c_uint8),
-        ("decision", c_uint8),
-    ]
+    _fields_ = [*Turn._fields_, ("decision", c_uint8)]
 
 
 class Report(Structure):
     _fields_ = [
         ("size", c_size_t),
-        ("method", c_uint8),
-        ("suite", c_uint8),
-        ("peer_length", c_uint8),
-        ("server_length", c_uint8),
-        ("peer", c_uint8 * NAME_MAX),
-        ("server", c_uint8 * NAME_MAX),
-        ("msk", c_uint8 * 64),
-        ("emsk", c_uint8 * 64),
+        *_fields(c_uint8, "method suite peer_length server_length"),
+        *_fields(c_uint8 * NAME_MAX, "peer server"),
+        *_fields(c_uint8 * 64, "msk emsk"),
         ("rand_length", c_uint8),
-        ("peer_rand", c_uint8 * RAND_MAX),
-        ("server_rand", c_uint8 * RAND_MAX),
+        *_fields(c_uint8 * RAND_MAX, "peer_rand server_rand"),
     ]
 
 
 class Failure(Structure):
-    _fields_ = [("reason", c_uint8), ("code", c_uint8)]
+    _fields_ = _fields(c_uint8, "reason code")
 
 
 # The calls by what they answer, with what they take behind the end.
