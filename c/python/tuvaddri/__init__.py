@@ -14,9 +14,9 @@ from __future__ import annotations
 import ctypes
 import os
 import threading
-from contextlib import nullcontext
+from contextlib import contextmanager, nullcontext
 from types import TracebackType
-from typing import Any, List, NamedTuple, NoReturn, Optional, Sequence, Tuple, Type, TypeVar, Union
+from typing import Any, ContextManager, Dict, Iterator, List, NamedTuple, NoReturn, Optional, Sequence, Tuple, Type, TypeVar, Union
 
 from . import _abi
 from ._abi import library as _library
@@ -166,48 +166,38 @@ def _nonce(nonce: Optional[Octets]) -> Any:
     return _room(octets)
 
 
-class _Told:
-    """The settings for a call, in a block whose end clears them."""
-
-    def __init__(self, name: Name = b"", other: Name = b"", psk_key: Octets = b"", gpsk_key: Octets = b"",
-                 methods: Sequence[int] = (), suites: Sequence[int] = (), expanded: bool = False, barred: bool = False) -> None:
-        self.rooms: List[Any] = []
-        self.settings = _abi.Settings(size=ctypes.sizeof(_abi.Settings), expanded=bool(expanded), barred=bool(barred))
-        for field, numbers in (("methods", methods), ("suites", suites)):
-            if len(numbers) > 2:
-                raise ValueError(f"{field} are at most 2, and not {len(numbers)}")
-            for at, number in enumerate(numbers):
-                getattr(self.settings, field)[at] = _number(f"one of {field}", number)
-        try:
-            for field, octets in (("name", name), ("other", other), ("psk_key", psk_key), ("gpsk_key", gpsk_key)):
-                self.put(field, octets.encode() if isinstance(octets, str) and not field.endswith("key") else octets)
-        except BaseException:
-            self.clear()
-            raise
-
-    def put(self, field: str, octets: Any) -> None:
-        try:
-            length = memoryview(octets).nbytes
-        except TypeError:
-            raise TypeError(f"{field} is octets, and not {type(octets).__name__}") from None
-        self.rooms.append(_room(octets))
-        setattr(self.settings, field, _abi.Octets(ctypes.addressof(self.rooms[-1]), length))
-
-    def clear(self) -> None:
-        for room in self.rooms:
+@contextmanager
+def _told(name: Name = b"", other: Name = b"", psk_key: Octets = b"", gpsk_key: Octets = b"", methods: Sequence[int] = (),
+          suites: Sequence[int] = (), expanded: bool = False, barred: bool = False) -> Iterator[Any]:
+    """The settings for a call; at the end of the block what was copied for them is cleared."""
+    settings = _abi.Settings(size=ctypes.sizeof(_abi.Settings), expanded=bool(expanded), barred=bool(barred))
+    for field, numbers in (("methods", methods), ("suites", suites)):
+        if len(numbers) > 2:
+            raise ValueError(f"{field} are at most 2, and not {len(numbers)}")
+        for at, number in enumerate(numbers):
+            getattr(settings, field)[at] = _number(f"one of {field}", number)
+    given: Dict[str, Any] = {"name": name, "other": other, "psk_key": psk_key, "gpsk_key": gpsk_key}
+    rooms: List[Any] = []
+    try:
+        for field, octets in given.items():
+            if isinstance(octets, str) and not field.endswith("key"):
+                octets = octets.encode()
+            try:
+                length = memoryview(octets).nbytes
+            except TypeError:
+                raise TypeError(f"{field} is octets, and not {type(octets).__name__}") from None
+            rooms.append(_room(octets))
+            setattr(settings, field, _abi.Octets(ctypes.addressof(rooms[-1]), length))
+        yield ctypes.byref(settings)
+    finally:
+        for room in rooms:
             ctypes.memset(room, 0, ctypes.sizeof(room))
-
-    def __enter__(self) -> Any:
-        return ctypes.byref(self.settings)
-
-    def __exit__(self, *_: object) -> None:
-        self.clear()
 
 
 class _End(_Cleared):
     """A handle. Calls from several threads come one after the other."""
 
-    def __init__(self, begin: str, words: Sequence[Any], told: Optional[_Told] = None) -> None:
+    def __init__(self, begin: str, told: Optional[ContextManager[Any]], *words: Any) -> None:
         """Begins by this call; an end that is refused, or whose call fails, is closed."""
         self._lock = threading.RLock()
         self._state = ""
@@ -319,8 +309,7 @@ class Peer(_Machine):
 
     def __init__(self, name: Name, server: Name = b"", *, psk_key: Octets = b"", gpsk_key: Octets = b"", methods: Sequence[int] = (),
                  suites: Sequence[int] = (), expanded: bool = False, nonce: Optional[Octets] = None) -> None:
-        words = [_nonce(nonce)]
-        super().__init__("peer_begin", words, _Told(name, server, psk_key, gpsk_key, methods, suites, expanded))
+        super().__init__("peer_begin", _told(name, server, psk_key, gpsk_key, methods, suites, expanded), _nonce(nonce))
 
     def idle(self) -> Turn:
         """The lower layer is idle."""
@@ -338,7 +327,7 @@ class Peer(_Machine):
 class _WithUser(_Machine):
     def give_user(self, user: Name, *, psk_key: Octets = b"", gpsk_key: Octets = b"", barred: bool = False) -> None:
         """Gives the end its one user, in place of the one that it had, from the next Response on."""
-        with _Told(b"", user, psk_key, gpsk_key, barred=barred) as told:
+        with _told(b"", user, psk_key, gpsk_key, barred=barred) as told:
             self._accept("server_user", told)
 
 
@@ -348,8 +337,8 @@ class Server(_WithUser):
     def __init__(self, name: Name, user: Name = b"", *, psk_key: Octets = b"", gpsk_key: Octets = b"", barred: bool = False,
                  methods: Sequence[int] = (), suites: Sequence[int] = (), expanded: bool = False, first_id: int = 0,
                  max_retrans: int = 4, nonce: Optional[Octets] = None) -> None:
-        words = [_nonce(nonce), _number("first_id", first_id), _number("max_retrans", max_retrans)]
-        super().__init__("server_begin", words, _Told(name, user, psk_key, gpsk_key, methods, suites, expanded, barred))
+        told = _told(name, user, psk_key, gpsk_key, methods, suites, expanded, barred)
+        super().__init__("server_begin", told, _nonce(nonce), _number("first_id", first_id), _number("max_retrans", max_retrans))
 
     def start(self) -> Turn:
         """The first Request is made."""
@@ -366,15 +355,14 @@ class Backend(_WithUser):
     def __init__(self, name: Name, user: Name = b"", *, psk_key: Octets = b"", gpsk_key: Octets = b"", barred: bool = False,
                  methods: Sequence[int] = (), suites: Sequence[int] = (), expanded: bool = False,
                  nonce: Optional[Octets] = None) -> None:
-        words = [_nonce(nonce)]
-        super().__init__("backend_begin", words, _Told(name, user, psk_key, gpsk_key, methods, suites, expanded, barred))
+        super().__init__("backend_begin", _told(name, user, psk_key, gpsk_key, methods, suites, expanded, barred), _nonce(nonce))
 
 
 class PassThrough(_End):
     """The pass-through (section 7). What its calls send goes to the peer, but after from_peer to the backend."""
 
     def __init__(self, *, first_id: int = 0, max_retrans: int = 4) -> None:
-        super().__init__("pass_begin", [_number("first_id", first_id), _number("max_retrans", max_retrans)])
+        super().__init__("pass_begin", None, _number("first_id", first_id), _number("max_retrans", max_retrans))
 
     def start(self) -> Turn:
         return self._turn("pass_start")
@@ -410,29 +398,28 @@ class Method(_End):
         raise TypeError("a Method is made by Method.of_peer or Method.of_server")
 
     @classmethod
-    def _of(cls, is_server: bool, words: Sequence[Any], told: _Told) -> Method:
+    def _of(cls, is_server: bool, told: ContextManager[Any], *words: Any) -> Method:
         made = cls.__new__(cls)
         made._is_server = is_server
-        _End.__init__(made, "server_method_begin" if is_server else "peer_method_begin", words, told)
+        _End.__init__(made, "server_method_begin" if is_server else "peer_method_begin", told, *words)
         return made
 
     @classmethod
     def of_peer(cls, name: Name, server: Name = b"", *, method: int, psk_key: Octets = b"", gpsk_key: Octets = b"",
                 suites: Sequence[int] = (), expanded: bool = False, nonce: Optional[Octets] = None) -> Method:
-        words = [_nonce(nonce)]
-        return cls._of(False, words, _Told(name, server, psk_key, gpsk_key, (method,), suites, expanded))
+        return cls._of(False, _told(name, server, psk_key, gpsk_key, (method,), suites, expanded), _nonce(nonce))
 
     @classmethod
     def of_server(cls, name: Name, user: Name = b"", *, method: int, psk_key: Octets = b"", gpsk_key: Octets = b"",
                   barred: bool = False, suites: Sequence[int] = (), expanded: bool = False, first_id: int = 0,
                   nonce: Optional[Octets] = None) -> Method:
         """`again` has the first Request, with this Identifier, at once."""
-        words = [_nonce(nonce), _number("first_id", first_id)]
-        return cls._of(True, words, _Told(name, user, psk_key, gpsk_key, (method,), suites, expanded, barred))
+        told = _told(name, user, psk_key, gpsk_key, (method,), suites, expanded, barred)
+        return cls._of(True, told, _nonce(nonce), _number("first_id", first_id))
 
     def give_user(self, user: Name, *, psk_key: Octets = b"", gpsk_key: Octets = b"", barred: bool = False) -> None:
         """Gives a server's method its one user."""
-        with _Told(b"", user, psk_key, gpsk_key, barred=barred) as told:
+        with _told(b"", user, psk_key, gpsk_key, barred=barred) as told:
             self._accept("server_method_user", told)
 
     def handle(self, octets: Octets, next_id: Optional[int] = None) -> MethodTurn:
