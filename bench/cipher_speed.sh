@@ -2,7 +2,6 @@
 # Counts the instructions of the ciphers and MACs, and compares them with OpenSSL's. README.md beside it says
 # what is measured, and ciphers.txt what each row is.
 set -eu
-. "$(dirname "$(readlink -f "$0")")/../.ci/help.sh"
 # shellcheck source=bench/common.sh
 . "$(dirname "$(readlink -f "$0")")/common.sh"
 

@@ -2,6 +2,7 @@
 # What the measurements share: a folder of their own, a program over the crates, the library for C, counts of instructions.
 
 here=$(dirname "$(dirname "$(readlink -f "$0")")")
+. "$here/.ci/help.sh"
 work=$(mktemp -d)
 trap 'rm -rf "$work"' EXIT
 trap 'exit 1' HUP INT

@@ -1,12 +1,8 @@
 #!/bin/sh
 # Lets each allocation of a run fail, one run at a time. README.md beside it says what is looked at.
 set -eu
-. "$(dirname "$(readlink -f "$0")")/../.ci/help.sh"
-
-here=$(dirname "$(dirname "$(readlink -f "$0")")")
-work=$(mktemp -d)
-trap 'rm -rf "$work"' EXIT
-trap 'exit 1' HUP INT
+# shellcheck source=bench/common.sh
+. "$(dirname "$(readlink -f "$0")")/common.sh"
 
 fail() {
     echo "failing_allocations: $1" >&2

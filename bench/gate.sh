@@ -78,14 +78,10 @@ def free():
         return int(re.search(r"MemAvailable:\s+(\d+)", it.read()).group(1))
 
 
-# a toolchain that keeps proofs between runs has a word for a run from nothing; one that keeps none needs none
-usage = subprocess.run(["rt", "help"], stdout=subprocess.PIPE, stderr=subprocess.STDOUT, text=True).stdout
-anew = ["--anew"] if "--anew" in usage else []
-
 begun, before, least = time.time(), free(), free()
 used = {}
 with open(sys.argv[2], "w", encoding="utf-8") as log:
-    run = subprocess.Popen(["rt", "ci", *anew], cwd=sys.argv[1], stdin=subprocess.DEVNULL, stdout=log, stderr=subprocess.STDOUT)
+    run = subprocess.Popen(["rt", "ci", "--anew"], cwd=sys.argv[1], stdin=subprocess.DEVNULL, stdout=log, stderr=subprocess.STDOUT)
     while run.poll() is None:
         sample(used, run.pid)
         least = min(least, free())

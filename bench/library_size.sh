@@ -6,7 +6,6 @@
 #
 #   bench/library_size.sh [SOURCE]
 set -eu
-. "$(dirname "$(readlink -f "$0")")/../.ci/help.sh"
 # shellcheck source=bench/common.sh
 . "$(dirname "$(readlink -f "$0")")/common.sh"
 

@@ -3,7 +3,6 @@
 # makes, begins, reports, closes, clears and frees both handles, and clears the stack. It proves and builds the library,
 # if TUV_LIBRARY doesn't name an archive as `rt lib` writes it.
 set -eu
-. "$(dirname "$(readlink -f "$0")")/../.ci/help.sh"
 # shellcheck source=bench/common.sh
 . "$(dirname "$(readlink -f "$0")")/common.sh"
 

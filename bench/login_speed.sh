@@ -2,7 +2,6 @@
 # Counts the instructions of one login, and measures replays of a login and of 1,000 and 10,000 events.
 # README.md beside it says what is measured, and logins.txt what each row is.
 set -eu
-. "$(dirname "$(readlink -f "$0")")/../.ci/help.sh"
 # shellcheck source=bench/common.sh
 . "$(dirname "$(readlink -f "$0")")/common.sh"
 
