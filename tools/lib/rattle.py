@@ -104,12 +104,7 @@ def block_of(header: str, begin: int, end: int) -> Block:
         return Block(begin, end, trait[1], None, True)
     rest = header.partition("impl")[2]
     if rest.startswith("<"):
-        depth = 0
-        for place, sign in enumerate(rest):
-            depth += (sign == "<") - (sign == ">" and rest[place - 1] not in "-=")
-            if depth == 0:
-                rest = rest[place + 1 :]
-                break
+        rest = rest[end_of(re.sub("[-=]>", "  ", rest), 0, "<>") :]
     one, of, other = rest.partition(" for ")
     return Block(begin, end, type_in(other if of else one), type_in(one) if of else None, False)
 
