@@ -67,7 +67,7 @@ sums_of_sources() {
 # and its own.
 record_of() {
     printf '%s\n' "$sources"
-    [ "$1" = proved ] || cksum <"$here/.ci/unchecked.sh"
+    [ "$1" = proved ] || cksum <"$here/.ci/front_end.py"
     cksum <"$2"
 }
 
@@ -89,7 +89,7 @@ find_program() {
 find_soon() {
     if [ -f "$kept/seen" ] && read -r kind <"$kept/seen"; then
         program=$kept/eap_login-$kind
-        newer=$(find "$program" "$program.of" "$here/.ci/unchecked.sh" "$here/crates.txt" "$here"/crates/*/src \
+        newer=$(find "$program" "$program.of" "$here/.ci/front_end.py" "$here/crates.txt" "$here"/crates/*/src \
             "$here"/crates/*/specs "$here"/crates/*/proofs -cnewer "$kept/seen" -print -quit 2>&1) || newer=unseen
         # (the times of these two tell that a crate, or all of them, stand in the place of others)
         for it in "$here" "$here/crates"; do [ ! "$it" -nt "$kept/seen" ] || newer=$it; done
