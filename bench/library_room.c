@@ -6,35 +6,13 @@
 #include <stdio.h>
 #include <stdlib.h>
 #include "login.h"
-
-enum { PAINT = 0xa5, PAINTED = 65536 };
+#include "stack_paint.h"
 
 struct end {
 	const char *name;
 	const struct side *side;
 	size_t held, most, depth;
 };
-
-/* Paints the stack below the caller. */
-__attribute__((noinline)) static void paint(void)
-{
-	volatile uint8_t room[PAINTED];
-	size_t i;
-
-	for (i = 0; i < sizeof(room); i++)
-		room[i] = PAINT;
-}
-
-/* The octets below the caller down to where the paint is left. */
-__attribute__((noinline)) static size_t deepest(void)
-{
-	const volatile uint8_t *top = __builtin_frame_address(0);
-	size_t depth = PAINTED - 256;
-
-	while (depth && *(top - depth) == PAINT)
-		depth--;
-	return depth;
-}
 
 /* Opens an end by these settings, or hands it a packet; without either it is asked for its first. */
 static struct sent call(struct end *end, const struct login *login, struct sent packet)
