@@ -1,7 +1,7 @@
 #!/usr/bin/env python3
 """Computes every packet and every key's name of the files NAME.names anew, with hashlib, hmac and cryptography alone.
 
-Run by hand: `python3 examples/verify.py`. A packet is computed from the settings of the scenario, from which message it is,
+examples/check runs it. A packet is computed from the settings of the scenario, from which message it is,
 from the nonce of its end's conversation and from what that end heard in it; a tag under the key of the end that made it.
 Of scenario 2 it says too whether the nonces were fresh. It knows nothing of the program's code; tools/lib reads the events.
 """
