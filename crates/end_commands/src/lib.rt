@@ -7,5 +7,5 @@ mod lines;
 mod peer;
 mod server;
 
-pub use peer::{answer_peer, peer_of};
-pub use server::{answer_server, server_of};
+pub use peer::answer_peer;
+pub use server::answer_server;

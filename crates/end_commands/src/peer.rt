@@ -1,8 +1,5 @@
 //! The command `peer`: the peer alone, over the lines of its text.
 
-ghost use Rattle.std.specs.Prelude.{◌≡◌};
-ghost use Rattle.scenario_text.specs.Valid.{IsValidPeer};
-ghost use Rattle.end_pipe.specs.EndRun.{started_peer, peer_end};
 ghost use Rattle.command_driver.specs.Responding.{Responds, reading, never};
 ghost use Rattle.end_commands.specs.PeerCommand.{HasBothPeers, peer_answer};
 
@@ -10,18 +7,8 @@ use crate::end::{CanStart, End};
 use command_driver::{Status, drive};
 use eap_method::PeerMethod;
 use end_pipe::{EndStep, PeerPipe, Role};
-use login_setup::PeerSetup;
 use octet_io::{Sink, Source};
 use peer_machine::PeerMachine;
-
-/// The peer of settings that a text gives, which has had no input. It has an object of both methods.
-pub fn peer_of<M: PeerMethod>(setup: PeerSetup, methods: Vec<M>) -> PeerPipe<M>
-    requires valid { IsValidPeer setup }
-    requires both { HasBothPeers M.peer_shown methods.items }
-    ensures { peer_end M.peer_shown result ≡ started_peer setup }
-{
-    PeerPipe::new(setup, methods)
-}
 
 impl<M: PeerMethod> CanStart<M> for PeerMachine<M> {
     ghost use Rattle.end_commands.specs.PeerCommand.{HasBothPeers};
@@ -36,7 +23,7 @@ impl<M: PeerMethod> CanStart<M> for PeerMachine<M> {
             return None;
         };
         let methods = end.methods.take()?;
-        end.pipe = Some(peer_of(setup, methods));
+        end.pipe = Some(PeerPipe::new(setup, methods));
         None
     }
 }

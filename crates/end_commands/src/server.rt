@@ -1,33 +1,13 @@
 //! The command `server`: the stand-alone server alone, over the lines of its text.
 
-ghost use Rattle.std.specs.Prelude.{◌≡◌, ◌≤◌};
-ghost use Rattle.scenario_text.specs.Valid.{IsValidServer};
 ghost use Rattle.command_driver.specs.Responding.{Responds, reading, never};
-ghost use Rattle.end_pipe.specs.EndRun.{server_end, server_unstarted};
 ghost use Rattle.end_commands.specs.ServerCommand.{HasBothServers, server_answer};
 
 use crate::end::{CanStart, End};
 use command_driver::{Status, drive};
 use eap_method::ServerMethod;
 use end_pipe::{EndStep, Role, ServerPipe, StandAloneServer};
-use login_setup::ServerSetup;
 use octet_io::{Sink, Source};
-
-/// The server of settings that a text gives, which hasn't started. It has an object of both methods; `max_retrans` is at
-/// most 10.
-pub fn server_of<M: ServerMethod>(
-    setup: ServerSetup,
-    first_id: u8,
-    max_retrans: u8,
-    methods: Vec<M>,
-) -> ServerPipe<M>
-    requires valid { IsValidServer setup }
-    requires few { max_retrans ≤ 10 }
-    requires both { HasBothServers M.server_shown methods.items }
-    ensures { server_end M.server_shown result ≡ server_unstarted setup first_id max_retrans }
-{
-    ServerPipe::new(setup, first_id, max_retrans, methods)
-}
 
 impl<M: ServerMethod> CanStart<M> for StandAloneServer<M> {
     ghost use Rattle.end_commands.specs.ServerCommand.{HasBothServers};
@@ -44,7 +24,7 @@ impl<M: ServerMethod> CanStart<M> for StandAloneServer<M> {
         let methods = end.methods.take()?;
         let first_id = end.reader.first_id();
         let max_retrans = end.reader.max_retrans();
-        let mut pipe = server_of(setup, first_id, max_retrans, methods);
+        let mut pipe = ServerPipe::new(setup, first_id, max_retrans, methods);
         let step = pipe.start_into(&mut end.packet, &mut end.tags);
         end.pipe = Some(pipe);
         Some(step)

@@ -79,25 +79,18 @@ impl<P: PeerMethod, S: ServerMethod> Replay<P, S> {
         let Ok(setup) = self.reader.setup() else {
             return Ok(Next::Proceed);
         };
-        match self.methods.take() {
-            None => Ok(Next::Proceed),
-            Some(methods) => {
-                let mut world = world_of(self.alloc, setup, methods);
-                match world.start_brief() {
-                    Ok(told) => {
-                        let mode = world.mode();
-                        let octets = world.octets_of(&told);
-                        let written = write_start_brief(sink, mode, &told, octets, self.names);
-                        self.world = Some(world);
-                        match written {
-                            Ok(()) => Ok(Next::Proceed),
-                            Err(_) => Err(Trouble::Write),
-                        }
-                    }
-                    Err(_) => Err(Trouble::Memory),
-                }
-            }
-        }
+        let Some(methods) = self.methods.take() else {
+            return Ok(Next::Proceed);
+        };
+        let mut world = world_of(self.alloc, setup, methods);
+        let Ok(told) = world.start_brief() else {
+            return Err(Trouble::Memory);
+        };
+        let octets = world.octets_of(&told);
+        let written = write_start_brief(sink, world.mode(), &told, octets, self.names);
+        self.world = Some(world);
+        written?;
+        Ok(Next::Proceed)
     }
 
     /// The end of the input, after the line `end`.
@@ -121,21 +114,17 @@ impl<P: PeerMethod, S: ServerMethod> Replay<P, S> {
             (steps (seen_of P.peer_shown S.server_shown self.old) event.now) true (seen_of P.peer_shown S.server_shown self.new) }
     {
         let names = self.names;
-        match &mut self.world {
-            None => Ok(Next::Proceed),
-            Some(world) => {
-                if world.counts().events >= MAX_EVENTS {
-                    return Ok(Next::Refuses("TooMuch", Status::TooMuch));
-                }
-                match world.step_brief(event) {
-                    Ok(told) => match write_outcome(sink, world, &told, names) {
-                        Ok(()) => Ok(Next::Proceed),
-                        Err(_) => Err(Trouble::Write),
-                    },
-                    Err(_) => Err(Trouble::Memory),
-                }
-            }
+        let Some(world) = &mut self.world else {
+            return Ok(Next::Proceed);
+        };
+        if world.counts().events >= MAX_EVENTS {
+            return Ok(Next::Refuses("TooMuch", Status::TooMuch));
         }
+        let Ok(told) = world.step_brief(event) else {
+            return Err(Trouble::Memory);
+        };
+        write_outcome(sink, world, &told, names)?;
+        Ok(Next::Proceed)
     }
 }
 
@@ -158,10 +147,9 @@ impl<P: PeerMethod, S: ServerMethod> Command for Replay<P, S> {
     fn handle_line<W: Sink>(&mut self, sink: &mut W, line: &[u8]) -> Result<Next, Trouble> {
         let mut event = Event::Idle;
         match self.reader.line_into(line, &mut event) {
-            Ok(ItemKind::Nothing) => Ok(Next::Proceed),
             Ok(ItemKind::Ready) => self.start(sink),
             Ok(ItemKind::Event) => self.step(sink, &event),
-            Ok(ItemKind::End) => Ok(Next::Proceed),
+            Ok(ItemKind::Nothing | ItemKind::End) => Ok(Next::Proceed),
             Err(fault) => Ok(Next::Refuses(fault.word(), Status::Refused)),
         }
     }

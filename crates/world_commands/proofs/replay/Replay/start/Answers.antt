@@ -8,8 +8,8 @@ pub world_of-world-requires-clause-both : goal.world_of-world-requires-clause-bo
 world_of-world-requires-clause-both g c =
     both_there g.P.PeerMethod.peer_shown g.S.ServerMethod.server_shown c.args.self.now c.take.result c.in-Some.methods c.requires.ready c.if-is_some.ensures c.take.ensures.value c.in-Some.is
 
-pub returns-in-Ok-written-clause-ready_after : goal.returns-in-Ok-written-clause-ready_after
-returns-in-Ok-written-clause-ready_after g c =
+pub returns-clause-ready_after : goal.returns-clause-ready_after
+returns-clause-ready_after g c =
     let peer_shown = g.P.PeerMethod.peer_shown in
     let server_shown = g.S.ServerMethod.server_shown in
     ready_in peer_shown server_shown _ c.start_brief.new.self refl

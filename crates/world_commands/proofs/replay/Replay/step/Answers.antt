@@ -4,8 +4,8 @@ use Rattle.world_commands.proofs.Ready.{ready_in}
 use Rattle.world_commands.proofs.Runs.{step_starts}
 use Rattle.world_commands.proofs.replay.Replay.step.Goals as goal
 
-pub returns-in-Ok-write_outcome-clause-ready_after : goal.returns-in-Ok-write_outcome-clause-ready_after
-returns-in-Ok-write_outcome-clause-ready_after g c =
+pub returns-clause-ready_after : goal.returns-clause-ready_after
+returns-clause-ready_after g c =
     let peer_shown = g.P.PeerMethod.peer_shown in
     let server_shown = g.S.ServerMethod.server_shown in
     ready_in peer_shown server_shown _ c.step_brief.new.self refl
