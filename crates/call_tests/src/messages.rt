@@ -75,9 +75,9 @@ fn is_wrapped_and_plain() -> bool {
         None => false,
         Some(inner) => inner.as_slice() == packet.as_slice(),
     };
-    expanded.vendor == 0
-        && is_held
-        && packet.as_slice() == b"\x02\x03\0\x0a\x33\x05\0\0\0\x01".as_slice()
+    (expanded.vendor == 0)
+        & is_held
+        & (packet.as_slice() == b"\x02\x03\0\x0a\x33\x05\0\0\0\x01".as_slice())
 }
 
 #[test]
@@ -180,11 +180,11 @@ fn request_is_read_back(secret: &[u8], other: &[u8]) -> bool
     let Ok(view) = read_radius(packet.as_slice()) else {
         return false;
     };
-    packet.len() == 57
-        && packet.as_slice().starts_with(front)
-        && eap_of(&view).as_slice() == IDENTITY
-        && request_good(secret, &view)
-        && !request_good(other, &view)
+    (packet.len() == 57)
+        & packet.as_slice().starts_with(front)
+        & (eap_of(&view).as_slice() == IDENTITY)
+        & request_good(secret, &view)
+        & !request_good(other, &view)
 }
 
 /// True if a reply of this kind is read back under the secret, and to its request, alone.
@@ -203,11 +203,11 @@ fn reply_is_read_back(secret: &[u8], other: &[u8]) -> bool
     let Ok(view) = read_radius(packet.as_slice()) else {
         return false;
     };
-    eap_of(&view).as_slice() == b"\x03\0\0\x04".as_slice()
-        && view.kind == RadiusKind::Accept
-        && reply_good(secret, &[0x22; 16], &view)
-        && !reply_good(secret, &[0x23; 16], &view)
-        && !reply_good(other, &[0x22; 16], &view)
+    (eap_of(&view).as_slice() == b"\x03\0\0\x04".as_slice())
+        & (view.kind == RadiusKind::Accept)
+        & reply_good(secret, &[0x22; 16], &view)
+        & !reply_good(secret, &[0x23; 16], &view)
+        & !reply_good(other, &[0x22; 16], &view)
 }
 
 #[test]

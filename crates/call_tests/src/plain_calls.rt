@@ -232,15 +232,15 @@ fn in_world<P: PeerMethod, S: ServerMethod>(
             Some(named) => note_report(&mut peer, &mut server, named),
         }
     }
-    let is_over = world.state(Party::Peer) == Some(State::Success)
-        && world.state(Party::Server) == Some(State::Success)
-        && world.state(Party::Pass).is_none()
-        && world.mode() == Mode::Alone;
+    let is_over = (world.state(Party::Peer) == Some(State::Success))
+        & (world.state(Party::Server) == Some(State::Success))
+        & world.state(Party::Pass).is_none()
+        & (world.mode() == Mode::Alone);
     let counts = world.counts();
-    let is_counted = counts.events == 7 && counts.deliveries == 7 && counts.discards == 0;
-    let is_judged = world.tags() == TagsVerdict::Honest && world.result() == Verdict::Agree;
+    let is_counted = (counts.events == 7) & (counts.deliveries == 7) & (counts.discards == 0);
+    let is_judged = (world.tags() == TagsVerdict::Honest) & (world.result() == Verdict::Agree);
     let methods = world.into_methods();
-    let are_back = methods.peer.len() == 2 && methods.server.len() == 2;
+    let are_back = (methods.peer.len() == 2) & (methods.server.len() == 2);
     is_over
         & is_counted
         & is_judged
@@ -278,8 +278,8 @@ fn between_machines<P: PeerMethod, S: ServerMethod>(
         request = sent.note(server.deliver(response.as_slice()).sent);
     }
     let last = peer.deliver(request.as_slice());
-    let is_over = peer.state() == State::Success && server.state() == State::Success;
-    let is_quiet = last.sent.is_none() && last.cause.is_none();
+    let is_over = (peer.state() == State::Success) & (server.state() == State::Success);
+    let is_quiet = last.sent.is_none() & last.cause.is_none();
     is_over & is_quiet & are_equal(&peer.report(), &server.report()) & sent.is(login.lengths, false)
 }
 
@@ -307,10 +307,10 @@ fn through_pass<P: PeerMethod, S: ServerMethod>(
         request = sent.note(pass.from_backend(answer.as_slice()).to_peer);
     }
     let last = peer.deliver(request.as_slice());
-    let is_over = peer.state() == State::Success
-        && backend.state() == State::Success
-        && pass.state() == State::Success2;
-    let is_quiet = last.sent.is_none() && last.cause.is_none();
+    let is_over = (peer.state() == State::Success)
+        & (backend.state() == State::Success)
+        & (pass.state() == State::Success2);
+    let is_quiet = last.sent.is_none() & last.cause.is_none();
     is_over & is_quiet & are_equal(&peer.report(), &backend.report()) & sent.is(login.lengths, true)
 }
 
@@ -349,7 +349,7 @@ fn between_pipes<P: PeerMethod, S: ServerMethod>(methods: Methods<P, S>, login: 
         request = sent.note(told.sent);
     }
     let last = peer.step(&input_of(&request));
-    let is_over = peer.state() == State::Success && server.state() == State::Success;
+    let is_over = (peer.state() == State::Success) & (server.state() == State::Success);
     is_over & !last.skipped & sent.is(login.lengths, false) & named.is_some()
 }
 
