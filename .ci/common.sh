@@ -42,7 +42,7 @@ lines_below() {
             count = split(deps[name], words, " ")
             for (at = 1; at <= count; at++) take(words[at])
         }
-        END { take("eap_login"); for (at = 1; at <= all; at++) if (names[at] in taken) print lines[at] }
+        END { take("eap_login_main"); for (at = 1; at <= all; at++) if (names[at] in taken) print lines[at] }
     ' "$here/crates.txt"
 }
 
