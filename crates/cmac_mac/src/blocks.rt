@@ -34,10 +34,5 @@ pub(crate) fn double(block: [u8; 16]) -> [u8; 16]
 fn double_number(number: u128) -> u128
     ensures { result ≡ spec.doubled_number number }
 {
-    let shifted = number << 1;
-    if number < 1 << 127 {
-        shifted
-    } else {
-        shifted ^ 0x87
-    }
+    number << 1 ^ (number >> 127) * 0x87
 }

@@ -1,6 +1,12 @@
 //! Replays EAP logins by shared keys from recorded schedules.
 #![tactic(auto)]
 
+ghost use Rattle.std.specs.Prelude.{◌≡◌, map, string_bytes, IfOk, IfErr, OnErr};
+ghost use Rattle.std.specs.IoError.{error_kind};
+ghost use Rattle.std.specs.Vec.Iter.{into_iter_items};
+ghost use Rattle.login_run.specs.Exit.{failure_number_of};
+ghost use Rattle.login_run.specs.Runs.{after_name, Exits};
+
 use command_driver::Status;
 use eap_method::{PeerMethod, ServerMethod};
 use gpsk_ends::{GpskPeer, GpskServer};
@@ -30,7 +36,14 @@ fn run_over_boxes<S: Source, W: Sink>(
     args: io::Result<Args>,
     source: &mut S,
     sink: &mut W,
-) -> Result<u8, AllocError> {
+) -> Result<u8, AllocError>
+    // What `run` promises over any objects it promises over these boxes.
+    ensures answers { IfOk result (λ number. IfOk args (λ args. Exits S.shown W.shown
+        (map string_bytes (after_name (into_iter_items args))) source.old source.new sink.old sink.new number)) }
+    ensures no_words { IfOk result (λ number. IfErr args (λ error. number ≡ failure_number_of (error_kind error))) }
+    ensures unread { OnErr result (source.new ≡ source.old) }
+    ensures unwritten { OnErr result (sink.new ≡ sink.old) }
+{
     let gpsk_peer: Box<dyn PeerMethod> = Box::new(alloc, GpskPeer::new())?;
     let psk_peer: Box<dyn PeerMethod> = Box::new(alloc, PskPeer::new())?;
     let gpsk_server: Box<dyn ServerMethod> = Box::new(alloc, GpskServer::new())?;

@@ -34,13 +34,7 @@ pub trait PeerMethod: Drop {
     fn handle(&mut self, request: &[u8]) -> PeerTurn
         requires { IsRequest (peer_kind (peer_shown self.old)) request.now }
         ensures turn { peer_step (peer_shown self.old) request.now ≡ record { turn = peer_turn_of result; after = peer_shown self.new } }
-        ensures capacity { PeerTurnHasCapacity result }
-    {
-        let mut packet = Packet::new();
-        let mut tags = Tags::new();
-        let answer = self.handle_into(request, &mut packet, &mut tags);
-        answer.with(packet, tags)
-    }
+        ensures capacity { PeerTurnHasCapacity result };
 
     /// The same in place: the Response is written into `packet` in place of what was there, the records of its tags into
     /// `tags`. A discard leaves no record, and `packet` is then unspecified.
@@ -49,7 +43,10 @@ pub trait PeerMethod: Drop {
         ensures turn { peer_step (peer_shown self.old) request.now
             ≡ record { turn = peer_turn_with result packet.new tags.new; after = peer_shown self.new } }
         ensures tags { tags.new ≡ peer_tags (peer_turn_with result packet.new tags.new) }
-        ensures capacity { replies result ≡ true → HasCapacity packet.new };
+        ensures capacity { replies result ≡ true → HasCapacity packet.new }
+    {
+        self.handle(request).put(packet, tags)
+    }
 
     /// The same, with room for the records or none.
     fn handle_step<R: Records>(
@@ -64,7 +61,13 @@ pub trait PeerMethod: Drop {
         ensures turn { peer_step (peer_shown self.old) request.now
             ≡ record { turn = peer_turn_with result packet.new tags.new; after = peer_shown self.new } }
         ensures tags { tags.new ≡ peer_tags (peer_turn_with result packet.new tags.new) }
-        ensures capacity { replies result ≡ true → HasCapacity packet.new };
+        ensures capacity { replies result ≡ true → HasCapacity packet.new }
+    {
+        let mut records = Tags::new();
+        let answer = self.handle_into(request, packet, &mut records);
+        tags.set(&records);
+        answer
+    }
 
     /// What the peer has after a login that succeeded; None before and after any other.
     fn report(&self) -> Option<Report>
@@ -80,6 +83,10 @@ impl PeerMethod for Box<dyn PeerMethod> {
 
     fn begin(&mut self, cred: &Credential, nonce: &Nonce) {
         (**self).begin(cred, nonce)
+    }
+
+    fn handle(&mut self, request: &[u8]) -> PeerTurn {
+        (**self).handle(request)
     }
 
     fn handle_into(&mut self, request: &[u8], packet: &mut Packet, tags: &mut Tags) -> PeerAnswer {

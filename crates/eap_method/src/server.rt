@@ -34,18 +34,16 @@ pub trait ServerMethod: Drop {
     fn first(&mut self, id: u8) -> Packet
         requires { has_initiated (server_shown self.old) ≡ true }
         ensures first { server_first_step (server_shown self.old) id ≡ record { packet = result; after = server_shown self.new } }
-        ensures capacity { HasCapacity result }
-    {
-        let mut packet = Packet::new();
-        self.first_into(id, &mut packet);
-        packet
-    }
+        ensures capacity { HasCapacity result };
 
     /// The same in place: the Request is written into `packet` in place of what was there.
     fn first_into(&mut self, id: u8, packet: &mut Packet)
         requires { has_initiated (server_shown self.old) ≡ true }
         ensures first { server_first_step (server_shown self.old) id ≡ record { packet = packet.new; after = server_shown self.new } }
-        ensures capacity { HasCapacity packet.new };
+        ensures capacity { HasCapacity packet.new }
+    {
+        packet.set(self.first(id).as_slice());
+    }
 
     /// The turn for a Response of this Type with nothing past its Length. A Request that follows has the Identifier
     /// `next_id` and leaves room for an Expanded Type: it has at most 1,493 octets. The users' keys have 16 octets for
@@ -55,13 +53,7 @@ pub trait ServerMethod: Drop {
         requires keys { All (λ user. IsTrue (is_valid_for user.kind user.psk)) users.now }
         ensures turn { server_step users.now next_id (server_shown self.old) response.now
             ≡ record { turn = server_turn_of result; after = server_shown self.new } }
-        ensures capacity { ServerTurnHasCapacity result }
-    {
-        let mut packet = Packet::new();
-        let mut tags = Tags::new();
-        let answer = self.handle_into(response, next_id, users, &mut packet, &mut tags);
-        answer.with(packet, tags)
-    }
+        ensures capacity { ServerTurnHasCapacity result };
 
     /// The same in place: a Request that follows is written into `packet` in place of what was there, the records of the
     /// turn's tags into `tags`. A discard leaves no record; without a Request `packet` is unspecified.
@@ -78,7 +70,10 @@ pub trait ServerMethod: Drop {
         ensures turn { server_step users.now next_id (server_shown self.old) response.now
             ≡ record { turn = server_turn_with result packet.new tags.new; after = server_shown self.new } }
         ensures tags { tags.new ≡ server_tags (server_turn_with result packet.new tags.new) }
-        ensures capacity { requests result ≡ true → HasCapacity packet.new };
+        ensures capacity { requests result ≡ true → HasCapacity packet.new }
+    {
+        self.handle(response, next_id, users).put(packet, tags)
+    }
 
     /// The same, with room for the records or none.
     fn handle_step<R: Records>(
@@ -96,7 +91,13 @@ pub trait ServerMethod: Drop {
         ensures turn { server_step users.now next_id (server_shown self.old) response.now
             ≡ record { turn = server_turn_with result packet.new tags.new; after = server_shown self.new } }
         ensures tags { tags.new ≡ server_tags (server_turn_with result packet.new tags.new) }
-        ensures capacity { requests result ≡ true → HasCapacity packet.new };
+        ensures capacity { requests result ≡ true → HasCapacity packet.new }
+    {
+        let mut records = Tags::new();
+        let answer = self.handle_into(response, next_id, users, packet, &mut records);
+        tags.set(&records);
+        answer
+    }
 
     /// What the server has after a login that succeeded; None before and after any other.
     fn report(&self) -> Option<Report>
@@ -114,8 +115,16 @@ impl ServerMethod for Box<dyn ServerMethod> {
         (**self).begin(own, nonce)
     }
 
+    fn first(&mut self, id: u8) -> Packet {
+        (**self).first(id)
+    }
+
     fn first_into(&mut self, id: u8, packet: &mut Packet) {
         (**self).first_into(id, packet)
+    }
+
+    fn handle(&mut self, response: &[u8], next_id: u8, users: &Users) -> ServerTurn {
+        (**self).handle(response, next_id, users)
     }
 
     fn handle_into(

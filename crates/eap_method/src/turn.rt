@@ -3,8 +3,8 @@
 
 ghost use Rattle.std.specs.Prelude.{◌≡◌, true};
 ghost use Rattle.eap_method.specs.Capacity.{HasCapacity, replies, requests, PeerTurnHasCapacity, ServerTurnHasCapacity};
-ghost use Rattle.eap_method.specs.PeerTurn.{peer_turn_with, peer_turn_of};
-ghost use Rattle.eap_method.specs.ServerTurn.{server_turn_with, server_turn_of};
+ghost use Rattle.eap_method.specs.PeerTurn.{peer_turn_with, peer_turn_of, peer_tags};
+ghost use Rattle.eap_method.specs.ServerTurn.{server_turn_with, server_turn_of, server_tags};
 
 use crate::tags::Tags;
 use crate::values::{Decision, MethodState};
@@ -88,6 +88,63 @@ impl ServerAnswer {
             ServerAnswer::Discard(cause) => ServerTurn::Discard(cause),
             ServerAnswer::Request => ServerTurn::Request { packet, tags },
             ServerAnswer::Done { success } => ServerTurn::Done { success, tags },
+        }
+    }
+}
+
+impl PeerTurn {
+    /// Writes the Response and the records in place of what was there; a discard leaves no record.
+    pub fn put(self, packet: &mut Packet, tags: &mut Tags) -> PeerAnswer
+        ensures turn { peer_turn_with result packet.new tags.new ≡ peer_turn_of self }
+        ensures tags { tags.new ≡ peer_tags (peer_turn_of self) }
+        ensures capacity { PeerTurnHasCapacity self → replies result ≡ true → HasCapacity packet.new }
+    {
+        match self {
+            PeerTurn::Discard(cause) => {
+                tags.clear();
+                PeerAnswer::Discard(cause)
+            }
+            PeerTurn::Reply {
+                packet: sent,
+                state,
+                decision,
+                tags: records,
+            } => {
+                *packet = sent;
+                *tags = records;
+                PeerAnswer::Reply { state, decision }
+            }
+        }
+    }
+}
+
+impl ServerTurn {
+    /// Writes the Request and the records in place of what was there; a discard leaves no record.
+    pub fn put(self, packet: &mut Packet, tags: &mut Tags) -> ServerAnswer
+        ensures turn { server_turn_with result packet.new tags.new ≡ server_turn_of self }
+        ensures tags { tags.new ≡ server_tags (server_turn_of self) }
+        ensures capacity { ServerTurnHasCapacity self → requests result ≡ true → HasCapacity packet.new }
+    {
+        match self {
+            ServerTurn::Discard(cause) => {
+                tags.clear();
+                ServerAnswer::Discard(cause)
+            }
+            ServerTurn::Request {
+                packet: sent,
+                tags: records,
+            } => {
+                *packet = sent;
+                *tags = records;
+                ServerAnswer::Request
+            }
+            ServerTurn::Done {
+                success,
+                tags: records,
+            } => {
+                *tags = records;
+                ServerAnswer::Done { success }
+            }
         }
     }
 }

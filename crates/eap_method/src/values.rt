@@ -2,6 +2,8 @@
 
 ghost use Rattle.std.specs.Prelude.{◌≡◌};
 
+use crate::peer::PeerMethod;
+use crate::server::ServerMethod;
 use login_setup::Accepts;
 use octet_lists::{Identity, Secret, Suites};
 
@@ -91,7 +93,7 @@ pub struct Report {
 
 /// The objects of both ends' methods.
 #[derive(Drop)]
-pub struct Methods<P, S> {
+pub struct Methods<P = Box<dyn PeerMethod>, S = Box<dyn ServerMethod>> {
     pub peer: Vec<P>,
     pub server: Vec<S>,
 }

@@ -52,7 +52,7 @@ pub struct HasReported {
 /// (section 7) before it. Contracts see all of it; what an object shows is its ghost member. No call changes which methods an
 /// end's settings name, nor the view of an object whose method they don't name.
 #[derive(Drop)]
-pub struct World<P, S> {
+pub struct World<P = Box<dyn PeerMethod>, S = Box<dyn ServerMethod>> {
     machines: Machines<P, S>,
     sent: Store,
     book: Vec<Entry>,
@@ -163,6 +163,8 @@ impl<P: PeerMethod, S: ServerMethod> World<P, S> {
         ensures preserves { PreservesAllObjects P.peer_shown S.server_shown self.old self.new }
         ensures names { NamesAlike self.old self.new }
         ensures objects { HasObjects P.peer_shown S.server_shown self.new }
+        ensures begun { IfOk result (λ _. self.new.started ≡ true) }
+        ensures counts { IfOk result (λ _. self.new.counts ≡ self.old.counts) }
     {
         self.start_by_table()
     }
@@ -189,6 +191,8 @@ impl<P: PeerMethod, S: ServerMethod> World<P, S> {
         ensures preserves { PreservesAllObjects P.peer_shown S.server_shown self.old self.new }
         ensures names { NamesAlike self.old self.new }
         ensures objects { HasObjects P.peer_shown S.server_shown self.new }
+        ensures goes_on { IfOk result (λ _. self.new.started ≡ true) }
+        ensures counted { IfOk result (λ _. self.new.counts.events ≡ self.old.counts.events + 1) }
     {
         self.step_by_table(event)
     }
@@ -205,6 +209,8 @@ impl<P: PeerMethod, S: ServerMethod> World<P, S> {
         ensures preserves { PreservesAllObjects P.peer_shown S.server_shown self.old self.new }
         ensures names { NamesAlike self.old self.new }
         ensures objects { HasObjects P.peer_shown S.server_shown self.new }
+        ensures begun { IfOk result (λ _. self.new.started ≡ true) }
+        ensures counts { IfOk result (λ _. self.new.counts ≡ self.old.counts) }
     {
         let brief = self.start_brief()?;
         Ok(self.whole(brief))
@@ -224,6 +230,8 @@ impl<P: PeerMethod, S: ServerMethod> World<P, S> {
         ensures preserves { PreservesAllObjects P.peer_shown S.server_shown self.old self.new }
         ensures names { NamesAlike self.old self.new }
         ensures objects { HasObjects P.peer_shown S.server_shown self.new }
+        ensures goes_on { IfOk result (λ _. self.new.started ≡ true) }
+        ensures counted { IfOk result (λ _. self.new.counts.events ≡ self.old.counts.events + 1) }
     {
         let brief = self.step_brief(event)?;
         Ok(self.whole(brief))
@@ -255,6 +263,8 @@ impl<P: PeerMethod, S: ServerMethod> World<P, S> {
             (λ _. self.new ≡ self.old) }
         ensures preserves { PreservesAllObjects P.peer_shown S.server_shown self.old self.new }
         ensures names { NamesAlike self.old self.new }
+        ensures begun { IfOk result (λ _. self.new.started ≡ true) }
+        ensures counts { IfOk result (λ _. self.new.counts ≡ self.old.counts) }
     {
         if !reserve_event(&mut self.sent, &mut self.book) {
             return Err(Memory);
@@ -283,6 +293,8 @@ impl<P: PeerMethod, S: ServerMethod> World<P, S> {
         ensures packets { length self.new.sent ≤ self.new.counts.events + 1 }
         ensures preserves { PreservesAllObjects P.peer_shown S.server_shown self.old self.new }
         ensures names { NamesAlike self.old self.new }
+        ensures goes_on { IfOk result (λ _. self.new.started ≡ true) }
+        ensures counted { IfOk result (λ _. self.new.counts.events ≡ self.old.counts.events + 1) }
     {
         if !reserve_event(&mut self.sent, &mut self.book) {
             return Err(Memory);

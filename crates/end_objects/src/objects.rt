@@ -7,8 +7,8 @@ ghost use Rattle.eap_method.specs.Server.{server_kind};
 ghost use Rattle.end_objects.specs.Objects.{peer_object_shown, server_object_shown};
 
 use eap_method::{
-    Credential, PeerAnswer, PeerMethod, Records, Report, ServerAnswer, ServerMethod, ServerSide,
-    Tags,
+    Credential, PeerAnswer, PeerMethod, PeerTurn, Records, Report, ServerAnswer, ServerMethod,
+    ServerSide, ServerTurn, Tags,
 };
 use gpsk_ends::{GpskPeer, GpskServer};
 use login_setup::Users;
@@ -109,6 +109,13 @@ impl PeerMethod for PeerObject {
         }
     }
 
+    fn handle(&mut self, request: &[u8]) -> PeerTurn {
+        let mut packet = Packet::new();
+        let mut tags = Tags::new();
+        let answer = self.handle_into(request, &mut packet, &mut tags);
+        answer.with(packet, tags)
+    }
+
     fn handle_into(&mut self, request: &[u8], packet: &mut Packet, tags: &mut Tags) -> PeerAnswer {
         self.handle_step(request, packet, tags)
     }
@@ -206,6 +213,19 @@ impl ServerMethod for ServerObject {
             ServerObject::Psk(server) => server.begin(own, nonce),
             ServerObject::Gpsk(server) => server.begin(own, nonce),
         }
+    }
+
+    fn first(&mut self, id: u8) -> Packet {
+        let mut packet = Packet::new();
+        self.first_into(id, &mut packet);
+        packet
+    }
+
+    fn handle(&mut self, response: &[u8], next_id: u8, users: &Users) -> ServerTurn {
+        let mut packet = Packet::new();
+        let mut tags = Tags::new();
+        let answer = self.handle_into(response, next_id, users, &mut packet, &mut tags);
+        answer.with(packet, tags)
     }
 
     fn first_into(&mut self, id: u8, packet: &mut Packet) {

@@ -14,7 +14,7 @@ use octet_lists::Packet;
 use peer_machine::PeerMachine;
 
 /// The peer of RFC 4137 section 4 alone.
-pub type PeerPipe<M> = EndPipe<PeerMachine<M>>;
+pub type PeerPipe<M = Box<dyn PeerMethod>> = EndPipe<PeerMachine<M>>;
 
 impl<M: PeerMethod> PeerPipe<M> {
     /// The peer of these settings, which has had no input. Each method that they allow has an object.

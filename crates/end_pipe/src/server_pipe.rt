@@ -37,7 +37,7 @@ impl<M> Model for StandAloneServer<M> {
 }
 
 /// The stand-alone server of RFC 4137 section 5 alone.
-pub type ServerPipe<M> = EndPipe<StandAloneServer<M>>;
+pub type ServerPipe<M = Box<dyn ServerMethod>> = EndPipe<StandAloneServer<M>>;
 
 impl<M: ServerMethod> ServerPipe<M> {
     /// The server of these settings, which hasn't started. Each method that it proposes has an object; `max_retrans` is

@@ -12,7 +12,7 @@ use crate::nonces::Nonces;
 use crate::server::login::Initial;
 use crate::server::stage::{Alone, Phase, Stage};
 use crate::server::turns::{ask, handle_response};
-use eap_method::{Records, Report, ServerAnswer, ServerMethod, ServerSide, Tags};
+use eap_method::{Records, Report, ServerAnswer, ServerMethod, ServerSide, ServerTurn, Tags};
 use login_setup::Users;
 use octet_lists::{GPSK_KIND, Nonce, Packet};
 use std::marker::Model;
@@ -104,6 +104,19 @@ impl ServerMethod for GpskServer {
             },
             phase: Alone::Initial,
         };
+    }
+
+    fn first(&mut self, id: u8) -> Packet {
+        let mut packet = Packet::new();
+        self.first_into(id, &mut packet);
+        packet
+    }
+
+    fn handle(&mut self, response: &[u8], next_id: u8, users: &Users) -> ServerTurn {
+        let mut packet = Packet::new();
+        let mut tags = Tags::new();
+        let answer = self.handle_into(response, next_id, users, &mut packet, &mut tags);
+        answer.with(packet, tags)
     }
 
     #[tactic(auto, unfolding(eap_method::specs::Server::server_first_step))]

@@ -17,7 +17,7 @@
 //! Octets from the side that isn't awaited are discarded as NotWaiting with an empty path, after the end as Ended. What
 //! is forwarded are the packet's Length octets as they came.
 
-ghost use Rattle.std.specs.Prelude.{◌≡◌, ◌≤◌, true, false};
+ghost use Rattle.std.specs.Prelude.{◌≡◌, ◌≤◌, true, false, IfSome};
 ghost use Rattle.pass_through.specs.PassTable.{Peer, Server, answer, step_to, without_padding, identity_request};
 
 use crate::rows::{
@@ -205,6 +205,7 @@ impl PassThrough {
         requires { is_started self.old.state ≡ false }
         ensures step { result ≡ plain_step (pass_start self.old).step }
         ensures after { self.new ≡ (pass_start self.old).after }
+        ensures own { IfSome result.to_peer (λ packet. packet ≡ identity_request self.old.first_id) }
     {
         let mut packet = Packet::new();
         PassStep::to_peer(self.start_step(&mut packet), packet)
@@ -214,6 +215,7 @@ impl PassThrough {
     pub fn from_peer(&mut self, octets: &[u8]) -> PassStep
         ensures step { result ≡ plain_step (pass_from_peer self.old octets.now).step }
         ensures after { self.new ≡ (pass_from_peer self.old octets.now).after }
+        ensures whole { IfSome result.to_server (λ packet. packet ≡ without_padding octets.now) }
     {
         let mut packet = Packet::new();
         PassStep::to_server(self.from_peer_step(octets, &mut packet), packet)
@@ -223,6 +225,7 @@ impl PassThrough {
     pub fn from_backend(&mut self, octets: &[u8]) -> PassStep
         ensures step { result ≡ plain_step (pass_from_backend self.old octets.now).step }
         ensures after { self.new ≡ (pass_from_backend self.old octets.now).after }
+        ensures whole { IfSome result.to_peer (λ packet. packet ≡ without_padding octets.now) }
     {
         let mut packet = Packet::new();
         PassStep::to_peer(self.from_backend_step(octets, &mut packet), packet)
@@ -233,6 +236,7 @@ impl PassThrough {
         requires { has_timer self.old.state ≡ true }
         ensures step { result ≡ plain_step (pass_timeout self.old).step }
         ensures after { self.new ≡ (pass_timeout self.old).after }
+        ensures again { IfSome result.to_peer (λ packet. packet ≡ self.old.last_request) }
     {
         let mut packet = Packet::new();
         PassStep::to_peer(self.timeout_step(&mut packet), packet)

@@ -60,7 +60,7 @@ use std::marker::Model;
 /// reads Expanded Types (RFC 3748 section 5.7), as [`deliver`](PeerMachine::deliver) says; else it handles Type 254
 /// like any other Type.
 #[derive(Drop)]
-pub struct PeerMachine<M> {
+pub struct PeerMachine<M = Box<dyn PeerMethod>> {
     vars: PeerVariables,
     methods: Vec<M>,
 }

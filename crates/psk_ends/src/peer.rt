@@ -12,7 +12,7 @@ use crate::nonces::Nonces;
 use crate::peer::login::Initial;
 use crate::peer::stage::{Phase, Stage};
 use crate::peer::turns::handle_request;
-use eap_method::{Credential, PeerAnswer, PeerMethod, Records, Report, Tags};
+use eap_method::{Credential, PeerAnswer, PeerMethod, PeerTurn, Records, Report, Tags};
 use octet_lists::{Nonce, PSK_KIND, Packet};
 use std::marker::Model;
 
@@ -88,6 +88,13 @@ impl PeerMethod for PskPeer {
                 nonce: *nonce,
             },
         };
+    }
+
+    fn handle(&mut self, request: &[u8]) -> PeerTurn {
+        let mut packet = Packet::new();
+        let mut tags = Tags::new();
+        let answer = self.handle_into(request, &mut packet, &mut tags);
+        answer.with(packet, tags)
     }
 
     fn handle_into(&mut self, request: &[u8], packet: &mut Packet, tags: &mut Tags) -> PeerAnswer {

@@ -13,7 +13,7 @@ use crate::nonces::Nonces;
 use crate::server::login::Initial;
 use crate::server::stage::{EarlyPhase, KnownPhase, Stage};
 use crate::server::turns::{ask, handle_response};
-use eap_method::{Records, Report, ServerAnswer, ServerMethod, ServerSide, Tags};
+use eap_method::{Records, Report, ServerAnswer, ServerMethod, ServerSide, ServerTurn, Tags};
 use login_setup::Users;
 use octet_lists::{Nonce, PSK_KIND, Packet};
 use std::marker::Model;
@@ -105,6 +105,19 @@ impl ServerMethod for PskServer {
             },
             phase: EarlyPhase::Initial,
         };
+    }
+
+    fn first(&mut self, id: u8) -> Packet {
+        let mut packet = Packet::new();
+        self.first_into(id, &mut packet);
+        packet
+    }
+
+    fn handle(&mut self, response: &[u8], next_id: u8, users: &Users) -> ServerTurn {
+        let mut packet = Packet::new();
+        let mut tags = Tags::new();
+        let answer = self.handle_into(response, next_id, users, &mut packet, &mut tags);
+        answer.with(packet, tags)
     }
 
     #[tactic(auto, unfolding(eap_method::specs::Server::server_first_step))]

@@ -1,6 +1,8 @@
 //! The settings of a scenario that have been read so far.
 
-ghost use Rattle.std.specs.Prelude.{◌≡◌, ◌∷◌, [], unwrap_or, is_err};
+ghost use Rattle.std.specs.Prelude.{◌≡◌, ◌==◌, ◌∷◌, [], unwrap_or, is_err, is_some, if◌then◌else◌, None};
+ghost use Rattle.std.specs.List.{list_all};
+ghost use Rattle.octet_lists.specs.Among.{psk_kind, gpsk_kind};
 ghost use Rattle.scenario_text.specs.Reading.{no_settings, is_full, with_later, with_nonce, has_setting, with_setting, both_suites};
 ghost use Rattle.scenario_text.specs.Reading.{later_nonces, later_of, peer_setup_of, server_setup_of, setup_of, is_crowded};
 
@@ -8,7 +10,7 @@ use crate::entry::Setting;
 use crate::keyword::Keyword;
 use crate::version::Version;
 use login_setup::{Accepts, Later, MAX_USERS, Mode, Nonces, PeerSetup, ServerSetup, Setup, Users};
-use octet_lists::{Identity, Kinds, Nonce, Secret, Suites};
+use octet_lists::{GPSK_KIND, Identity, Kinds, Nonce, PSK_KIND, Secret, Suites};
 use text_tables::{LineFault, add_user};
 
 /// The nonces of an end that have come, at most 16.
@@ -83,11 +85,58 @@ impl Settings {
         }
     }
 
-    /// True if a needed setting has not come. (By itself, so that no other line makes room for a setup.)
+    /// True if a needed setting has not come.
+    #[tactic(auto, unfolding(crate::specs::Reading::setup_of))]
     pub fn lacks_some(&self) -> bool
         ensures { result ≡ is_err (setup_of self.now) }
     {
-        self.setup().is_err()
+        self.mode.is_none() || self.lacks_of_peer() || self.lacks_of_server()
+    }
+
+    /// True if a setting that the peer needs has not come.
+    #[tactic(auto, unfolding(crate::specs::Reading::peer_setup_of))]
+    fn lacks_of_peer(&self) -> bool
+        ensures { result ≡ is_err (peer_setup_of self.now) }
+    {
+        if self.peer_name.is_none() || self.peer_server.is_none() || self.peer_nonces.is_none() {
+            return true;
+        }
+        match &self.peer_methods {
+            None => true,
+            Some(methods) => {
+                if self.has_each(methods.as_slice()) {
+                    false
+                } else {
+                    true
+                }
+            }
+        }
+    }
+
+    /// True if the key for each of these methods has come.
+    fn has_each(&self, kinds: &[u8]) -> bool
+        ensures { result ≡ list_all (λ kind. is_some (if kind == psk_kind then self.now.peer_psk47 else if kind == gpsk_kind then self.now.peer_psk51 else None)) kinds.now }
+    {
+        kinds.iter().all(|kind| self.has_key(*kind))
+    }
+
+    /// True if the key for this method has come.
+    fn has_key(&self, kind: u8) -> bool
+        ensures { result ≡ is_some (if kind == psk_kind then self.now.peer_psk47 else if kind == gpsk_kind then self.now.peer_psk51 else None) }
+    {
+        match kind {
+            PSK_KIND => self.peer_psk47.is_some(),
+            GPSK_KIND => self.peer_psk51.is_some(),
+            _ => false,
+        }
+    }
+
+    /// True if a setting that the server needs has not come.
+    #[tactic(auto, unfolding(crate::specs::Reading::server_setup_of))]
+    fn lacks_of_server(&self) -> bool
+        ensures { result ≡ is_err (server_setup_of self.now) }
+    {
+        self.server_name.is_none() || self.server_methods.is_none() || self.server_nonces.is_none()
     }
 
     /// True if the setting has come before.

@@ -38,7 +38,7 @@ use std::marker::Model;
 /// of the stand-alone server. If its settings say `expanded`, it reads Expanded Types (RFC 3748 section
 /// 5.7) and asks in them. Contracts see it as that machine.
 #[derive(Drop)]
-pub struct Backend<M> {
+pub struct Backend<M = Box<dyn ServerMethod>> {
     machine: ServerMachine<M>,
 }
 

@@ -58,7 +58,7 @@ use std::marker::Model;
 /// the settings say `expanded`, it reads Expanded Types (RFC 3748 section 5.7) and asks in them.
 /// [`Backend`](crate::Backend) is the backend by itself.
 #[derive(Drop)]
-pub struct ServerMachine<M> {
+pub struct ServerMachine<M = Box<dyn ServerMethod>> {
     vars: ServerVariables,
     methods: Vec<M>,
 }

@@ -7,12 +7,13 @@ use Rattle.std.proofs.lemmas.Bool.{and_from, eq-eqb, or_left, or_right}
 use Rattle.std.proofs.lemmas.Slice.Eq.{bytes_eq-Decides}
 use Rattle.login_setup.specs.declared.setup.Setup.{Setup}
 use Rattle.eap_method.specs.declared.tags.TagRecord.{TagRecord}
+use Rattle.eap_method.specs.Peer.{key_for}
 use Rattle.tag_book.specs.Book.{first_broken, is_accepted, is_honest, label_number, may_make, same_end, same_tag, verdict_on, vouches}
 use Rattle.tag_book.specs.declared.book.End.{End}
 use Rattle.tag_book.specs.declared.book.End.TheVariants as end
 use Rattle.tag_book.specs.declared.book.Entry.{Entry}
 use Rattle.tag_book.specs.declared.book.RecordOwner.{RecordOwner}
-use Rattle.tag_book.specs.declared.book.RecordOwner.TheVariants.{Other}
+use Rattle.tag_book.specs.declared.book.RecordOwner.TheVariants.{Either, Other}
 use Rattle.tag_book.specs.declared.book.Use.{Use}
 use Rattle.tag_book.specs.declared.book.Use.TheVariants.{Accepted, Made}
 use Rattle.tag_book.proofs.FirstBroken.{passed}
@@ -26,6 +27,7 @@ use Rattle.world_laws.specs.UnderKey.{under}
 use Rattle.world_laws.proofs.Conversations.{conversations_are_all}
 use Rattle.world_laws.proofs.HonestRuns.{honest_ends_agree}
 use Rattle.world_laws.proofs.PastConversations.{in_either}
+use Rattle.world_laws.proofs.PresentUnderKey.{ends_agree_under}
 use Rattle.world_laws.proofs.RightMacs.{OfEach, peer_tags_right, server_tags_right}
 use Rattle.world_laws.proofs.TagsOfEnds.{in_if, skip_if}
 
@@ -228,11 +230,26 @@ agree_or_forged setup events whole =
     let w : WorldNow = run_of setup events in
     let ps : List OfPeer = peer_conversations setup events in
     let ss : List OfServer = server_conversations setup events in
+    let keyed_or_forged : (makers : RecordOwner) (kind : ℕ) → HonestOrForged setup ps ss makers (under (key_for setup.peer kind) w.book) =
+    λ makers kind. honest_or_forged setup ps ss (under (key_for setup.peer kind) w.book)
+        (λ e is. each_tag_is_right setup events whole e (in_whole (key_for setup.peer kind) e w.book is)) makers in
     record {
       whole = λ makers. honest_or_forged setup ps ss w.book (each_tag_is_right setup events whole) makers;
       keyed = λ makers key. honest_or_forged setup ps ss (under key w.book) (λ e is. each_tag_is_right setup events whole e (in_whole key e w.book is)) makers;
       agrees = λ apart p_in s_in. (elim (honest_or_forged setup ps ss w.book (each_tag_is_right setup events whole) Other) [
         | inl honest ↦ inl ((honest_ends_agree setup events whole).agrees honest apart p_in s_in)
+        | inr forged ↦ inr forged
+      ]);
+      agrees_under = λ kind apart both of_key. (elim (keyed_or_forged Other kind) [
+        | inl honest ↦ inl ((ends_agree_under setup events kind whole).agrees honest apart both of_key)
+        | inr forged ↦ inr forged
+      ]);
+      reflected_agrees = λ kind two both of_key. (elim (keyed_or_forged Either kind) [
+        | inl honest ↦ inl ((ends_agree_under setup events kind whole).reflected_agrees honest two both of_key)
+        | inr forged ↦ inr forged
+      ]);
+      reflected_anew = λ kind by_psk fresh both of_key. (elim (keyed_or_forged Either kind) [
+        | inl honest ↦ inl ((ends_agree_under setup events kind whole).reflected_anew by_psk honest fresh both of_key)
         | inr forged ↦ inr forged
       ]);
     }

@@ -175,3 +175,4 @@ pub mod Forgery
 pub mod Downgrade
 -- Each Nak that the peer sends anew answers a Request of a Type that it doesn't allow.
 pub mod NakAnswers
+pub mod UnconditionalPsk

@@ -42,7 +42,7 @@ use Rattle.tag_book.specs.declared.book.Use.TheVariants.{Accepted, Made}
 
 module _ (setup : Setup) (last : WorldNow) (ps : List OfPeer) (ss : List OfServer) (all : AllKnown setup last ps ss) where
   -- one in SUCCESS by EAP-PSK has accepted PSK-4
-  psk4_in : (s : OfServer) → ServerKnown setup.server s → is_success s.now.vars.state ≡ true → s.now.vars.current ≡ Some psk_kind
+  pub psk4_in : (s : OfServer) → ServerKnown setup.server s → is_success s.now.vars.state ≡ true → s.now.vars.current ≡ Some psk_kind
       → HasPsk4 (server_nonce s) s.accepted
   psk4_in s known s_in by_psk = of_success (known.stands.sure s_in)
     where
@@ -101,7 +101,7 @@ module _ (setup : Setup) (last : WorldNow) (ps : List OfPeer) (ss : List OfServe
   -- ---- by EAP-PSK the login of that peer has succeeded
 
   -- one of the server in SUCCESS by EAP-PSK has accepted a PSK-4 that says DONE_SUCCESS
-  record HasConfirmed (s : OfServer) : Type 0 where
+  pub record HasConfirmed (s : OfServer) : Type 0 where
     pub login : psk_server.Login
     pub header : List ℕ
     pub sealed : ℕ
@@ -126,7 +126,7 @@ module _ (setup : Setup) (last : WorldNow) (ps : List OfPeer) (ss : List OfServe
     r_came = r_came refl;
   }
 
-  confirmed : (s : OfServer) → ServerKnown setup.server s → is_success s.now.vars.state ≡ true → s.now.vars.current ≡ Some psk_kind → HasConfirmed s
+  pub confirmed : (s : OfServer) → ServerKnown setup.server s → is_success s.now.vars.state ≡ true → s.now.vars.current ≡ Some psk_kind → HasConfirmed s
   confirmed s known s_in by_psk = of_success (known.stands.sure s_in)
     where
       of_success : ServerHasSucceeded s.now.vars.current s.now.views → HasConfirmed s
@@ -136,6 +136,18 @@ module _ (setup : Setup) (last : WorldNow) (ps : List OfPeer) (ss : List OfServe
           known.stands.tags)
       of_success (gpsk_server_succeeded login is_current in_view) = apart s.now.vars.current gpsk_kind psk_kind refl is_current by_psk
 
+  -- what it has confirmed is the login of the one that made that PSK-4, and on which it rests
+  pub confirm_from : (s : OfServer) → IsOneOf s ss → (c : HasConfirmed s) → (p : OfPeer) → IsOneOf p ps → RestsOn s.accepted p.made
+      → IsIn (psk4_record_of c.login c.header c.sealed) p.made → peer_reports p.now ≡ peer_login p.now.vars.selected p.now.views
+  confirm_from s s_is c p p_is rests made =
+      let known = all.peers p p_is in
+      let by = peer_made_by_psk (peers.setup_with_nonce setup.peer (peer_nonce p)) p.now.vars.selected p.now.views p.accepted p.made _ known.stands.tags made refl in
+      let won = logins.confirms (peers.setup_with_nonce setup.peer (peer_nonce p)) (servers.setup_with_nonce setup.server (server_nonce s)) known.size (all.servers s s_is).size
+      c.login c.checked c.header c.sealed c.r_came p.now.views.psk p.accepted p.made by.1
+      ((first_in s.accepted p.made rests.tag rests.more rests.first rests.is_made).is _ _ c.first) made in
+      peer_reported (peers.setup_with_nonce setup.peer (peer_nonce p)) won.login won.facts p.now by.0 won.in_view
+      ∙ sym (ap (λ (o : Option ℕ). peer_login o p.now.views) by.0 ∙ ap psk_peer_login won.in_view)
+
   pub psk_servers_confirm : tags_verdict last.book ≡ Honest → last.conversations.fresh ≡ true → (s : OfServer) → IsOneOf s ss → is_success s.now.vars.state ≡ true
       → s.now.vars.current ≡ Some psk_kind → (p : OfPeer) → IsOneOf p ps → RestsOn s.accepted p.made
       → peer_reports p.now ≡ peer_login p.now.vars.selected p.now.views
@@ -143,14 +155,7 @@ module _ (setup : Setup) (last : WorldNow) (ps : List OfPeer) (ss : List OfServe
       let c = confirmed s (all.servers s s_is) s_in by_psk in
       let is : HasPsk4 (server_nonce s) s.accepted =
       record { psk = c.login.psk; header = c.header; sealed = c.sealed; tag = _; is_in = c.is_in; rand_in = c.rand_in } in
-      let known = all.peers p p_is in
-      let a = psk_back honest fresh s s_is s_in is p p_is rests in
-      let by = peer_made_by_psk (peers.setup_with_nonce setup.peer (peer_nonce p)) p.now.vars.selected p.now.views p.accepted p.made _ known.stands.tags a.made refl in
-      let won = logins.confirms (peers.setup_with_nonce setup.peer (peer_nonce p)) (servers.setup_with_nonce setup.server (server_nonce s)) known.size (all.servers s s_is).size
-      c.login c.checked c.header c.sealed c.r_came p.now.views.psk p.accepted p.made by.1
-      ((first_in s.accepted p.made rests.tag rests.more rests.first rests.is_made).is _ _ c.first) a.made in
-      peer_reported (peers.setup_with_nonce setup.peer (peer_nonce p)) won.login won.facts p.now by.0 won.in_view
-      ∙ sym (ap (λ (o : Option ℕ). peer_login o p.now.views) by.0 ∙ ap psk_peer_login won.in_view)
+      confirm_from s s_is c p p_is rests (psk_back honest fresh s s_is s_in is p p_is rests).made
 
   -- ---- by EAP-PSK a tag that came back to the peer is none of its own
 

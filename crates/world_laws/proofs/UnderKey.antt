@@ -3,9 +3,13 @@ use Rattle.std.proofs.Common.{◌≡◌, ℕ, List, ◌∷◌, true, Some, refl,
 use Rattle.std.specs.Prelude.{◌⊎◌}
 use Rattle.login_setup.specs.declared.setup.Setup.{Setup}
 use Rattle.eap_method.specs.declared.tags.TagRecord.{TagRecord}
+use Rattle.octet_lists.specs.Among.{psk_kind}
 use Rattle.eap_method.specs.Peer.{key_for}
+use Rattle.eap_method.specs.PskTags.{tek_record}
 use Rattle.peer_machine.specs.PeerTable as peers
+use Rattle.peer_machine.specs.PeerTable.{peer_reports}
 use Rattle.server_machine.specs.ServerTable as servers
+use Rattle.server_machine.specs.ServerTable.{server_reports}
 use Rattle.tag_book.specs.Book.{tags_verdict, tags_verdict_either}
 use Rattle.tag_book.specs.declared.book.End.TheVariants as end
 use Rattle.tag_book.specs.declared.book.Entry.{Entry}
@@ -13,6 +17,7 @@ use Rattle.tag_book.specs.declared.book.TagsVerdict.TheVariants.{Honest}
 use Rattle.tag_book.specs.declared.book.Use.TheVariants.{Accepted, Made}
 use Rattle.eap_world.specs.Judgement.{is_success}
 use Rattle.eap_world.specs.World.{WorldNow}
+use Rattle.world_laws.specs.ByMethod.{peer_login}
 use Rattle.world_laws.specs.EachConversation.{IsOneOf, OfPeer, OfServer, all_produced, peer_knows_nonce, peer_nonce, server_knows_nonce, server_nonce}
 use Rattle.eap_world.specs.Conversations.{front}
 use Rattle.world_laws.specs.Matching.{HaveNonces, PeerMatches, PeerRests, ReportsAgree, RestsOn, ServerMatches, ServerRests}
@@ -23,9 +28,12 @@ use Rattle.world_laws.proofs.HonestOfEither.{honest_of_either}
 use Rattle.world_laws.proofs.KeyedTags.{either_under, other_under}
 use Rattle.world_laws.proofs.Matching.{AllKnown}
 use Rattle.world_laws.proofs.Matching as matching
-use Rattle.world_laws.proofs.OneKey.{OneKey, keyed_peer, keyed_server, server_one}
+use Rattle.world_laws.proofs.OneKey.{OneKey, keyed_peer, keyed_server, peer_one, server_one}
 use Rattle.world_laws.proofs.OneLogin.{first_is_in, one_stored}
 use Rattle.world_laws.proofs.OneOf.{accepted_in, made_in}
+use Rattle.world_laws.proofs.PskAnswered.{HasAsked, HasPsk4, has_asked}
+use Rattle.world_laws.proofs.PskMatching as psk
+use Rattle.world_laws.proofs.Resting.{same_report}
 
 -- ---- the conversations
 
@@ -181,6 +189,65 @@ module _ (setup : Setup) (last : WorldNow) (ps : List OfPeer) (ss : List OfServe
       let on : RestsOn p.accepted s.made = subst (λ (t : OfServer). RestsOn p.accepted t.made) (sym same) m.rests in
       (on, matching.reports_agree setup p (all.peers p p_is) p_in s (all.servers s s_is) s_in on rests)
 
+  -- ---- one of the server in SUCCESS with a user of that key
+
+  module _ (honest : tags_verdict (under shared last.book) ≡ Honest) (fresh : last.conversations.fresh ≡ true) (s : OfServer) (s_is : IsOneOf s ss)
+      (s_in : is_success s.now.vars.state ≡ true) (of_key : IsOfKey setup shared s.now) where
+    -- by EAP-PSK the conversation of the peer that made the PSK-4 which it has accepted rests on it
+    answered_by : (is : HasPsk4 (server_nonce s) s.accepted) → (q : OfPeer) → IsOneOf q ps
+        → IsIn (tek_record is.psk 1 is.header is.sealed is.tag) q.made → HasAsked (peer_nonce q) (front (server_nonce s)) (peer_knows_nonce q) q.accepted
+        → RestsOn q.accepted s.made × (server_knows_nonce s ≡ Some (front (peer_nonce q)))
+    answered_by is q q_is made h =
+        let one = peer_one (peers.setup_with_nonce setup.peer (peer_nonce q)) q.now.vars.selected q.now.views q.accepted q.made (all.peers q q_is).stands.tags in
+        let its : (t : TagRecord) → IsIn t q.accepted → t.psk ≡ shared =
+        λ t there. one.of_accepted t there ∙ (sym (one.of_created _ made) ∙ of_user s s_is s_in of_key _ is.is_in) in
+        let r = matching.rests_on setup last ps ss all q q_is h.asks
+        (matching.by_server setup last ps ss all h.asks.tag
+        (other_under shared last.book end.Peer honest h.asks.tag (its h.asks.tag (first_is_in h.asks.tag h.asks.rest q.accepted h.asks.first))
+        (matching.listed_peer setup last ps ss all q q_is h.asks))) in
+        let keyed = keyed_by_made setup last ps ss all shared r.on r.is_one r.rests.tag r.rests.is_made
+        (its r.rests.tag (first_is_in r.rests.tag r.rests.more q.accepted r.rests.first)) in
+        let b = back_on setup last ps ss all shared (either_under shared last.book end.Server (other_too shared last.book honest)) fresh q q_is
+        r.on r.is_one keyed r.rand_p in
+        let same = matching.the_same_server setup last ps ss all fresh r.on s r.is_one s_is (one_stored (peer_knows_nonce q) _ _ b.hold.rand_s h.holds) in
+        (subst (λ (t : OfServer). RestsOn q.accepted t.made) same r.rests, subst (λ (t : OfServer). server_knows_nonce t ≡ Some (front (peer_nonce q))) same r.rand_p)
+
+    answered_back : (is : HasPsk4 (server_nonce s) s.accepted) → (p : OfPeer) → IsOneOf p ps → RestsOn s.accepted p.made
+        → RestsOn p.accepted s.made × IsIn (tek_record is.psk 1 is.header is.sealed is.tag) p.made
+    answered_back is p p_is rests =
+        let listed : IsIn (tek_record is.psk 1 is.header is.sealed is.tag) (tags_by end.Server Accepted last.book) =
+        subst (λ (l : List TagRecord). IsIn (tek_record is.psk 1 is.header is.sealed is.tag) l) (sym all.are.server_accepted) (accepted_in _ s ss s_is is.is_in) in
+        let made = subst (λ (l : List TagRecord). IsIn (tek_record is.psk 1 is.header is.sealed is.tag) l) all.are.initial_peer
+        (other_under shared last.book end.Server honest _ (of_user s s_is s_in of_key _ is.is_in) listed) in
+        let m = made_in _ ps made in
+        let known = all.peers m.by m.is_one in
+        let h = has_asked is.psk is.header is.sealed is.tag (front (server_nonce s)) is.rand_in setup.peer (peer_nonce m.by) known.size
+        m.by.now.vars.selected m.by.now.views m.by.accepted m.by.made known.stands.tags m.is_in in
+        let a = answered_by is m.by m.is_one m.is_in h in
+        let s_known = all.servers s s_is in
+        let asking = matching.server_in setup s s_known s_in in
+        let same = matching.the_same setup last ps ss all fresh m.by p m.is_one p_is
+        (one_stored (server_knows_nonce s) _ _ a.1 asking.holds ∙ sym (matching.server_on setup s s_known s_in p (all.peers p p_is) rests).0) in
+        (subst (λ (q : OfPeer). RestsOn q.accepted s.made) same a.0,
+        subst (λ (q : OfPeer). IsIn (tek_record is.psk 1 is.header is.sealed is.tag) q.made) same m.is_in)
+
+    leads_there : (p : OfPeer) → IsOneOf p ps → RestsOn s.accepted p.made → peer_login p.now.vars.selected p.now.views ≡ server_reports s.now
+    leads_there p p_is rests =
+        let known = all.peers p p_is in
+        let s_known = all.servers s s_is in
+        same_report (peers.setup_with_nonce setup.peer (peer_nonce p)) (servers.setup_with_nonce setup.server (server_nonce s)) known.size s_known.size
+        p.now.vars.selected p.now.views p.accepted p.made known.stands.tags s.now _ _ (matching.server_won setup s s_known s_in) rests
+        (λ by_psk. (answered_back (psk.psk4_in setup last ps ss all s s_known s_in by_psk) p p_is rests).0)
+
+    confirms : s.now.vars.current ≡ Some psk_kind → (p : OfPeer) → IsOneOf p ps → RestsOn s.accepted p.made
+        → RestsOn p.accepted s.made × (peer_reports p.now ≡ server_reports s.now)
+    confirms by_psk p p_is rests =
+        let c = psk.confirmed setup last ps ss all s (all.servers s s_is) s_in by_psk in
+        let is : HasPsk4 (server_nonce s) s.accepted =
+        record { psk = c.login.psk; header = c.header; sealed = c.sealed; tag = _; is_in = c.is_in; rand_in = c.rand_in } in
+        let b = answered_back is p p_is rests in
+        (b.0, psk.confirm_from setup last ps ss all s s_is c p p_is rests b.1 ∙ leads_there p p_is rests)
+
 pub conversations_match_under : ConversationsMatchUnder
 conversations_match_under setup events kind whole =
     let all = run_known setup events whole in
@@ -188,4 +255,6 @@ conversations_match_under setup events kind whole =
       peers_match = match_peers setup _ _ _ all kind;
       servers_match = match_servers setup _ _ _ all kind;
       both_agree = agree_both setup _ _ _ all kind;
+      peers_agree = λ honest fresh s s_is s_in of_key. leads_there setup _ _ _ all kind honest fresh s s_is s_in of_key;
+      psk_servers_confirm = λ honest fresh s s_is s_in of_key. confirms setup _ _ _ all kind honest fresh s s_is s_in of_key;
     }

@@ -1,6 +1,6 @@
 -- A broken tag is a forgery: each tag in the book of a run is the right MAC of its octets, under the key that its label derives from the
 -- shared key. So a run whose book isn't honest shows octets with the right MAC, which no conversation had computed before.
-use Rattle.std.specs.Prelude.{◌≡◌, ◌⊎◌, ℕ, List, [], ◌∷◌, ◌++◌, true, Option, Some}
+use Rattle.std.specs.Prelude.{◌≡◌, ◌⊎◌, ℕ, List, [], ◌∷◌, ◌++◌, length, true, Option, Some}
 use Rattle.login_setup.specs.declared.event.Event.{Event}
 use Rattle.login_setup.specs.declared.setup.PeerSetup.{PeerSetup}
 use Rattle.login_setup.specs.declared.setup.ServerSetup.{ServerSetup}
@@ -24,7 +24,7 @@ use Rattle.tag_book.specs.Book.{first_broken, may_make, verdict_on}
 use Rattle.tag_book.specs.declared.book.End.TheVariants as end
 use Rattle.tag_book.specs.declared.book.Entry.{Entry}
 use Rattle.tag_book.specs.declared.book.RecordOwner.{RecordOwner}
-use Rattle.tag_book.specs.declared.book.RecordOwner.TheVariants.{Other}
+use Rattle.tag_book.specs.declared.book.RecordOwner.TheVariants.{Either, Other}
 use Rattle.tag_book.specs.declared.book.TagsVerdict.TheVariants.{Broken, Honest}
 use Rattle.tag_book.specs.declared.book.Use.{Use}
 use Rattle.tag_book.specs.declared.book.Use.TheVariants.{Accepted, Made}
@@ -33,14 +33,15 @@ use Rattle.eap_world.specs.declared.verdict.Verdict.TheVariants.{Agree}
 use Rattle.eap_world.specs.Judgement.{is_success, verdict_of}
 use Rattle.eap_world.specs.Run.{run_of}
 use Rattle.eap_world.specs.World.{WorldNow}
-use Rattle.world_laws.specs.Agreement.{AreApart, IsWhole}
+use Rattle.world_laws.specs.Agreement.{AgreeAnew, AreApart, IsWhole}
 use Rattle.world_laws.specs.ByMethod.{peer_login, server_login}
 use Rattle.world_laws.specs.EachConversation.{Conversation, IsOneOf, OfPeer, OfServer, peer_conversations, peer_nonce, server_conversations, server_nonce}
 use Rattle.world_laws.specs.GpskPeerInvariant.{gpsk_whole_rand_s}
 use Rattle.world_laws.specs.GpskServerInvariant.{gpsk_whole_rand_p_in}
 use Rattle.world_laws.specs.PskServerInvariant.{psk_rand_p_in}
 use Rattle.world_laws.specs.Records.{IsIn}
-use Rattle.world_laws.specs.UnderKey.{under}
+use Rattle.world_laws.specs.PresentUnderKey.{AgreeOnTheirs, SucceedBy}
+use Rattle.world_laws.specs.UnderKey.{IsOfKey, under}
 
 -- from what the keys of a login derive: by EAP-PSK the PSK and RAND_P (RFC 4764 section 3); by EAP-GPSK CSuite_Sel, the PSK,
 -- RAND_Peer, ID_Peer, RAND_Server and ID_Server (RFC 5433 section 4)
@@ -139,6 +140,16 @@ pub record AgreesOrForged (setup : Setup) (w : WorldNow) (peers : List OfPeer) (
   pub keyed : (makers : RecordOwner) (key : List ℕ) → HonestOrForged setup peers servers makers (under key w.book)
   pub agrees : AreApart w.conversations → is_success w.parties.peer.vars.state ≡ true → is_success w.parties.server.vars.state ≡ true
       → (verdict_of w ≡ Agree) ⊎ Forgery setup peers servers Other w.book
+  -- of one user, whatever the server's other users do: so it is of the tags under the peer's key alone
+  pub agrees_under : (kind : ℕ) → AreApart w.conversations → SucceedBy kind w → IsOfKey setup (key_for setup.peer kind) w.parties.server
+      → AgreeOnTheirs setup w ⊎ Forgery setup peers servers Other (under (key_for setup.peer kind) w.book)
+  -- as long as no end has begun a second conversation, and by EAP-PSK with fresh nonces, neither end had computed the tag: one that came
+  -- back to its maker is no forgery
+  pub reflected_agrees : (kind : ℕ) → length w.conversations.begun ≡ 2 → SucceedBy kind w → IsOfKey setup (key_for setup.peer kind) w.parties.server
+      → AgreeOnTheirs setup w ⊎ Forgery setup peers servers Either (under (key_for setup.peer kind) w.book)
+  pub reflected_anew : (kind : ℕ) → kind ≡ psk_kind → w.conversations.fresh ≡ true → SucceedBy kind w
+      → IsOfKey setup (key_for setup.peer kind) w.parties.server
+      → AgreeAnew setup w ⊎ Forgery setup peers servers Either (under (key_for setup.peer kind) w.book)
 
 abbrev pub AgreeOrForged : Type 0
 AgreeOrForged = (setup : Setup) (events : List Event) → IsWhole setup

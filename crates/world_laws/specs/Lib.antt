@@ -23,3 +23,4 @@ pub mod SessionIds
 pub mod Passing
 pub mod Forgery
 pub mod Downgrade
+pub mod UnconditionalPsk

@@ -7,7 +7,9 @@ use Rattle.login_setup.specs.declared.users.User.{User}
 use Rattle.login_setup.specs.declared.event.Event.{Event}
 use Rattle.login_setup.specs.Users.{user_of}
 use Rattle.eap_method.specs.declared.values.Report.{Report}
+use Rattle.octet_lists.specs.Among.{psk_kind}
 use Rattle.eap_method.specs.Peer.{key_for}
+use Rattle.peer_machine.specs.PeerTable.{peer_reports}
 use Rattle.server_machine.specs.ServerTable.{ServerNow, server_reports}
 use Rattle.tag_book.specs.declared.book.Entry.{Entry}
 use Rattle.tag_book.specs.declared.book.TagsVerdict.TheVariants.{Honest}
@@ -16,6 +18,7 @@ use Rattle.eap_world.specs.Judgement.{is_success}
 use Rattle.eap_world.specs.Run.{run_of}
 use Rattle.eap_world.specs.World.{WorldNow}
 use Rattle.world_laws.specs.Agreement.{IsWhole}
+use Rattle.world_laws.specs.ByMethod.{peer_login}
 use Rattle.world_laws.specs.EachConversation.{IsOneOf, OfPeer, OfServer, peer_conversations, server_conversations}
 use Rattle.world_laws.specs.Matching.{PeerMatches, ReportsAgree, RestsOn, ServerMatches}
 
@@ -42,6 +45,15 @@ pub record MatchUnder (setup : Setup) (kind : ℕ) (w : WorldNow) (peers : List 
       → (p : OfPeer) → IsOneOf p peers → is_success p.now.vars.state ≡ true → p.now.vars.selected ≡ Some kind
       → (s : OfServer) → IsOneOf s servers → is_success s.now.vars.state ≡ true
       → RestsOn s.accepted p.made → RestsOn p.accepted s.made × ReportsAgree p s
+  -- the login of the one of the peer on which one of the server in SUCCESS rests leads to just what that reports
+  pub peers_agree : tags_verdict (under (key_for setup.peer kind) w.book) ≡ Honest → w.conversations.fresh ≡ true
+      → (s : OfServer) → IsOneOf s servers → is_success s.now.vars.state ≡ true → IsOfKey setup (key_for setup.peer kind) s.now
+      → (p : OfPeer) → IsOneOf p peers → RestsOn s.accepted p.made → peer_login p.now.vars.selected p.now.views ≡ server_reports s.now
+  -- by EAP-PSK that login has succeeded: it rests on this one of the server, and reports just what that does
+  pub psk_servers_confirm : tags_verdict (under (key_for setup.peer kind) w.book) ≡ Honest → w.conversations.fresh ≡ true
+      → (s : OfServer) → IsOneOf s servers → is_success s.now.vars.state ≡ true → IsOfKey setup (key_for setup.peer kind) s.now
+      → s.now.vars.current ≡ Some psk_kind → (p : OfPeer) → IsOneOf p peers → RestsOn s.accepted p.made
+      → RestsOn p.accepted s.made × (peer_reports p.now ≡ server_reports s.now)
 
 abbrev pub ConversationsMatchUnder : Type 0
 ConversationsMatchUnder =

@@ -13,6 +13,7 @@ ghost use Rattle.world_laws.specs.PresentUnderKey.{EndsAgreeUnder, OneEndImplies
 ghost use Rattle.world_laws.specs.PskReflected.{ReflectedEndsAgree};
 ghost use Rattle.world_laws.specs.SessionIds.{SessionIdsMatch};
 ghost use Rattle.world_laws.specs.SingleSteps.{StepsAreLawful};
+ghost use Rattle.world_laws.specs.UnconditionalPsk.{PskSuccessIsUnconditional};
 ghost use Rattle.world_laws.specs.UnderKey.{ConversationsMatchUnder, HonestUnder};
 
 /// An event that an end discards changes nothing but the counts and which of the nonces that are left have been seen in
@@ -253,4 +254,10 @@ pub fn downgrades_need_naks()
 /// Request of a Type that the peer doesn't allow: by its plain form, if the peer reads Expanded Types (RFC 3748 section 5.7).
 pub fn naks_refuse()
     ensures { NaksRefuse }
+{}
+
+/// In every run a peer whose decision by EAP-PSK isn't FAIL has decided for a success that nothing can undo: methodState DONE,
+/// decision UNCOND_SUCC (RFC 4137 section 4.2). So what `unconditional_success_stays` of `peer_machine` says holds of it.
+pub fn psk_success_is_unconditional()
+    ensures { PskSuccessIsUnconditional }
 {}
