@@ -504,7 +504,7 @@ static size_t other_size(void)
 static const struct tuv_settings *handed(const struct tuv_settings *s)
 {
 	size_t size = s->size > SETTINGS_MOST || s->size < sizeof(s->size)
-		? sizeof(s->size) : (s->size + 7) / 8 * 8;
+		? sizeof(s->size) : (s->size + sizeof(size) - 1) / sizeof(size) * sizeof(size);
 	uint8_t *at = memset(guarded(&passing, size), 0, size);
 
 	memcpy(at, s, size < sizeof(*s) ? size : sizeof(*s));

@@ -13,7 +13,7 @@ enum role { CLOSED, A_PEER, A_SERVER, A_BACKEND, A_PASS, A_PEER_METHOD,
 
 /* What the header says of `size` of settings: the first struct's, and what is read
  * at most. */
-enum { SETTINGS_FIRST = 80, SETTINGS_MOST = 4096 };
+enum { SETTINGS_FIRST = sizeof(void *) == 8 ? 80 : 44, SETTINGS_MOST = 4096 };
 
 struct packet {
 	uint8_t octets[TUV_PACKET_MAX + 4];

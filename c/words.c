@@ -2,14 +2,14 @@
  * structs. */
 #include "tuvaddri.h"
 
-#if UINTPTR_MAX != UINT64_MAX
-#error "The library is built for 64 bits alone."
-#endif
-
+#if UINTPTR_MAX == UINT64_MAX	/* (else border.c and narrow.c) */
 _Static_assert(sizeof(struct tuv_settings) == 80, "size of the settings");
 _Static_assert(offsetof(struct tuv_settings, methods) == 72, "their octets");
 _Static_assert(sizeof(struct tuv_report) == 712, "size of the report");
 _Static_assert(offsetof(struct tuv_report, server_rand) == 679, "its octets");
+#elif UINTPTR_MAX != UINT32_MAX
+#error "The library is built for 64 and 32 bits alone."
+#endif
 _Static_assert(sizeof(struct tuv_turn) == 5, "size of a turn");
 _Static_assert(sizeof(struct tuv_method_turn) == 6, "size of a method's turn");
 _Static_assert(sizeof(struct tuv_failure) == 2, "size of a failure");
