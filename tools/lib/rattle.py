@@ -134,6 +134,8 @@ def members_in(blank: str, block: Block) -> Iterator[Tuple[str, int, int]]:
 def types_in(blank: str) -> Iterator[Tuple[str, int, int]]:
     """The types and constants outside of blocks: their names, and where they begin and end."""
     for it in TYPE.finditer(blank):
-        at = first_of(";{=", blank, it.end())
+        # (a parameter of a type may have a default behind a sign of equality)
+        begin = end_of(re.sub("[-=]>", "  ", blank), it.end(), "<>") if blank[it.end() : it.end() + 1] == "<" else it.end()
+        at = first_of(";{=", blank, begin)
         end = end_of(blank, at) if blank[at : at + 1] == "{" else first_of(";", blank, at, WITH_BRACES) + 1
         yield it[2], it.start(), end
