@@ -6,21 +6,95 @@ import re
 import textwrap
 from typing import Iterator, Optional
 
-from lib.sources import Call, Repository
+from lib import rattle
+from lib.common import Refused
+from lib.sources import Call, Item, Repository, exports_of
+
+# A proved function above the crate that a reader looks at first.
+CALLERS: dict[str, str] = {}
 
 LEAST, MOST = 5, 15
 
 
 def sentence_of(comment: str) -> str:
     """The first sentence of a comment, without links."""
-    text = re.sub(r"\[(`[^`]*`)\](?:\([^)]*\))?", r"\1", comment)
-    return re.split(r"(?<=[^.][.])\s+(?=[A-Z`])", text.strip(), maxsplit=1)[0]
+    return re.split(r"(?<=[^.][.])\s+(?=[A-Z`])", without_links(comment), maxsplit=1)[0]
+
+
+def without_links(comment: str) -> str:
+    return re.sub(r"\[(`[^`]*`)\](?:\([^)]*\))?", r"\1", comment).strip()
 
 
 def calls_of(repository: Repository, crate: str) -> list[Call]:
     """What a crate gives to others; a call that is written for a trait is the trait's, and stands there."""
     return sorted((it for it in repository.exported if it.crate == crate and not (it.of_trait and not it.comment)),
                   key=lambda it: (it.file, it.line))
+
+
+def types_of(repository: Repository, crate: str) -> list[Item]:
+    """The types, traits and constants that a crate gives to others, in the order of its files."""
+    names = exports_of(repository.sources.get(f"crates/{crate}/src/lib.rt"))
+    found = {(it.file, it.name): it for (of, name), items in repository.of.items() if of == crate and name in names
+             for it in items if it.file.endswith(".rt") and not isinstance(it, Call) and is_declared(repository, it)}
+    return sorted(found.values(), key=lambda it: (it.file, it.line))
+
+
+def is_declared(repository: Repository, item: Item) -> bool:
+    return bool(re.match(r"pub (struct|enum|type|const|static|trait)\b", head_line(repository, item)))
+
+
+def head_line(repository: Repository, item: Item) -> str:
+    """The line of a type's or a trait's name."""
+    lines = repository.sources[item.file].lines
+    return next((lines[it - 1] for it in sorted(item.lines) if not re.match(r"\s*(//|#\[)", lines[it - 1])), "")
+
+
+def declaration_of(repository: Repository, item: Item) -> list[str]:
+    """A type as its source declares it: what is said of it, its derives, its open fields or its variants; a trait without its
+    calls."""
+    source, head = repository.sources[item.file], head_line(repository, item)
+    if head.startswith("pub trait"):
+        return [source.lines[it - 1] for it in sorted(item.lines)] + ["    ..", "}"]
+    begin, end = next(it[1:] for it in rattle.types_in(rattle.blanked(source.text)) if it[0] == item.name)
+    kept: list[str] = []
+    for line in (source.lines[it - 1] for it in sorted(source.lines_at(begin, end))):
+        if head.startswith("pub struct") and re.match(r"    (?:pub\(crate\) )?\w+: ", line):
+            while re.match(r"    (///|#\[)", kept[-1]):
+                kept.pop()
+        else:
+            kept.append(line)
+    if kept[-1] == "}" and kept[-2].endswith("{"):
+        kept[-2:] = [kept[-2] + " .. }"]
+    return kept
+
+
+def links_of(repository: Repository, call: Call) -> str:
+    """The definitions that a call's clauses name, each with its place."""
+    words = set(re.findall(r"[\w'◌-]+", " ".join(it.text for it in call.contract.clauses)))
+    items = [it for it in repository.named_by(call.contract)[0] if it.file.endswith(".antt") and it.name in words]
+    found = {it.name: place_of(repository, call.crate, it) for it in sorted(items, key=lambda it: it.name)}
+    return ", ".join(f"[`{name}`]({place})" for name, place in found.items())
+
+
+def place_of(repository: Repository, crate: str, item: Item) -> str:
+    """Where the name of a definition stands, from the page of a crate."""
+    lines, front = repository.sources[item.file].lines, "" if item.crate == crate else f"../{item.crate}/"
+    line = next(it for it in sorted(item.lines) if not lines[it - 1].lstrip().startswith("--"))
+    return f"{front}{item.file.split('/', 2)[2]}#L{line}"
+
+
+def signature_of(call: Call) -> Iterator[str]:
+    """A call's signature and its clauses."""
+    yield from textwrap.dedent("\n".join(call.front.rstrip().splitlines())).splitlines()
+    yield from (f"    {it.text}" for it in call.contract.clauses)
+
+
+def entry_of(repository: Repository, call: Call) -> Iterator[str]:
+    yield from ("", f"### `{call.name}`", "", without_links(call.comment or call.contract.comment), "", "```rust")
+    yield from signature_of(call)
+    yield "```"
+    if links := links_of(repository, call):
+        yield from ("", f"Definitions: {links}.")
 
 
 def used_by(caller: Call, calls: list[Call], types: set[str]) -> set[Call]:
@@ -38,32 +112,47 @@ def used_by(caller: Call, calls: list[Call], types: set[str]) -> set[Call]:
 
 
 def caller_of(repository: Repository, crate: str) -> Optional[Call]:
-    """A proved function of 5 to 15 lines that uses the crate: of those that use most of its calls the shortest."""
+    """A proved function that uses the crate: the one that is named for it; else, of those above it that have 5 to 15 lines and
+    use most of its calls, the shortest."""
+    if name := CALLERS.get(crate):
+        found = next((it for it in repository.calls if it.place == name), None)
+        if found is None:
+            raise Refused(f"the caller of {crate}, {name}, isn't there")
+        return found
     calls, above = calls_of(repository, crate), repository.above(crate)
     types = {it.owner for it in calls if it.owner}
-    found = [(-len(made), it.code.count("\n"), it.place, it) for it in repository.calls
-             if it.crate in above and LEAST <= it.code.count("\n") + 1 <= MOST and not it.is_empty
-             if (made := used_by(it, calls, types))]
-    return min(found, key=lambda it: it[:3])[3] if found else None
+    rows = [(-len(made), it.code.count("\n"), it.place, it) for it in repository.calls
+            if it.crate in above and LEAST <= it.code.count("\n") + 1 <= MOST and not it.is_empty
+            if (made := used_by(it, calls, types))]
+    return min(rows, key=lambda it: it[:3])[3] if rows else None
+
+
+def passed_on(repository: Repository, crate: str) -> dict[str, list[str]]:
+    """The names that a crate gives on from those below it, by crate."""
+    source = repository.sources.get(f"crates/{crate}/src/lib.rt")
+    found = re.findall(r"^pub use (\w+)::(?:\{([^}]*)\}|(\w+));", source.text, re.M) if source else []
+    return {of: re.findall(r"\w+", names or name) for of, names, name in found if of in repository.crates}
 
 
 def page_of(repository: Repository, crate: str) -> Iterator[str]:
     yield from (f"# {crate}", "", repository.heading(crate), "")
     below, above = repository.below[crate], repository.above(crate)
     yield f"Built on: {', '.join(below) or 'the kit alone'}. Used by: {', '.join(above) or 'none'}."
+    if names := passed_on(repository, crate):
+        facade = "" if calls_of(repository, crate) else " It is a facade: no crate here stands on it but its test."
+        yield from ("", "## What it re-exports", "", *([facade.strip(), ""] if facade else []))
+        yield from (f"- of [{of}](../{of}/README.md): {', '.join(f'`{it}`' for it in given)}" for of, given in names.items())
     caller = caller_of(repository, crate)
     if caller:
         head, _, rest = caller.code.partition("\n")
-        yield from ("", f"## A caller: `{caller.place}`", "", "```rust", head, textwrap.dedent(rest), "```")
-    calls = calls_of(repository, crate)
-    if any(not it.is_law for it in calls):
-        yield from ("", "## Its calls", "")
-    for it in [it for it in calls if not it.is_law]:
-        names = [one.name for one in it.contract.clauses if one.kind == "ensures" and one.name]
-        asks = [one.text for one in it.contract.clauses if one.kind == "requires"]
-        asked = f" It {', '.join(f'`{text}`' for text in asks)}." if asks else ""
-        ensures = f" *Ensures {', '.join(names)}.*" if names else ""
-        yield f"- `{it.name}`: {sentence_of(it.comment or it.contract.comment)}{asked}{ensures}"
-    laws = [it for it in calls if it.is_law]
-    if laws:
-        yield from ("", "## Its laws", "", *(f"- `{it.name}`: {sentence_of(it.comment)}" for it in laws))
+        yield from ("", f"## A caller: `{caller.place}`", "", "```rust", head.strip(), textwrap.dedent(rest), "```")
+    types, calls = types_of(repository, crate), calls_of(repository, crate)
+    if types:
+        yield from ("", "## Its types", "", "```rust")
+        yield "\n\n".join("\n".join(declaration_of(repository, it)) for it in types)
+        yield "```"
+    for head, entries in (("Its calls", [it for it in calls if not it.is_law]), ("Its laws", [it for it in calls if it.is_law])):
+        if entries:
+            yield from ("", f"## {head}")
+        for it in entries:
+            yield from entry_of(repository, it)
