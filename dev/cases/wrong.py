@@ -15,17 +15,18 @@ from unittest import mock
 
 from cases.lib.small import Run, Small, holds, texts_of
 
-CODE, EDIT = "crates/small/src/lib.rt", "wrong/small/double__is_0.edit"
+CODE, EDIT, OTHER = "crates/small/src/lib.rt", "wrong/small/double__is_0.edit", "wrong/top/four__is_2.edit"
 
 
 def case_tries(run: Run) -> Iterator[Optional[str]]:
     """An edit counts as refused where a clause refused it, and rt came to its end over sources that stayed; a row is of the
-    sources that it was tried on; one that is stopped leaves nothing."""
+    sources that it was tried on, and of what the crates below give; one that is stopped leaves nothing."""
     with tempfile.TemporaryDirectory() as folder, tempfile.TemporaryDirectory() as rooms, mock.patch.dict(os.environ):
         os.makedirs(f"{folder}/bin")
         shutil.copy("dev/cases/rt", f"{folder}/bin/rt")
         os.environ["PATH"] = f"{folder}/bin:{os.environ['PATH']}"
-        small = Small(f"{folder}/small", texts_of("dev/cases/small.texts"))
+        texts = {**texts_of("dev/cases/small.texts"), OTHER: "file: src/lib.rt\nold: double(2)\nnew: double(1)\n"}
+        small = Small(f"{folder}/small", texts)
 
         def tells(wanted: int, words: str, line: str, **changes: str) -> Optional[str]:
             """With these words it ends with this status and writes this line."""
@@ -34,20 +35,27 @@ def case_tries(run: Run) -> Iterator[Optional[str]]:
             return holds(status == wanted and line in (out + errors).splitlines(), f"{words} ends with {status}: {out}{errors}")
 
         yield tells(0, "wrong small", "dev/wrong: small: 1 of 1 refused")
-        yield tells(0, "wrong small", "wrong: 1 passed, 0 failed")
-        yield tells(0, "wrong status", "edits: 1 of 1 tried on today's sources")
+        yield tells(1, "wrong status", "edits refused on today's sources: 1 passed, 1 failed")
+        yield tells(0, "wrong", "wrong: 2 passed, 0 failed")
+        yield tells(0, "wrong status", "edits refused on today's sources: 2 passed, 0 failed")
         yield tells(0, "wrong --stale", "wrong: 0 passed, 0 failed")
         small.turn(CODE, "", "// on a comment no refusal rests\n")
         yield tells(0, "wrong --stale", "wrong: 0 passed, 0 failed")
-        small.turn(CODE, "", "\n")
-        yield tells(0, "wrong status", "edits: 0 of 1 tried on today's sources")
-        yield tells(0, "wrong --stale", "wrong: 1 passed, 0 failed")
+        for old, new, words in ((r"^    1$", "    2 - 1", "small"), ("n ≤ 5", "n ≤ 4", "small top"), ("pub fn one", "pub fn single", "small top")):
+            small.turn(CODE, old, new)
+            stale = words.count(" ") + 1
+            yield tells(1, "wrong status", f"edits refused on today's sources: {2 - stale} passed, {stale} failed")
+            yield tells(0, "wrong --stale", f"wrong: {stale} passed, 0 failed")
+        small.write(OTHER, small.texts[OTHER].replace("double(1)", "double(3)"))
+        yield tells(1, "wrong status", "edits refused on today's sources: 1 passed, 1 failed")
+        small.again()
+        os.remove(small.root / OTHER)
         yield tells(1, "wrong", "dev/wrong: small/double__is_0.edit: it was not tried", STOPS="yes")
         yield tells(1, "wrong", "dev/wrong: small: a source changed meanwhile", CHANGES=str(small.root / CODE))
         for kind in ("by_name", "by_limit", "is_bad", "is_untried", "is_proved"):
             small.write(f"wrong/small/double__{kind}.edit", small.texts[EDIT])
         yield tells(1, "wrong", "wrong: 1 passed, 5 failed")
-        for it in ("dev/wrong", "tools/lib/common.py", "tools/lib/crates.py"):
+        for it in ("dev/wrong", *(f"tools/lib/{it}.py" for it in ("common", "crates", "promises", "rattle", "sources"))):
             small.write(it, Path(it).read_text())
         working = subprocess.Popen([sys.executable, "-B", small.root / "dev/wrong"], env={**os.environ, "TMPDIR": rooms, "SLEEPS": "yes"},
                                    stdin=subprocess.DEVNULL, stdout=subprocess.DEVNULL, stderr=subprocess.DEVNULL)

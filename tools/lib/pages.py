@@ -18,6 +18,9 @@ SECONDS = 300
 ENDS = ("rt", "antt", "md", "py", "sh", "c", "h", "awk", "edit", "txt", "svg", "hex", "cases", "commands",
         "capture", "scenario", "trace", "findings", "replies", "settings", "1")
 
+# What dev/make-docs writes into a page.
+MADE = re.compile(r"(?ms)^<!-- made: .*?^<!-- end of made -->")
+
 # Names in code, with commas between them.
 RUN = r"`[^`]*`(?:, `[^`]*`)*"
 

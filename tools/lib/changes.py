@@ -1,0 +1,82 @@
+"""What has another text than at a commit: of the crates, of the pages, of tests and cases."""
+
+from __future__ import annotations
+
+import io
+import re
+import subprocess
+import tarfile
+from typing import Iterator
+
+from lib import pages
+from lib.common import ROOT, Refused, said_by
+from lib.promises import Key, others_in, pieces_of
+from lib.sources import Call, Repository, Source
+
+# The texts by their places. (the pages of crates are made of what is listed here)
+Texts = dict[str, str]
+READ = re.compile(r"crates\.txt|crates/\w+/(src|specs)/.*\.(rt|antt)|(?!crates/\w+/).*\.md|(.*/)?cases/[\w-]+\.(cases|py|sh)")
+# Of these one that is new changes nothing that was said.
+MORE = ("test", "case", "import")
+
+
+def texts_here() -> Texts:
+    names = said_by("git", "ls-files", "-co", "--exclude-standard").splitlines()
+    return {it: (ROOT / it).read_text() for it in names if READ.fullmatch(it) and (ROOT / it).is_file()}
+
+
+def texts_at(commit: str) -> Texts:
+    done = subprocess.run(["git", "archive", commit], cwd=ROOT, stdout=subprocess.PIPE, stderr=subprocess.PIPE)
+    if done.returncode:
+        raise Refused(f"git can't show what stood at {commit}: {done.stderr.decode().strip()}")
+    with tarfile.open(fileobj=io.BytesIO(done.stdout)) as kept:
+        return {it.name: found.read().decode() for it in kept.getmembers() if it.isfile() and READ.fullmatch(it.name)
+                for found in [kept.extractfile(it)] if found}
+
+
+def pieces(texts: Texts) -> dict[Key, str]:
+    """What is read, by its kind and place."""
+    repository = Repository(texts)
+    found: dict[Key, str] = {}
+    for source in repository.sources.values():
+        parts = tests_in(source) if source.crate.endswith("_tests") else pieces_of(repository, source)
+        for key, text in parts.items():
+            found[key] = found.get(key, "") + text
+    for place, text in texts.items():
+        if place.endswith(".md"):
+            for sentence in sentences(text):
+                key = ("sentence", f"{place}: {sentence[:60]}")
+                found[key] = found.get(key, "") + sentence
+        elif not place.startswith("crates"):
+            found.update(cases_in(place, text))
+    return found
+
+
+def tests_in(source: Source) -> dict[Key, str]:
+    """The functions of a crate of tests, with what stands above them, and its texts and types."""
+    calls = {it.place: "\n".join(source.lines[at - 1] for at in sorted(it.lines)) + it.code for it in source.items if isinstance(it, Call)}
+    others = {f"{source.crate}::{place}": source.text[begin:end] for place, begin, end in others_in(source)}
+    return {("test", place): text for place, text in {**others, **calls}.items()}
+
+
+def cases_in(place: str, text: str) -> dict[Key, str]:
+    """The cases of a file of texts, and the functions of one in Python or shell."""
+    head = r"^(?=case )" if place.endswith(".cases") else r"^(?=def |class |\w+\(\) \{)"
+    first, *others = re.split(head, text, flags=re.M)
+    return {("case", place): first, **{("case", f"{place}: {it.partition(chr(10))[0][:60]}"): it for it in others}}
+
+
+def sentences(text: str) -> Iterator[str]:
+    """The sentences and headings of a page; where a link leads says nothing."""
+    plain = re.sub(r"\]\([^)]*\)", "]", pages.MADE.sub("", text))
+    yield from (it for _, it in pages.sentences_in(plain))
+    yield from (line for _, line in pages.parts_in(plain)[0] if line.startswith("#"))
+
+
+def since(commit: str) -> Iterator[str]:
+    """What has changed since a commit, a line each."""
+    then, now = pieces(texts_at(commit)), pieces(texts_here())
+    for key in dict.fromkeys([*then, *now]):
+        was, is_now = ("".join(it.get(key, "").split()) for it in (then, now))
+        if was != is_now and (was or key[0] not in MORE):
+            yield f"{' '.join(key)} {'is new' if not was else 'is gone' if not is_now else 'has changed'}"
