@@ -492,10 +492,10 @@ static size_t other_size(void)
 {
 	switch (any(6)) {
 	case 0: return 0;
-	case 1: return among(0, SETTINGS_FIRST - 1);
+	case 1: return any(2) ? SETTINGS_FIRST - 1 : among(0, SETTINGS_FIRST - 1);
 	case 2: return among(SETTINGS_MOST + 1, UINT32_MAX - 1);
 	case 3: return SIZE_MAX;
-	default: return among(SETTINGS_FIRST, SETTINGS_MOST);
+	default: return any(4) ? among(SETTINGS_FIRST, SETTINGS_MOST) : SETTINGS_MOST;
 	}
 }
 
@@ -509,14 +509,15 @@ static const struct tuv_settings *handed(const struct tuv_settings *s)
 
 	memcpy(at, s, size < sizeof(*s) ? size : sizeof(*s));
 	if (size > sizeof(*s) && any(2))
-		at[among(sizeof(*s), s->size - 1)] = 1;
+		at[any(2) ? sizeof(*s) : among(sizeof(*s), s->size - 1)] = 1;
 	return (void *) at;
 }
 
 /* Settings of which one thing may be wrong. */
 static struct tuv_settings spoiled(struct tuv_settings s)
 {
-	switch (any(10)) {
+	switch (any(11)) {
+	case 10:
 	case 0: s.size = other_size(); break;
 	case 1: s.methods[any(2)] = any(2) ? any(256) : TUV_KIND_PSK; break;
 	case 2: s.suites[any(2)] = any(4); break;

@@ -7,8 +7,10 @@ from pathlib import Path
 from typing import Iterator, Optional
 
 from cases.lib.small import Run, holds
+from lib.cases import read
 from lib.common import answer
 from lib.macs import keyed
+from lib.texts import lines_of
 
 FIELD = re.compile(r" *\d+ (.{24,}?) ([0-9a-f]+|-)(?:  .*)?")
 NAMES = ("gpsk-suite2", "psk-login", "barred")
@@ -28,7 +30,16 @@ def changed(packet: bytes) -> Iterator[bytes]:
         yield packet[:at]
         yield packet[:at] + bytes([packet[at] ^ 1]) + packet[at + 1 :]
     yield packet + b"\0"
+    yield packet[:2] + b"\0\3" + packet[4:]
     yield packet[:2] + (len(packet) + 1).to_bytes(2, "big") + packet[4:] + b"\0"
+
+
+def at_limits() -> Iterator[bytes]:
+    """The packets of the cases of `decode`, which are at each limit, and the longest packet; what Type 254 holds isn't judged."""
+    for case in (it for path in sorted(Path("cases").glob("*.cases")) for it in read(path)):
+        if case.words == ["decode"] and case.last("=") == "0":
+            yield from (packet for _, (word, *_) in lines_of(case.input()) if (packet := bytes.fromhex(word.strip("-")))[4:5] != b"\xfe")
+    yield from (b"\2\0" + (5 + count).to_bytes(2, "big") + b"\1" + bytes(count) for count in (1495, 1496))
 
 
 def parts_of(out: str) -> Iterator[tuple[str, list[tuple[str, str]], bool]]:
@@ -43,7 +54,7 @@ def case_fields(run: Run) -> Iterator[Optional[str]]:
     """Of many packets, the fronts of those of some logins, and each with an octet changed: the octets of the fields, one behind
     the other, are the packet; and something is said to be wrong with it exactly where `decode`, whose reader is proved, takes it
     for none or for no message of its method."""
-    packets = [other for name in NAMES for packet in packets_of(name) for other in changed(packet)]
+    packets = [other for name in NAMES for packet in packets_of(name) for other in changed(packet)] + [*at_limits()]
     text = "".join(f"{packet.hex() or '-'}\n" for packet in packets)
     found = list(parts_of(run(["decode-fields"], text.encode())[1]))
     yield holds(len(found) == len(packets) > 1000, f"{len(found)} packets are told of {len(packets)}")

@@ -98,7 +98,8 @@ def files() -> Iterator[tuple[str, bytes, str, str]]:
     yield "two interfaces", wire.pcapng(at_two([*WRONG])), REFUSED + ", interfaces", key
     yield "one of two interfaces", wire.pcapng([(1, *it) for it in wrong]), REFUSED, key
     yield "snoop", wire.snoop(wrong), REFUSED, key
-    yield "monitor mode", wire.pcap([(at, wire.in_air(it)) for at, it in wrong], link=127), REFUSED, key
+    for has_qos in (False, True):
+        yield f"monitor mode, QoS {has_qos}", wire.pcap([(at, wire.in_air(it, has_qos)) for at, it in wrong], link=127), REFUSED, key
     for tags in (["81000005"], ["88a80007", "81000005"]):
         yield f"VLAN {tags}", wire.pcap([(at, wire.tagged(it, *tags)) for at, it in wrong]), REFUSED, key
     yield "padded", wire.pcap([(at, it.ljust(60, b"\0")) for at, it in wrong]), REFUSED, key
@@ -109,6 +110,10 @@ def files() -> Iterator[tuple[str, bytes, str, str]]:
     yield "RADIUS at another port", wire.pcap(framed(*wire.by_radius(WRONG[1:], port=11812))), REFUSED, key + " --port 11812"
     yield "RADIUS with -s 128", wire.pcap(framed(*wire.by_radius(WRONG[1:])), 128), "cut", key
     yield "RADIUS, another secret", wire.pcap(framed(*wire.by_radius(GOOD.whole[1:]))), "secret, good", key + " --secret x"
+    yield "RADIUS at the earlier port", wire.pcap(framed(*wire.by_radius(WRONG[1:], port=1645))), REFUSED, key
+    long = "a" * 200
+    yield "RADIUS, packets in two attributes", wire.pcap(framed(*wire.by_radius(Login(user=long.encode()).whole[1:]))), "good", (
+        f"{long} 51 {KEY.hex()}")
     asked = wire.radius(1, 0, GOOD.named)
     yield "RADIUS, refused by another Identifier", wire.pcap(framed(asked, wire.radius(3, 0, eap(4, 9)))), "at once", key
     hops = [(head, ip[:12] + ends + ip[20:]) for it in wire.by_radius(WRONG[1:]) for head, ip in [it] for ends in passed(ip[15])]

@@ -122,11 +122,12 @@ def cooked(frame: bytes, way: int = 0, interface: Optional[int] = None) -> bytes
     return frame[12:14] + bytes(2) + struct.pack(">IHBB", interface, 1, way, 6) + source + rest
 
 
-def in_air(frame: bytes) -> bytes:
-    """A frame as monitor mode has it: a radiotap header of 8 octets, data of IEEE 802.11 to or from the access point."""
+def in_air(frame: bytes, has_qos: bool = False) -> bytes:
+    """A frame as monitor mode has it: a radiotap header of 8 octets, data of IEEE 802.11 to or from the access point, of a
+    kind with two octets of QoS or without."""
     is_up = frame[6:12] == STATION
     addresses = SWITCH + STATION + SWITCH if is_up else STATION + SWITCH + SWITCH
-    return bytes.fromhex("0000080000000000") + bytes([8, 1 if is_up else 2, 0, 0]) + addresses + bytes(2) + bytes.fromhex(
+    return bytes.fromhex("0000080000000000") + bytes([0x88 if has_qos else 8, 1 if is_up else 2, 0, 0]) + addresses + bytes(4 if has_qos else 2) + bytes.fromhex(
         "aaaa03000000") + frame[12:]
 
 

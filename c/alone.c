@@ -1,0 +1,199 @@
+/* border.c, heap.c and machine.c by themselves, at each of their limits, which random
+ * calls come to or not: `c/check alone` compiles heap.c with free named alone_free. */
+
+/* A processor that lacks some of its features. */
+#ifdef __x86_64__
+#include <cpuid.h>
+
+static unsigned int lacking;
+
+static int fake_cpuid(unsigned int leaf, unsigned int part, unsigned int *a,
+		      unsigned int *b, unsigned int *c, unsigned int *d)
+{
+	int known = (__get_cpuid_count)(leaf, part, a, b, c, d);
+
+	if (leaf == 1)
+		*c = (*c | bit_SSSE3 | bit_SSE4_1 | bit_SSE4_2 | bit_POPCNT) & ~lacking;
+	return known;
+}
+
+#define __get_cpuid_count(...) fake_cpuid(__VA_ARGS__)
+#endif
+#include "machine.c"
+#include <malloc.h>
+#include <stdio.h>
+#include <stdlib.h>
+#include <sys/wait.h>
+#include <unistd.h>
+
+static int faults;
+
+static void holds(bool is_so, const char *fault)
+{
+	if (is_so)
+		return;
+	faults++;
+	printf("alone: %s\n", fault);
+}
+
+/* The heap. */
+struct block {
+	bool ok;
+	void *at;
+};
+
+struct block rattle_alloc(size_t size, size_t align);
+struct block rattle_realloc(void *at, size_t old_size, size_t size, size_t align);
+void rattle_dealloc(void *at);
+void alone_free(void *at);
+
+static unsigned int freed;
+
+void alone_free(void *at)
+{
+	size_t i, size = malloc_usable_size(at);
+
+	for (i = 0; i < size; i++)
+		holds(((uint8_t *) at)[i] == 0, "a block is given back with octets in it");
+	freed++;
+	free(at);
+}
+
+static void try_heap(size_t size, size_t next)
+{
+	struct block one = rattle_alloc(size, 1), other;
+	size_t i, same = size < next ? size : next;
+
+	freed = 0;
+	holds(one.ok && one.at, "there is no memory");
+	memset(one.at, 'k', malloc_usable_size(one.at));
+	other = rattle_realloc(one.at, size, next, 1);
+	holds(other.ok && freed == 1, "a block that moves isn't given back");
+	for (i = 0; i < same; i++)
+		holds(((uint8_t *) other.at)[i] == 'k', "a block loses octets where it moves");
+	memset(other.at, 'k', malloc_usable_size(other.at));
+	rattle_dealloc(other.at);
+	holds(freed == 2, "a block isn't given back");
+}
+
+/* Each feature by itself: what is known of a processor is kept, so each is asked in a
+ * process of its own. */
+static void try_processor(unsigned int lacks, bool serves)
+{
+	pid_t child = fork();
+	int status = 1;
+
+	if (child == 0) {
+#ifdef __x86_64__
+		lacking = lacks;
+#endif
+		holds(tuv_processor_serves() == serves, "another processor serves");
+		holds(rattle_alloc(64, 1).ok == serves, "the heap doesn't ask for the processor");
+		holds(rattle_alloc(64, 1).at != NULL, "a block stands at null");
+		fflush(stdout);
+		_exit(faults != 0);
+	}
+	waitpid(child, &status, 0);
+	holds(status == 0, "a processor is taken for another one");
+}
+
+/* The border: what comes of settings of each size, as it is handed on. */
+static struct tuv_settings handed;
+static int calls;
+
+#define PROVED(name, ...)							\
+	uint8_t proved_##name(struct tuv_end *end, __VA_ARGS__);		\
+	uint8_t proved_##name(struct tuv_end *end, __VA_ARGS__)			\
+	{									\
+		(void) end;							\
+		handed = *settings;						\
+		calls++;							\
+		return TUV_BEGUN;						\
+	}
+#define SETTINGS const struct tuv_settings *settings
+#define NONCE const uint8_t *nonce
+
+PROVED(tuv_peer_begin, SETTINGS, __attribute__((unused)) NONCE)
+PROVED(tuv_server_begin, SETTINGS, __attribute__((unused)) NONCE,
+       __attribute__((unused)) uint8_t first_id, __attribute__((unused)) uint8_t retries)
+PROVED(tuv_backend_begin, SETTINGS, __attribute__((unused)) NONCE)
+PROVED(tuv_server_user, SETTINGS)
+PROVED(tuv_peer_method_begin, SETTINGS, __attribute__((unused)) NONCE)
+PROVED(tuv_server_method_begin, SETTINGS, __attribute__((unused)) NONCE,
+       __attribute__((unused)) uint8_t id)
+PROVED(tuv_server_method_user, SETTINGS)
+
+/* The struct of version 2 ends behind `barred`, padded as a size_t; and a page is the
+ * most that is read. */
+enum { FIRST = 80, MOST = 4096 };
+
+/* A call with settings of this size, which stand at the end of a block of that size and
+ * have another octet at this place. */
+static void try_settings(size_t size, size_t at, uint8_t octet)
+{
+	static const uint8_t nonce[TUV_NONCE_LEN];
+	size_t room = size < sizeof(size) || size > MOST + 1 ? sizeof(size) : size;
+	uint8_t *octets = malloc(room);
+	struct tuv_settings wanted = { .size = sizeof(wanted) };
+	const struct tuv_settings *settings = (const void *) octets;
+	bool is_good = size >= FIRST && size <= MOST && !(octet && at >= sizeof(wanted));
+	uint8_t answers[7];
+	size_t i;
+
+	memset(octets, 0, room);
+	memcpy(octets, &size, sizeof(size));
+	if (octet)
+		octets[at] = octet;
+	memcpy((uint8_t *) &wanted + sizeof(size), octets + sizeof(size),
+	       (size < sizeof(wanted) ? room : sizeof(wanted)) - sizeof(size));
+	calls = 0;
+	memset(&handed, 'x', sizeof(handed));
+	answers[0] = tuv_peer_begin(NULL, settings, nonce);
+	answers[1] = tuv_server_begin(NULL, settings, nonce, 1, 2);
+	answers[2] = tuv_backend_begin(NULL, settings, nonce);
+	answers[3] = tuv_server_user(NULL, settings);
+	answers[4] = tuv_peer_method_begin(NULL, settings, nonce);
+	answers[5] = tuv_server_method_begin(NULL, settings, nonce, 1);
+	answers[6] = tuv_server_method_user(NULL, settings);
+	for (i = 0; i < 7; i++)
+		holds(answers[i] == (is_good ? TUV_BEGUN : TUV_OTHER_SIZE),
+		      "settings are taken or refused by another size");
+	holds(calls == (is_good ? 7 : 0), "settings that are refused are handed on");
+	holds(!is_good || !memcmp(&handed, &wanted, sizeof(wanted)),
+	      "settings are handed on otherwise than they were given");
+	free(octets);
+}
+
+static void try_border(void)
+{
+	static const size_t sizes[] = { 0, 1, 7, 8, 9, 72, 78, 79, 80, 81, 88, 96, 4088, 4095,
+					4096, 4097, UINT32_MAX, SIZE_MAX };
+	static const size_t places[] = { 8, 40, 72, 77, 79, 80, 81, 87, 88, 4087, 4094, 4095 };
+	size_t i, j;
+
+	for (i = 0; i < sizeof(sizes) / sizeof(*sizes); i++) {
+		try_settings(sizes[i], 0, 0);
+		for (j = 0; j < sizeof(places) / sizeof(*places); j++)
+			if (places[j] < sizes[i] && sizes[i] <= MOST)
+				try_settings(sizes[i], places[j], 1);
+	}
+}
+
+int main(void)
+{
+	static const size_t sizes[] = { 1, 16, 64, 4000 };
+	size_t i, j;
+
+	try_processor(0, true);
+#ifdef __x86_64__
+	try_processor(bit_SSSE3, false);
+	try_processor(bit_SSE4_1, false);
+	try_processor(bit_SSE4_2, false);
+	try_processor(bit_POPCNT, false);
+#endif
+	try_border();
+	for (i = 0; i < 4; i++)
+		for (j = 0; j < 4; j++)
+			try_heap(sizes[i], sizes[j]);
+	return faults != 0;
+}
