@@ -152,7 +152,7 @@ class End:
         elif message == ("peer", 1, 47, 0):
             self.other = given[6:22]
         elif message == ("server", 2, 47, 1):
-            self.other = given[22:38]
+            self.other, self.id_p = given[22:38], given[54 : int.from_bytes(given[2:4], "big")]
         else:
             return
         self.kind = given[4]
@@ -178,7 +178,7 @@ class End:
 
     def psk(self, kind, code, number):
         """The Type-Data of a message of EAP-PSK, by the two high bits of Flags."""
-        id_p, id_s = self.scenario.id_p, self.scenario.id_s
+        id_p, id_s = self.id_p, self.scenario.id_s
         if kind == 0:
             return bytes(1) + self.own[:16] + id_s
         nonce_p, nonce_s = (nonce[:16] for nonce in self.nonces())
