@@ -28,3 +28,7 @@ pub mod Example
 pub mod WordTables
 -- States by their columns as words.
 pub mod Columns
+-- Mixing a column can be undone.
+pub mod Unmixing
+-- Each step of an encryption can be undone.
+pub mod Differing

@@ -3,3 +3,4 @@ pub mod KeySchedule
 pub mod Cipher
 pub mod Turned
 pub mod Words
+pub mod Blocks

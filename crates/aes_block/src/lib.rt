@@ -20,7 +20,7 @@ mod tables;
 mod word_schedule;
 
 pub use by_tables::TableAes128;
-pub use inverses::inverses_are_unique;
+pub use inverses::{encryptions_are_blocks, encryptions_differ, inverses_are_unique};
 
 /// The octets of a block (FIPS 197, section 3.4).
 pub const BLOCK_LEN: usize = 16;

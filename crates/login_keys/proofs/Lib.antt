@@ -5,3 +5,5 @@ pub mod Blocks
 pub mod Examples
 -- The sizes of an EAP-GPSK ciphersuite: of a tag, and how many of them a key takes.
 pub mod GpskLaws
+-- The keys of two EAP-PSK logins differ if their RAND_P does.
+pub mod PskLaws

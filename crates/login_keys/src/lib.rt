@@ -4,9 +4,11 @@
 #![tactic(auto)]
 
 mod gpsk;
+mod laws;
 mod naming;
 mod psk;
 
 pub use gpsk::{GpskKeys, MacKey, gkdf, gpsk_keys, gpsk_tag};
+pub use laws::psk_keys_differ;
 pub use naming::key_name;
 pub use psk::{PskKeys, PskLong, psk_long, psk_session};
