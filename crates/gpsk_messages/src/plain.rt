@@ -5,7 +5,8 @@ ghost use Rattle.octet_lists.specs.Sizes.{max_packet};
 ghost use Rattle.eap_packet.specs.Packet.{value_with, has_type};
 ghost use Rattle.eap_packet.specs.Packet as packets;
 ghost use Rattle.gpsk_messages.specs.Message.{IsGpsk, message_of, size_of, spelled};
-ghost use Rattle.gpsk_messages.specs.Plain.{fields_of};
+ghost use Rattle.gpsk_messages.specs.Plain.{fields_of, plain_value};
+ghost use Rattle.gpsk_messages.specs.Reading.{read_of};
 ghost use Rattle.gpsk_messages.specs.Laws.{Refuses};
 
 use crate::reading::read_gpsk_message;
@@ -141,6 +142,7 @@ fn message_in<'a>(view: &GpskView<'a>) -> GpskMessage<'a>
 
 /// The message that the Type-Data encodes, as [`read_gpsk_message`] says.
 pub fn read_gpsk<'a>(body: &'a [u8], ks: Option<u8>) -> Result<GpskView<'a>, Cause>
+    ensures message { plain_value result ≡ read_of ks body.now }
     ensures spelled { IfOk result (λ view. IsGpsk ks (fields_of view) body.now) }
     ensures refused { IfErr result (Refuses ks body.now) }
 {

@@ -5,8 +5,9 @@ ghost use Rattle.octet_lists.specs.Sizes.{max_name};
 ghost use Rattle.eap_packet.specs.Packet.{value_with, has_type};
 ghost use Rattle.eap_packet.specs.Packet as packets;
 ghost use Rattle.eap_packet.specs.declared.cause.Cause.TheVariants.{PskShape};
-ghost use Rattle.psk_messages.specs.Message.{IsPsk, EncodesNone, identity_of, message_of, spelled};
-ghost use Rattle.psk_messages.specs.Plain.{fields_of};
+ghost use Rattle.psk_messages.specs.Message.{AreFields, IsPsk, EncodesNone, identity_of, message_of, spelled};
+ghost use Rattle.psk_messages.specs.Plain.{fields_of, plain_value};
+ghost use Rattle.psk_messages.specs.Reading.{read_of};
 
 use crate::reading::read_psk_message;
 use crate::view::{Channel, Psk1, Psk2, Psk3, Psk4, PskMessage};
@@ -116,7 +117,9 @@ fn message_in<'a>(view: &PskView<'a>) -> PskMessage<'a>
 
 /// The message that the Type-Data encodes, as [`read_psk_message`] says.
 pub fn read_psk<'a>(body: &'a [u8]) -> Result<PskView<'a>, Cause>
+    ensures message { plain_value result ≡ read_of body.now }
     ensures spelled { IfOk result (λ view. IsPsk (fields_of view) body.now) }
+    ensures fields { IfOk result (λ view. AreFields (fields_of view)) }
     ensures cause { IfErr result (λ cause. cause ≡ PskShape) }
     ensures refused { IfErr result (λ cause. EncodesNone body.now) }
 {
