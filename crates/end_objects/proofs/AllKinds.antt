@@ -8,17 +8,6 @@ use Rattle.octet_lists.specs.Among.{psk_kind, gpsk_kind, is_kind}
 use Rattle.login_setup.specs.Setup.{is_valid_for}
 use Rattle.end_objects.specs.Settings.{SettingsValue, kind_if, keyed_kinds, key_for, key_or_none}
 
--- ---- a key that fits is of one of them
-
-one_of_both : (psk gpsk short wide : Bool) → (if psk then short else (gpsk && wide)) ≡ true → (psk || gpsk) ≡ true
-one_of_both true gpsk short wide fits = refl
-one_of_both false true short wide fits = refl
-one_of_both false false short wide fits = absurd (cc fits)
-
-pub kind_of_key : (kind : ℕ) (key : List ℕ) → is_valid_for kind key ≡ true → is_kind kind ≡ true
-kind_of_key kind key fits =
-    one_of_both (kind == psk_kind) (kind == gpsk_kind) (length key == 16) (nat_le 32 (length key) && nat_le (length key) 64) fits
-
 -- ---- where each key that there is fits its method, none is longer than a key may be
 
 -- a key fits its method, if it has octets

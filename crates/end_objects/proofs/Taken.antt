@@ -15,11 +15,11 @@ use Rattle.end_objects.specs.Settings.{SettingsValue, or_else, kind_if, keyed_ki
 use Rattle.end_objects.specs.Refusals.{refuse_if, has_other_size, has_gap, has_bad_methods, has_bad_suites, is_name, has_long_other, has_keys, has_key_of_user, end_refusal, peer_refusal, server_refusal, user_refusal, IsSoundOther}
 use Rattle.eap_method.specs.Peer.{have_each}
 use Rattle.eap_method.proofs.Amongs.{each_one}
-use Rattle.end_objects.specs.Soundness.{is_sound_user}
+use Rattle.login_setup.specs.Soundness.{is_sound_user}
 use Rattle.end_objects.specs.declared.refusals.Refusal.{Refusal}
 use Rattle.end_objects.specs.declared.refusals.Refusal.TheVariants as refusal
-use Rattle.end_objects.proofs.AllKinds.{kind_of_key, both_fit, key_size}
-use Rattle.end_objects.proofs.Sound.{have_keys, have_kinds}
+use Rattle.end_objects.proofs.AllKinds.{both_fit, key_size}
+use Rattle.login_setup.proofs.Sound.{kind_of_key, have_keys, have_kinds}
 
 -- ---- tests
 

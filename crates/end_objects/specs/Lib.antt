@@ -4,5 +4,3 @@ pub mod Objects
 pub mod Refusals
 -- The settings of an end, from what a program gives.
 pub mod Settings
--- Tests of a suite, a key and a user among the settings of an end.
-pub mod Soundness

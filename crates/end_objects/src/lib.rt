@@ -5,9 +5,9 @@ mod constructors;
 mod objects;
 mod refusals;
 mod settings;
-mod soundness;
 
 pub use constructors::{peer_objects, server_objects};
+pub use login_setup::{is_sound_peer, is_sound_server};
 pub use objects::{Nonces, PeerObject, ServerObject, peer_object, server_object};
 pub use refusals::{
     Refusal, peer_refusal, retry_refusal, server_refusal, stand_alone_refusal, user_refusal,
@@ -16,4 +16,3 @@ pub use settings::{
     SETTINGS_SIZE, Settings, add_users, credential, first_kind, key_for, keyed_kinds, kinds_of,
     peer_setup, server_alone, server_side, suites_of, user_of,
 };
-pub use soundness::{is_sound_peer, is_sound_server};

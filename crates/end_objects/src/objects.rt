@@ -7,7 +7,7 @@ ghost use Rattle.eap_method.specs.Server.{server_kind};
 ghost use Rattle.end_objects.specs.Objects.{peer_object_shown, server_object_shown};
 
 use eap_method::{
-    Credential, PeerAnswer, PeerMethod, PeerTurn, Records, Report, ServerAnswer, ServerMethod,
+    Credential, NoRecords, PeerAnswer, PeerMethod, PeerTurn, Report, ServerAnswer, ServerMethod,
     ServerSide, ServerTurn, Tags,
 };
 use gpsk_ends::{GpskPeer, GpskServer};
@@ -117,18 +117,21 @@ impl PeerMethod for PeerObject {
     }
 
     fn handle_into(&mut self, request: &[u8], packet: &mut Packet, tags: &mut Tags) -> PeerAnswer {
-        self.handle_step(request, packet, tags)
+        match self {
+            PeerObject::Psk(peer) => peer.handle_into(request, packet, tags),
+            PeerObject::Gpsk(peer) => peer.handle_into(request, packet, tags),
+        }
     }
 
-    fn handle_step<R: Records>(
+    fn handle_unrecorded(
         &mut self,
         request: &[u8],
         packet: &mut Packet,
-        tags: &mut Tags<R>,
+        tags: &mut Tags<NoRecords>,
     ) -> PeerAnswer {
         match self {
-            PeerObject::Psk(peer) => peer.handle_step(request, packet, tags),
-            PeerObject::Gpsk(peer) => peer.handle_step(request, packet, tags),
+            PeerObject::Psk(peer) => peer.handle_unrecorded(request, packet, tags),
+            PeerObject::Gpsk(peer) => peer.handle_unrecorded(request, packet, tags),
         }
     }
 
@@ -243,20 +246,27 @@ impl ServerMethod for ServerObject {
         packet: &mut Packet,
         tags: &mut Tags,
     ) -> ServerAnswer {
-        self.handle_step(response, next_id, users, packet, tags)
+        match self {
+            ServerObject::Psk(server) => server.handle_into(response, next_id, users, packet, tags),
+            ServerObject::Gpsk(server) => server.handle_into(
+                response, next_id, users, packet, tags,
+            ),
+        }
     }
 
-    fn handle_step<R: Records>(
+    fn handle_unrecorded(
         &mut self,
         response: &[u8],
         next_id: u8,
         users: &Users,
         packet: &mut Packet,
-        tags: &mut Tags<R>,
+        tags: &mut Tags<NoRecords>,
     ) -> ServerAnswer {
         match self {
-            ServerObject::Psk(server) => server.handle_step(response, next_id, users, packet, tags),
-            ServerObject::Gpsk(server) => server.handle_step(
+            ServerObject::Psk(server) => server.handle_unrecorded(
+                response, next_id, users, packet, tags,
+            ),
+            ServerObject::Gpsk(server) => server.handle_unrecorded(
                 response, next_id, users, packet, tags,
             ),
         }

@@ -10,7 +10,7 @@ ghost use Rattle.end_objects.specs.Refusals.{has_other_size, has_gap, has_bad_me
 use crate::settings::{
     SETTINGS_SIZE, Settings, key_for, keyed_kinds, kinds_of, named_kinds, suites_of,
 };
-use crate::soundness::{are_kinds, are_suites, has_key_size};
+use login_setup::{are_kinds, are_suites, has_key_size};
 use octet_lists::{MAX_NAME, is_among};
 
 /// Why settings are refused. If several reasons apply, the first of them is the answer.

@@ -33,7 +33,7 @@ pub enum Port {
 }
 
 /// Which server names a peer accepts.
-#[derive(Drop)]
+#[derive(Drop, Debug)]
 pub enum Accepts {
     /// Every name.
     Any,

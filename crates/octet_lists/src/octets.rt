@@ -1,8 +1,13 @@
 //! Lists of octets that keep their octets inline and never allocate.
 
-ghost use Rattle.std.specs.Prelude.{◌≡◌, ◌≤◌, ◌<◌, ◌+◌, ◌↔◌, [], ◌∷◌, ◌++◌, length, take, IsSome, IfSome, IsTrue};
+ghost use Rattle.std.specs.Prelude.{◌≡◌, ◌≤◌, ◌<◌, ◌+◌, ◌↔◌, [], ◌∷◌, ◌++◌, length, take, IsSome, IfSome, IsTrue, Some, codes};
+ghost use Rattle.std.specs.Cmp.{partial_equiv_from_equiv};
+ghost use Rattle.std.specs.Cmp.Lexicographic.{nat_list_eq_equiv};
+ghost use Rattle.std.specs.Fmt.{decimal};
+ghost use Rattle.std.specs.Str.{bytes_eq};
 
 use arrayvec::ArrayVec;
+use std::fmt;
 use std::marker::Model;
 
 /// The most octets of the name of a peer or a server (RFC 7542 section 2.3).
@@ -164,6 +169,31 @@ impl<const N: usize> Default for Octets<N> {
         ensures { result ≡ [] }
     {
         Octets::new()
+    }
+}
+
+/// Whether both have the same octets. It may end at the first that differ, so a tag or a MAC is compared by
+/// `equal_in_full` alone.
+impl<const N: usize> PartialEq for Octets<N> {
+    ghost eq = { bytes_eq };
+
+    ghost laws = { partial_equiv_from_equiv nat_list_eq_equiv };
+
+    fn eq(&self, other: &Octets<N>) -> bool {
+        self.as_slice() == other.as_slice()
+    }
+}
+
+impl<const N: usize> Eq for Octets<N> {
+    ghost laws = { nat_list_eq_equiv };
+}
+
+/// How many octets there are, and not which: they may be those of a key.
+impl<const N: usize> fmt::Debug for Octets<N> {
+    ghost debug_output = { λ o. Some (decimal (length o) ++ codes " octets") };
+
+    fn fmt<W: fmt::Write>(&self, f: &mut fmt::Formatter<W>) -> fmt::Result {
+        write!(f, "{} octets", self.len())
     }
 }
 

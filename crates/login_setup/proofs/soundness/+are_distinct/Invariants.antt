@@ -1,5 +1,5 @@
 use Rattle.std.proofs.Common.{length}
-use Rattle.end_objects.proofs.soundness.+are_distinct.Given as goal
+use Rattle.login_setup.proofs.soundness.+are_distinct.Given as goal
 
 -- the numbers that are left
 abbrev pub decreases-are_distinct : goal.decreases-are_distinct

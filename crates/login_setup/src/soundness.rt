@@ -5,9 +5,10 @@ ghost use Rattle.std.specs.List.{list_all};
 ghost use Rattle.octet_lists.specs.Among.{is_kind, are_distinct};
 ghost use Rattle.login_setup.specs.Setup.{are_kinds, are_suites, is_valid_for};
 ghost use Rattle.login_setup.specs.Setup.{IsSoundPeer, HasKeys, IsSoundServer};
-ghost use Rattle.end_objects.specs.Soundness.{is_suite, is_sound_key, is_sound_user};
+ghost use Rattle.login_setup.specs.Soundness.{is_suite, is_sound_key, is_sound_user};
 
-use login_setup::{PeerSetup, ServerSetup, User};
+use crate::setup::{PeerSetup, ServerSetup};
+use crate::users::User;
 use octet_lists::{GPSK_KIND, PSK_KIND, Secret, is_among};
 
 /// Whether a peer's machine and world accept these settings, as `PeerMachine::new` and `World::new` ask. Its methods
@@ -45,7 +46,7 @@ fn is_kind(kind: u8) -> bool
 }
 
 /// Whether the key has the size that the method of this Type requires; false for any other Type.
-pub(crate) fn has_key_size(kind: u8, psk: &[u8]) -> bool
+pub fn has_key_size(kind: u8, psk: &[u8]) -> bool
     ensures { result ≡ is_valid_for kind psk.now }
 {
     if kind == PSK_KIND {
@@ -56,7 +57,7 @@ pub(crate) fn has_key_size(kind: u8, psk: &[u8]) -> bool
 }
 
 /// Whether these are Types of the two methods, each at most once.
-pub(crate) fn are_kinds(kinds: &[u8]) -> bool
+pub fn are_kinds(kinds: &[u8]) -> bool
     ensures { result ≡ are_kinds kinds.now }
 {
     all_kinds(kinds) && are_distinct(kinds)
@@ -69,7 +70,7 @@ fn all_kinds(kinds: &[u8]) -> bool
 }
 
 /// Whether these are suites, at least one, and each at most once.
-pub(crate) fn are_suites(suites: &[u8]) -> bool
+pub fn are_suites(suites: &[u8]) -> bool
     ensures { result ≡ are_suites suites.now }
 {
     !suites.is_empty() && all_suites(suites) && are_distinct(suites)

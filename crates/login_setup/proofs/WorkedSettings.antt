@@ -1,6 +1,5 @@
 -- Settings that are sound and settings that aren't, of a peer and of a server, at worked values.
 use Rattle.std.proofs.Common.{◌≡◌, ℕ, Bool, false, List, [], ◌∷◌, Option, Some, None, replicate, refl, sym, ◌∙◌, arith, IsTrue}
-use Rattle.std.specs.Prelude.{codes}
 use Rattle.std.proofs.lemmas.Bool.{true≢false}
 use Rattle.std.proofs.lemmas.List.Elements.{All-from_recursion}
 use Rattle.octet_lists.specs.Among.{is_kind}
