@@ -513,22 +513,37 @@ static const struct tuv_settings *handed(const struct tuv_settings *s)
 	return (void *) at;
 }
 
-/* Settings of which one thing may be wrong. */
-static struct tuv_settings spoiled(struct tuv_settings s)
+/* Octets of which there are as many as is allowed at the least or at the most, one
+ * more, one fewer, or none. */
+static struct tuv_octets at_limit(size_t least, size_t most)
+{
+	size_t sizes[] = { 0, least - 1, least, most, most + 1 };
+
+	return new_octets(sizes[any(5)]);
+}
+
+static void spoil(struct tuv_settings *s)
 {
 	switch (any(11)) {
-	case 10:
-	case 0: s.size = other_size(); break;
-	case 1: s.methods[any(2)] = any(2) ? any(256) : TUV_KIND_PSK; break;
-	case 2: s.suites[any(2)] = any(4); break;
-	case 3: s.name.len = 0; break;
-	case 4: s.name = new_octets(TUV_NAME_MAX + 1); break;
-	case 5: s.other = new_octets(TUV_NAME_MAX + 1); break;
-	case 6: s.psk_key = new_octets(among(0, TUV_KEY_MAX)); break;
-	case 7: s.gpsk_key = new_octets(among(0, TUV_KEY_MAX + 1)); break;
-	case 8: s.other = TUV_ANY; break;
+	case 0: case 1: s->size = other_size(); break;
+	case 2: s->methods[any(2)] = any(2) ? any(256) : TUV_KIND_PSK; break;
+	case 3: s->suites[any(2)] = any(4); break;
+	case 4: s->name = at_limit(1, TUV_NAME_MAX); break;
+	case 5: s->other = at_limit(1, TUV_NAME_MAX); break;
+	case 6: s->psk_key = at_limit(16, 16); break;
+	case 7: s->gpsk_key = at_limit(32, TUV_KEY_MAX); break;
+	case 8: s->psk_key = new_octets(among(0, TUV_KEY_MAX)); break;
+	case 9: s->other = TUV_ANY; break;
 	default: break;
 	}
+}
+
+/* Settings of which two things may be wrong, or at a limit. */
+static struct tuv_settings spoiled(struct tuv_settings s)
+{
+	spoil(&s);
+	if (any(2))
+		spoil(&s);
 	return s;
 }
 

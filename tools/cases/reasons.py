@@ -111,6 +111,9 @@ def files() -> Iterator[tuple[str, bytes, str, str]]:
     yield "RADIUS with -s 128", wire.pcap(framed(*wire.by_radius(WRONG[1:])), 128), "cut", key
     yield "RADIUS, another secret", wire.pcap(framed(*wire.by_radius(GOOD.whole[1:]))), "secret, good", key + " --secret x"
     yield "RADIUS at the earlier port", wire.pcap(framed(*wire.by_radius(WRONG[1:], port=1645))), REFUSED, key
+    whole = [(head, ip[:6] + b"\x40\0" + ip[8:]) for head, ip in wire.by_radius(WRONG[1:])]
+    yield "RADIUS in packets that no router may cut", wire.pcap(framed(*whole)), REFUSED, key
+    yield "RADIUS by IPv6", wire.pcap(framed(*map(wire.by_ipv6, wire.by_radius(WRONG[1:])))), REFUSED, key
     long = "a" * 200
     yield "RADIUS, packets in two attributes", wire.pcap(framed(*wire.by_radius(Login(user=long.encode()).whole[1:]))), "good", (
         f"{long} 51 {KEY.hex()}")

@@ -9,6 +9,8 @@ mod faults;
 #[cfg(test)]
 mod messages;
 #[cfg(test)]
+mod names;
+#[cfg(test)]
 mod plain_calls;
 #[cfg(test)]
 mod reads;

@@ -1,6 +1,7 @@
 //! Sources and sinks, and reads and writes that fail.
 
-ghost use Rattle.std.specs.Prelude.{◌≤◌, IfOk};
+ghost use Rattle.std.specs.Prelude.{◌≤◌, ℕ, IfOk, None};
+ghost use Rattle.octet_io.specs.Shown.{Shown, HasRisen};
 
 use octet_io::{MemSink, MemSource, Sink, Source, StdSink, StdSource, SureSink, SureSource};
 use std::io;
@@ -28,8 +29,14 @@ fn writes<W: Sink>(sink: &mut W, piece: &[u8], answers: &[usize]) -> bool {
     are_same
 }
 
+/// A count of faults that stays, and isn't at its greatest number, hasn't risen: a fault that no call had is told.
+fn a_count_that_stays_has_not_risen()
+    ensures { HasRisen (record { octets = λ (_ : ℕ). None; faults = λ n. n; most_faults = None }) 0 0 → ⊥ }
+{}
+
 #[test]
 fn a_source_fails_at_its_listed_calls(rt: HostRuntime) -> Result<(), Fail> {
+    a_count_that_stays_has_not_risen();
     let mut source = MemSource::new(rt.alloc(), b"abcde", 2, &[4, 2])?;
     let mut buf = [0; 4];
     let are_same = reads(&mut source, &mut buf, &[2, FAULT, 2, FAULT, 1, 0]);

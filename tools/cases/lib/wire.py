@@ -144,6 +144,13 @@ def radius(code: int, identifier: int, packet: bytes, *more: tuple[int, bytes], 
     return (SWITCH + STATION if code == 1 else STATION + SWITCH) + b"\x08\0", ip + udp
 
 
+def by_ipv6(item: tuple[bytes, bytes]) -> tuple[bytes, bytes]:
+    """The same UDP packet in IPv6 (RFC 8200 section 3)."""
+    head, ip = item
+    ends = bytes(12) + ip[12:16] + bytes(12) + ip[16:20]
+    return head[:12] + b"\x86\xdd", struct.pack(">IHBB", 6 << 28, len(ip) - 20, 17, 64) + ends + ip[20:]
+
+
 def by_radius(packets: Iterable[bytes], port: int = 1812) -> list[Item]:
     """The packets of a login, each Response in an Access-Request, each other one in its answer."""
     found: list[Item] = []

@@ -1,0 +1,243 @@
+"""What the scripts in Python read of packets, files and RADIUS packets that are drawn, beside what the program reads of them, whose
+readers are proved. READERS_SEED names another number to draw from, READERS_COUNT how many packets."""
+
+from __future__ import annotations
+
+import hashlib
+import os
+import re
+import sys
+from pathlib import Path
+from random import Random
+from typing import Iterator, Optional
+
+from cases.fields import parts_of
+from cases.lib import wire
+from cases.lib.small import Run, holds
+from lib import captures, frames
+from lib.common import answer
+
+sys.path.append("live")
+import ends  # noqa: E402
+import login_keys  # noqa: E402
+import radius  # noqa: E402
+
+SEED, COUNT = int(os.environ.get("READERS_SEED", "1")), int(os.environ.get("READERS_COUNT", "1500"))
+KEY = "000102030405060708090a0b0c0d0e0f101112131415161718191a1b1c1d1e1f"
+
+
+# ---- What is drawn.
+
+
+class Stream:
+    """The octets that `bulk N K` draws (docs/TEXTS.md)."""
+
+    def __init__(self, number: int) -> None:
+        self.at = number
+
+    def octet(self) -> int:
+        self.at = (1664525 * self.at + 1013904223) % 2**32
+        return self.at >> 24
+
+    def octets(self) -> str:
+        return bytes(self.octet() for _ in range(32)).hex()
+
+
+def run_of(settings: str, events: list[str]) -> list[str]:
+    return answer(["replay", "names"], "\n".join([settings, *events, "end", ""]).encode())[1]
+
+
+def sent_in(trace: list[str]) -> list[bytes]:
+    return [bytes.fromhex(it.split(" ")[2]) for it in trace if re.match(r"\d+ octets ", it)]
+
+
+def bulk_events(number: int) -> tuple[str, list[str]]:
+    """The settings and the events of the first conversation of `bulk N`, for an even N."""
+    draw = Stream(number)
+    nonces = draw.octets(), draw.octets()
+    settings = Path("cases/settings").read_text().strip().replace("11" * 32, nonces[0]).replace("22" * 32, nonces[1])
+    settings = settings.replace(KEY, draw.octets())
+    events: list[str] = []
+    for _ in range(40):
+        one, other = draw.octet() % 8, draw.octet()
+        sent = sent_in(run_of(settings, events))
+        last = len(sent)
+        events += {0: ["timeout server"], 1: [f"deliver {1 + other % last}"], 3: [],
+                   2: [f"alter {last} {other % len(sent[-1])} 1"]}.get(one, [f"deliver {last}"])
+    return settings, events
+
+
+def disturbed(draw: Random, kept: list[bytes], count: int) -> Iterator[bytes]:
+    """Packets as c/fuzz.c disturbs them: as they are, with a bit altered, cut, padded, made up with the right Length."""
+    for _ in range(count):
+        packet, way = draw.choice(kept), draw.randrange(5)
+        if way == 1:
+            at = draw.randrange(len(packet))
+            packet = packet[:at] + bytes([packet[at] ^ 1 << draw.randrange(8)]) + packet[at + 1 :]
+        elif way == 2:
+            packet = packet[: draw.randrange(len(packet) + 1)]
+        elif way == 3:
+            packet += draw.randbytes(draw.randrange(5))
+        elif way == 4:
+            size = 1500 if draw.randrange(8) == 0 else 4 + draw.randrange(60)
+            kind = draw.choice([1, 2, 3, 47, 51, draw.randrange(253)])
+            packet = bytes([draw.randrange(6), draw.randrange(256)]) + size.to_bytes(2, "big") + bytes([kind]) + draw.randbytes(size)
+            packet = packet[:size]
+        yield packet
+
+
+def packets_drawn() -> list[bytes]:
+    """Those that are sent and delivered in a conversation of `bulk`, and those of the examples, disturbed."""
+    draw = Random(SEED)
+    settings, events = bulk_events(2 * draw.randrange(500000))
+    kept = sent_in(run_of(settings, events))
+    for name in ("gpsk-suite2", "psk-login", "barred", "expanded"):
+        kept += sent_in(Path(f"examples/{name}.names").read_text().splitlines()) if Path(f"examples/{name}.names").exists() else []
+    # (what Type 254 holds of another vendor isn't judged)
+    return [it for it in disturbed(draw, kept, COUNT) if it[4:5] != b"\xfe"]
+
+
+# ---- Beside the program.
+
+
+def case_bulk(_: Run) -> Iterator[Optional[str]]:
+    """`bulk` counts what `replay` makes of the conversation that its number says."""
+    for number in (2 * Random(SEED + at).randrange(500000) for at in range(2)):
+        settings, events = bulk_events(number)
+        trace = run_of(settings, events)
+        found = dict(it.split(" ") for it in answer(["bulk", str(number), "1"], b"")[1][:-1] if it.count(" ") == 1)
+        counted = dict(it.split(" ") for it in trace if it.startswith(("deliveries ", "discards ")))
+        result = next(it.split(" ")[1] for it in trace if it.startswith("result "))
+        same = {it: found.get(it) == counted[it] for it in counted}
+        yield holds(all(same.values()) and found.get(result) == "1", f"bulk {number} 1 counts {found}, and replay {counted}, {result}")
+
+
+def case_packets(run: Run) -> Iterator[Optional[str]]:
+    """Code, Identifier, Type and message are those of `decode`, the fields are the packet, and something is wrong with it exactly
+    where `decode` says so."""
+    packets = packets_drawn()
+    found = list(parts_of(run(["decode-fields"], "".join(f"{it.hex() or '-'}\n" for it in packets).encode())[1]))
+    yield holds(len(found) == len(packets) > COUNT // 2, f"{len(found)} packets are told of {len(packets)}")
+    for packet, (line, fields, is_wrong) in zip(packets, found):
+        said = re.fullmatch(r"\d+ (?:malformed \w+|(\w+) (\d+) (?:type (\d+) )?length (\d+) padding (\d+)(.*))", line)
+        read = dict(fields)
+        if not said or not said[1]:
+            fault = None if said and is_wrong else "is malformed"
+        else:
+            told = ({"1": "request", "2": "response", "3": "success", "4": "failure"}.get(str(int(read["Code"], 16))),
+                    *(str(int(read[it], 16)) if it in read else None for it in ("Identifier", "Type", "Length")))
+            padding = str(len(read.get("(padding)", "")) // 2)
+            is_shape = re.search("Shape|ListTooLong", said[6]) is not None
+            fault = None if told == said.group(1, 2, 3, 4) and padding == said[5] and is_shape == is_wrong else f"{told}"
+        fault = fault or (None if "".join(it for _, it in fields) == packet.hex() else "other octets")
+        yield fault and f"{packet.hex()[:80]}: decode says {line}: {fault}"
+
+
+def case_files(_: Run) -> Iterator[Optional[str]]:
+    """The packets of a file are those that `pcap` judges, and of a record that it takes for cut or passes over there is none."""
+    draw = Random(SEED)
+    for order in "<>":
+        items = [(100.0 + at, frame) for at, it in enumerate(packets_drawn()[:300]) for frame in [drawn_frame(draw, it)]]
+        octets = wire.pcap(items, order=order)
+        lines = [it.split(" ", 1) for it in answer(["pcap", "alice", "51", KEY], octets)[1][:-1]]
+        cut = {int(number) for number, finding in lines if finding == "eapol-cut"}
+        wanted = {int(number): finding for number, finding in lines if finding != "eapol-cut"}
+        found, there = {}, set()
+        for capture in [captures.of_pcap(octets)[0]]:
+            there = {number for number, *_ in capture.cut}
+            text = captures.text_of(capture.packets, [("alice", "51", KEY)])
+            for number, line in zip(capture.packets.numbers, answer(["check"], text.encode())[1]):
+                found[number] = line.split(" ", 1)[1]
+        yield holds(found == wanted, f"other packets in a file: {sorted(set(found.items()) ^ set(wanted.items()))[:3]}")
+        yield holds(there == cut, f"other records are cut: {sorted(there ^ cut)[:5]}")
+
+
+def drawn_frame(draw: Random, packet: bytes) -> bytes:
+    """A frame of two stations alone: with an EAP packet, padded or cut, or of another type."""
+    frame = frames.frame_of(packet, packet[:1] != b"\2") if packet else wire.framed(packet)
+    way = draw.randrange(8)
+    return frame[: draw.randrange(14, len(frame))] if way == 0 else frame + bytes(3) if way == 1 else frame
+
+
+def case_radius(_: Run) -> Iterator[Optional[str]]:
+    """The EAP packet of a RADIUS packet whose EAP-Messages are of any sizes is the one that `radius` reads; and so is a packet that the
+    scripts of live/ write, with the attributes that they read again."""
+    draw, lines, wanted = Random(SEED), ["eap-radius 1", "secret 00"], []
+    for packet in [it for it in packets_drawn() if it][:200]:
+        octets = radius_around(draw, packet)
+        lines.append(f"read {octets.hex()}")
+        wanted.append(frames.Radius((b"", 0), (b"", 0), octets).eap)
+    told = [it.split(" ") for it in answer(["radius"], "\n".join([*lines, "end", ""]).encode())[1]]
+    wrong = [it for it, eap in zip(told, wanted) if len(it) < 7 or it[5] != eap.hex()]
+    yield holds(len(told) == len(wanted) and not wrong, f"another EAP packet: {wrong[:1]}")
+
+
+def radius_around(draw: Random, packet: bytes) -> bytes:
+    body = radius.attribute(1, b"alice")
+    while packet:
+        size = draw.randrange(1, 254)
+        body, packet = body + radius.attribute(79, packet[:size]), packet[size:]
+    body += radius.attribute(80, bytes(16)) + radius.attribute(radius.PROXY_STATE, draw.randbytes(3))
+    return bytes([1, 7]) + (20 + len(body)).to_bytes(2, "big") + draw.randbytes(16) + body + draw.randbytes(draw.randrange(3))
+
+
+# ---- What live/ writes.
+
+
+def case_attributes(_: Run) -> Iterator[Optional[str]]:
+    """`radius` finds good what the scripts have added to, and its attributes are read again in their order; a reply has the
+    Proxy-States of its request (RFC 2865 section 5.33), and the link keys, which no other secret opens."""
+    draw = Random(SEED)
+    for _ in range(5):
+        secret, msk, states = draw.randbytes(8), draw.randbytes(64), [draw.randbytes(size) for size in (1, 9, 2)]
+        at = radius.Radius(secret)
+        more = b"".join(radius.attribute(radius.PROXY_STATE, it) for it in states)
+        asked = at.request(9, b"alice", b"state", wire.Login().named, more)
+        yield holds(at.read(asked, "request").fault == "", "a request with more attributes isn't good")
+        yield holds(at.read(asked, "accept").fault != "", "a request is taken for an Access-Accept")
+        keys = radius.link_keys(secret, asked[4:20], msk)
+        reply = at.reply(asked, "accept", b"", wire.Login().success, keys)
+        yield holds(at.read(reply, "accept").fault == "", "a reply with more attributes isn't good")
+        yield holds(radius.values(reply, radius.PROXY_STATE) == states, "a reply has other Proxy-States")
+        yield holds(radius.state_of(asked) == b"state" and radius.state_of(reply) == b"", "another State")
+        yield holds(radius.link_of(secret, asked[4:20], reply) == msk, "other link keys are opened")
+        yield holds(radius.link_of(secret + b"x", asked[4:20], reply) != msk, "another secret opens the link keys")
+        yield holds(radius.link_of(secret, asked[4:20], asked) is None, "a packet without link keys has some")
+        at.stop()
+
+
+def case_link_keys(_: Run) -> Iterator[Optional[str]]:
+    """RFC 2548 section 2.4: the vendor 311, the types 17 and then 16, salts that begin with a one bit and differ, and a key of 32
+    octets behind its length, in whole blocks that are hidden by MD5."""
+    draw = Random(SEED)
+    for _ in range(20):
+        secret, asked, msk = draw.randbytes(8), draw.randbytes(16), draw.randbytes(64)
+        octets = radius.link_keys(secret, asked, msk)
+        parts = [octets[:58], octets[58:]]
+        yield holds([it[:8].hex() for it in parts] == ["1a3a000001371134", "1a3a000001371034"], f"other heads: {octets.hex()}")
+        salts = [it[8:10] for it in parts]
+        yield holds(salts[0] != salts[1] and all(it[0] & 0x80 for it in salts), f"other salts: {salts}")
+        opened = [opened_by_md5(secret, asked + it[8:10], it[10:]) for it in parts]
+        yield holds(opened == [b"\x20" + msk[:32] + bytes(15), b"\x20" + msk[32:] + bytes(15)], "another key is sealed")
+
+
+def opened_by_md5(secret: bytes, front: bytes, sealed: bytes) -> bytes:
+    plain = b""
+    for at in range(0, len(sealed), 16):
+        hides = hashlib.md5(secret + (front if at == 0 else sealed[at - 16 : at])).digest()
+        plain += bytes(one ^ other for one, other in zip(sealed[at:], hides))
+    return plain
+
+
+def case_msk(_: Run) -> Iterator[Optional[str]]:
+    """The MSK that is made of a login's packets has the name that both ends tell; of a message with a wrong part none is made."""
+    for name, key in (("gpsk-login", KEY), ("gpsk-suite2", KEY), ("psk-login", KEY[:32])):
+        text = Path(f"examples/{name}.names").read_text()
+        claims = [it for packet in sent_in(text.splitlines()) for it in [login_keys.claim_of(packet)] if it]
+        told = re.findall(r"msk (\w+) ", text)[0]
+        yield holds(len(claims) == 1 and claims[0].user == "alice", f"{name}: other claims: {[it.name for it in claims]}")
+        yield holds(login_keys.name_of(login_keys.msk_of(claims[0], key, told)) == told, f"{name}: another MSK")
+        try:
+            yield holds(not login_keys.msk_of(claims[0], key, "0" * 16), f"{name}: an MSK of another name is taken")
+        except ends.Failed:
+            yield None

@@ -1,0 +1,120 @@
+"""Wrong lines of scripts and of C, each with the command that must see it (wrong/scripts.lines)."""
+
+from __future__ import annotations
+
+import os
+import shlex
+import shutil
+import subprocess
+import tempfile
+import time
+from concurrent.futures import ThreadPoolExecutor
+from functools import lru_cache
+from pathlib import Path
+from typing import Iterator, NamedTuple, Optional
+
+from lib.common import ROOT, Refused, grouped, said_by
+
+LIST = "wrong/scripts.lines"
+SECONDS = 300
+SHARE = 3
+
+
+class Wrong(NamedTuple):
+    """A line of a file, another in its place, the command that sees it, and where it stands in the list."""
+
+    seer: str
+    file: str
+    old: str
+    new: str
+    number: int
+
+    @property
+    def name(self) -> str:
+        return f"{LIST}:{self.number}: {self.file}: {self.new.strip() or 'nothing'}"
+
+
+def read() -> list[Wrong]:
+    """The list: `by COMMAND`, then of each wrong line FILE, `- OLD` and `+ NEW`."""
+    found: list[Wrong] = []
+    seer = file = old = ""
+    for number, line in enumerate((ROOT / LIST).read_text().splitlines(), 1):
+        if line.startswith("by "):
+            seer = line[3:]
+        elif line.startswith("- "):
+            old = line[2:]
+        elif line.startswith("+"):
+            found.append(Wrong(seer, file, old, line[2:], number))
+        elif line and not line.startswith("#"):
+            file = line
+    return found
+
+
+def faults() -> list[str]:
+    """What is wrong with the texts of the list."""
+    wrong = []
+    for it in read():
+        text = (ROOT / it.file).read_text() if (ROOT / it.file).is_file() else ""
+        if not it.seer or text.count(it.old) != 1 or it.old == it.new:
+            wrong.append(f"{it.name}: {it.file} has this text {text.count(it.old)} times: {it.old}")
+    return wrong
+
+
+def copy_to(folder: Path) -> None:
+    """What stands in the repository, without its history and what is built."""
+    for name in said_by("git", "ls-files", "-co", "--exclude-standard").splitlines():
+        if (ROOT / name).is_file():
+            (folder / name).parent.mkdir(parents=True, exist_ok=True)
+            shutil.copy2(ROOT / name, folder / name)
+
+
+@lru_cache(maxsize=None)
+def program() -> str:
+    """The program that is kept for use; the one that ./test has for its own cases is a hundred times as slow."""
+    kind = said_by("tools/prove", "status").partition(":")[0]
+    kept = ROOT / f"out/eap_login-{kind}"
+    return str(kept) if kept.exists() else os.environ.get("EAP_LOGIN") or str(ROOT / "eap_login")
+
+
+def sees(seer: str, folder: Path) -> Optional[bool]:
+    """Whether a command fails there; None where it takes too long."""
+    names = {**os.environ, "EAP_LOGIN": program(), "TMPDIR": str(folder / "out")}
+    (folder / "out").mkdir(exist_ok=True)
+    try:
+        done = subprocess.run(shlex.split(seer), cwd=folder, env=names, stdin=subprocess.DEVNULL, stdout=subprocess.DEVNULL,
+                              stderr=subprocess.DEVNULL, timeout=SECONDS)
+    except subprocess.TimeoutExpired:
+        return None
+    return done.returncode != 0
+
+
+def unseen_by(seer: str, lines: list[Wrong]) -> Iterator[str]:
+    """The lines of a seer that it doesn't see, one after the other in a copy."""
+    with tempfile.TemporaryDirectory(prefix="wrong-") as room:
+        folder = Path(room)
+        copy_to(folder)
+        if sees(seer, folder) is not False:
+            yield f"{seer} fails by itself"
+            return
+        for it in lines:
+            file = folder / it.file
+            whole = file.read_text()
+            file.write_text(whole.replace(it.old, it.new))
+            if not sees(seer, folder):
+                yield f"{it.name}: {seer} doesn't see it"
+            file.write_text(whole)
+
+
+def some_of(lines: list[Wrong]) -> list[Wrong]:
+    """One of SHARE of each seer, other ones each day."""
+    day = int(time.time()) // 86400
+    return [it for its in grouped((it.seer, it) for it in lines).values() for at, it in enumerate(its) if (at + day) % SHARE == 0]
+
+
+def unseen(lines: list[Wrong]) -> list[str]:
+    """Those that nothing sees of these lines."""
+    if wrong := faults():
+        raise Refused(wrong[0])
+    groups = grouped((it.seer, it) for it in lines)
+    with ThreadPoolExecutor(len(os.sched_getaffinity(0))) as pool:
+        return [it for found in pool.map(lambda seer: list(unseen_by(seer, groups[seer])), groups) for it in found]
