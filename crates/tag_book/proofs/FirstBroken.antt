@@ -11,7 +11,7 @@ unfolding first_broken
 passed makers earlier rest e honest = ap (λ (b : Bool). cond b (first_broken makers (earlier ++ e ∷ []) rest) (Some e.event)) honest
 
 -- an entry that isn't is the answer
-found : (makers : RecordOwner) (earlier rest : List Entry) (e : Entry) → is_honest makers earlier e ≡ false → first_broken makers earlier (e ∷ rest) ≡ Some e.event
+pub found : (makers : RecordOwner) (earlier rest : List Entry) (e : Entry) → is_honest makers earlier e ≡ false → first_broken makers earlier (e ∷ rest) ≡ Some e.event
 unfolding first_broken
 found makers earlier rest e broken = ap (λ (b : Bool). cond b (first_broken makers (earlier ++ e ∷ []) rest) (Some e.event)) broken
 

@@ -76,3 +76,8 @@ tags_verdict book = verdict_on (first_broken Other [] book)
 -- whether each accepted tag was made earlier by either end: also by the one that accepts it, to which it came back
 abbrev pub tags_verdict_either : List Entry → TagsVerdict
 tags_verdict_either book = verdict_on (first_broken Either [] book)
+
+-- the entries of a book whose tags are under this shared key
+unfoldable pub under : List ℕ → List Entry → List Entry
+under key [] = []
+under key (e ∷ rest) = if bytes_eq e.tag.psk key then e ∷ under key rest else under key rest

@@ -1,8 +1,9 @@
 //! The book of tags.
 
-ghost use Rattle.std.specs.Prelude.{◌≡◌, ◌≤◌, ◌+◌, ◌++◌, ◌∷◌, [], map, vec_len, vec_capacity};
+ghost use Rattle.std.specs.Prelude.{◌≡◌, ◌≤◌, ◌+◌, ◌++◌, ◌∷◌, [], ◌&&◌, not, map, vec_len, vec_capacity};
+ghost use Rattle.std.specs.Str.{bytes_eq};
 ghost use Rattle.std.specs.List.{list_any};
-ghost use Rattle.tag_book.specs.Book.{entry, entries_of, first_broken, verdict_on, is_honest, may_make, vouches, same_tag};
+ghost use Rattle.tag_book.specs.Book.{entry, entries_of, first_broken, verdict_on, is_honest, may_make, vouches, same_tag, under};
 
 use eap_method::{TagList, TagRecord, Tags, TwoRecords};
 
@@ -99,6 +100,26 @@ pub fn judge_tags(book: &[Entry], makers: RecordOwner) -> TagsVerdict
         }
     }
     TagsVerdict::Honest
+}
+
+/// The same of the tags under this shared key alone.
+#[tactic(auto, using(crate::proofs::UnderKey::under_more, crate::proofs::UnderKey::under_here, crate::proofs::UnderKey::under_all))]
+pub fn judge_tags_under(book: &[Entry], key: &[u8], makers: RecordOwner) -> TagsVerdict
+    ensures { result ≡ verdict_on (first_broken makers [] (under key.now book.now)) }
+{
+    for place in 0..book.len() {
+        if breaks(&book[..place], &book[place], key, makers) {
+            return TagsVerdict::Broken(book[place].event);
+        }
+    }
+    TagsVerdict::Honest
+}
+
+/// Whether an entry is an accepted tag under this key that no such end made earlier.
+fn breaks(earlier: &[Entry], entry: &Entry, key: &[u8], makers: RecordOwner) -> bool
+    ensures { result ≡ (bytes_eq entry.now.tag.psk key.now && not (is_honest makers earlier.now entry.now)) }
+{
+    entry.tag.psk.as_slice() == key && !is_honest(earlier, entry, makers)
 }
 
 /// Whether an entry is no accepted tag, or one that such an end made earlier.

@@ -4,4 +4,6 @@
 
 mod book;
 
-pub use book::{End, Entry, RecordOwner, TagsVerdict, Use, book_tags, judge_tags};
+pub use book::{
+    End, Entry, RecordOwner, TagsVerdict, Use, book_tags, judge_tags, judge_tags_under,
+};
