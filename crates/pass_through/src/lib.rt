@@ -9,7 +9,9 @@ mod states;
 mod step;
 mod variables;
 
-pub use laws::{answers_are_rows, discards_change_nothing, sends_only_received};
+pub use laws::{
+    answers_are_rows, carries_only_received, discards_change_nothing, sends_only_received,
+};
 pub use machine::PassThrough;
 pub use step::PassStep;
 pub use variables::PassVariables;
