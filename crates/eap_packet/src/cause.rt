@@ -1,7 +1,10 @@
 //! Why a packet is discarded.
 
-ghost use Rattle.std.specs.Prelude.{◌≡◌};
+ghost use Rattle.std.specs.Prelude.{◌≡◌, Some};
 ghost use Rattle.eap_packet.specs.Words.{cause_word};
+
+use std::error::Error;
+use std::fmt;
 
 /// Why a party discards what was delivered to it.
 #[derive(Clone, Copy, PartialEq, Eq, Debug)]
@@ -110,3 +113,14 @@ impl Cause {
         }
     }
 }
+
+/// The cause's name.
+impl fmt::Display for Cause {
+    ghost output = { λ cause. Some (cause_word cause) };
+
+    fn fmt<W: fmt::Write>(&self, f: &mut fmt::Formatter<W>) -> fmt::Result {
+        f.write_str(self.word())
+    }
+}
+
+impl Error for Cause {}

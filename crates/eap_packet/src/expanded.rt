@@ -13,7 +13,7 @@ use byteorder::{BigEndian, ByteOrder};
 use octet_lists::{EXPANDED, IETF, NAK, NAK_ENTRY_SIZE, Packet, VENDOR_SIZE};
 
 /// The fields of an Expanded Type.
-#[derive(Clone, Copy)]
+#[derive(Clone, Copy, Debug)]
 pub struct Expanded<'a> {
     /// The Vendor-Id, of 24 bits; 0 is the IETF's.
     pub vendor: u32,

@@ -20,7 +20,7 @@ pub enum Code {
 }
 
 /// A packet, as its octets show it.
-#[derive(Clone, Copy)]
+#[derive(Clone, Copy, Debug)]
 pub struct PacketView<'a> {
     pub code: Code,
     /// The Identifier.

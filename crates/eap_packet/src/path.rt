@@ -7,7 +7,7 @@ use arrayvec::ArrayVec;
 use std::marker::Model;
 
 /// At most 8 states, in the order in which a call enters them. Contracts see the list of the states.
-#[derive(Drop)]
+#[derive(Drop, Debug)]
 pub struct Path {
     states: ArrayVec<State, 8>,
 }

@@ -1,6 +1,6 @@
 -- RADIUS packets (RFC 2865 sections 3 and 5): packet values, their one encoding, and which of them
 -- carry EAP (RFC 3579 sections 3.1 and 3.2).
-use Rattle.std.specs.Prelude.{◌≡◌, ℕ, ◌+◌, ◌≤◌, List, [], ◌∷◌, ◌++◌, length, Bool, ◌==◌, ◌||◌, if◌then◌else◌, IsTrue}
+use Rattle.std.specs.Prelude.{◌≡◌, ℕ, ◌+◌, ◌≤◌, List, [], ◌∷◌, ◌++◌, length, Bool, ◌==◌, ◌||◌, if◌then◌else◌, IsTrue, Option, Some, None}
 use Rattle.octet_lists.specs.Sizes.{max_packet}
 use Rattle.eap_packet.specs.Packet.{two_octets}
 use Rattle.radius_carry.specs.declared.view.RadiusKind.{RadiusKind}
@@ -43,6 +43,11 @@ count kind ((other, value) ∷ rest) = if other == kind then 1 + count kind rest
 unfoldable pub value_of_kind : ℕ → List Attribute → List ℕ
 value_of_kind kind [] = []
 value_of_kind kind ((other, value) ∷ rest) = if other == kind then value ++ value_of_kind kind rest else value_of_kind kind rest
+
+-- the value of the first attribute of a type
+unfoldable pub first_value : ℕ → List Attribute → Option (List ℕ)
+first_value kind [] = None
+first_value kind ((other, value) ∷ rest) = if other == kind then Some value else first_value kind rest
 
 -- the EAP packet that the attributes EAP-Message carry (RFC 3579 section 3.1)
 abbrev pub eap_of : List Attribute → List ℕ

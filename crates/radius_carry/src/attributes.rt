@@ -1,8 +1,8 @@
 //! The attributes of a RADIUS packet (RFC 2865 section 5).
 
-ghost use Rattle.std.specs.Prelude.{◌≡◌, ◌≤◌, ◌+◌, ◌++◌, ◌∷◌, [], length, IsTrue, ◌↔◌, IfSome, MatchOption};
+ghost use Rattle.std.specs.Prelude.{◌≡◌, ◌≤◌, ◌+◌, ◌++◌, ◌∷◌, [], length, IsTrue, ◌↔◌, IfSome, MatchOption, option_copied};
 ghost use Rattle.octet_lists.specs.Sizes.{max_packet};
-ghost use Rattle.radius_carry.specs.Packet.{count, value_of_kind};
+ghost use Rattle.radius_carry.specs.Packet.{count, first_value, value_of_kind};
 ghost use Rattle.radius_carry.specs.Fault.{attributes_of, left_of};
 ghost use Rattle.radius_carry.specs.Place.{tag_place};
 
@@ -99,6 +99,21 @@ pub fn join_values(values: &mut Packet, kind: u8, octets: &[u8])
         }
         rest = attribute.rest;
     }
+}
+
+/// The value of the first attribute of this Type, or None if there is none.
+#[tactic(auto, unfolding(crate::specs::Packet::first_value))]
+pub fn first_value<'a>(kind: u8, octets: &'a [u8]) -> Option<&'a [u8]>
+    ensures { option_copied result ≡ first_value kind (attributes_of octets.now) }
+{
+    let mut rest = octets;
+    while let Some(attribute) = first_attribute(rest) {
+        if attribute.kind == kind {
+            return Some(attribute.value);
+        }
+        rest = attribute.rest;
+    }
+    None
 }
 
 /// The octets before the value of the first attribute Message-Authenticator; all octets if there is none.

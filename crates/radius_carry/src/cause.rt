@@ -1,7 +1,10 @@
 //! Why octets are no RADIUS packet that carries EAP.
 
-ghost use Rattle.std.specs.Prelude.{◌≡◌};
+ghost use Rattle.std.specs.Prelude.{◌≡◌, Some};
 ghost use Rattle.radius_carry.specs.Words.{cause_word};
+
+use std::error::Error;
+use std::fmt;
 
 /// Why octets begin with no RADIUS packet that carries EAP. If several apply, the first in this order.
 #[derive(Clone, Copy, PartialEq, Eq, Debug)]
@@ -41,3 +44,14 @@ impl RadiusCause {
         }
     }
 }
+
+/// The cause's name.
+impl fmt::Display for RadiusCause {
+    ghost output = { λ cause. Some (cause_word cause) };
+
+    fn fmt<W: fmt::Write>(&self, f: &mut fmt::Formatter<W>) -> fmt::Result {
+        f.write_str(self.word())
+    }
+}
+
+impl Error for RadiusCause {}

@@ -16,7 +16,7 @@ pub use laws::{
     encodings_are_apart, encodings_are_read, faultless_is_encoded, reads_the_encoding,
     replies_are_good, replies_are_read_back, requests_are_good, requests_are_read_back,
 };
-pub use reading::{eap_of, read_radius};
+pub use reading::{attribute, eap_of, read_radius};
 pub use tags::{reply_good, request_good};
 pub use view::{RadiusKind, RadiusView};
 pub use writing::{write_reply, write_request};

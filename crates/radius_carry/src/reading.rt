@@ -1,12 +1,13 @@
 //! Reading RADIUS packets that carry EAP (RFC 2865 section 3, RFC 3579 section 3).
 
-ghost use Rattle.std.specs.Prelude.{◌≡◌, ◌≤◌, take, drop, length, IfOk, None, IsTrue, slice_index};
+ghost use Rattle.std.specs.Prelude.{◌≡◌, ◌≤◌, take, drop, length, IfOk, None, IsTrue, slice_index, option_copied};
 ghost use Rattle.radius_carry.specs.Packet as spec;
 ghost use Rattle.radius_carry.specs.Packet.{IsRadius, number_of};
 ghost use Rattle.radius_carry.specs.Fault.{fault, first_cause, head_table, body_table, body_of, code_of, length_of, packet_at, packet_of, value_of, read_value};
 
 use crate::attributes::{
-    EAP_MESSAGE, HEAD, MESSAGE_AUTHENTICATOR, TAG, are_attributes, join_values, tally_of,
+    EAP_MESSAGE, HEAD, MESSAGE_AUTHENTICATOR, TAG, are_attributes, first_value, join_values,
+    tally_of,
 };
 use crate::cause::RadiusCause;
 use crate::view::{RadiusKind, RadiusView};
@@ -142,4 +143,13 @@ pub fn eap_of(view: &RadiusView) -> Packet
     let mut eap = Octets::new();
     join_values(&mut eap, EAP_MESSAGE, view.attributes);
     eap
+}
+
+/// The value of the packet's first attribute of this Type, or None if there is none: so State (24), which the next
+/// Access-Request returns as it came (RFC 2865 section 5.24).
+#[tactic(auto, unfolding(crate::specs::Fault::value_of))]
+pub fn attribute<'a>(view: &RadiusView<'a>, kind: u8) -> Option<&'a [u8]>
+    ensures { option_copied result ≡ spec.first_value kind (value_of view.now).attributes }
+{
+    first_value(kind, view.attributes)
 }

@@ -14,7 +14,7 @@ pub enum RadiusKind {
 }
 
 /// A RADIUS packet, as its octets show it.
-#[derive(Clone, Copy)]
+#[derive(Clone, Copy, Debug)]
 pub struct RadiusView<'a> {
     pub kind: RadiusKind,
     /// The Identifier.
