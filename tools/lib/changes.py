@@ -1,4 +1,4 @@
-"""What has another text than at a commit: of the crates, of the pages, of tests and cases."""
+"""What has another text than at a commit: of the crates, of the pages, of tests, cases and edits."""
 
 from __future__ import annotations
 
@@ -15,9 +15,10 @@ from lib.sources import Call, Repository, Source
 
 # The texts by their places. (the pages of crates are made of what is listed here)
 Texts = dict[str, str]
-READ = re.compile(r"crates\.txt|crates/\w+/(src|specs)/.*\.(rt|antt)|(?!crates/\w+/).*\.md|(.*/)?cases/[\w-]+\.(cases|py|sh)")
+READ = re.compile(r"crates\.txt|crates/\w+/(src|specs)/.*\.(rt|antt)|(?!crates/\w+/).*\.md|(.*/)?cases/[\w-]+\.(cases|py|sh)"
+                  r"|(wrong|crates)/.*\.edit|wrong/scripts\.lines")
 # Of these one that is new changes nothing that was said.
-MORE = ("test", "case", "import")
+MORE = ("test", "case", "edit", "import")
 
 
 def texts_here() -> Texts:
@@ -47,6 +48,8 @@ def pieces(texts: Texts) -> dict[Key, str]:
             for sentence in sentences(text):
                 key = ("sentence", f"{place}: {sentence[:60]}")
                 found[key] = found.get(key, "") + sentence
+        elif place.endswith(".edit"):
+            found["edit", place] = text
         elif not place.startswith("crates"):
             found.update(cases_in(place, text))
     return found
@@ -61,7 +64,7 @@ def tests_in(source: Source) -> dict[Key, str]:
 
 def cases_in(place: str, text: str) -> dict[Key, str]:
     """The cases of a file of texts, and the functions of one in Python or shell."""
-    head = r"^(?=case )" if place.endswith(".cases") else r"^(?=def |class |\w+\(\) \{)"
+    head = {"cases": r"^(?=case )", "lines": r"^(?=by )"}.get(place.rpartition(".")[2], r"^(?=def |class |\w+\(\) \{)")
     first, *others = re.split(head, text, flags=re.M)
     return {("case", place): first, **{("case", f"{place}: {it.partition(chr(10))[0][:60]}"): it for it in others}}
 
