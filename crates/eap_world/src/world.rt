@@ -25,7 +25,7 @@ use peer_machine::PeerMachine;
 use server_machine::{Role, ServerMachine};
 use std::alloc::Global;
 use std::marker::Model;
-use tag_book::{End, Entry, RecordOwner, TagsVerdict, book_tags, judge_tags};
+use tag_book::{End, Entry, RecordOwner, TagsVerdict, book_tags, judge_tags, judge_tags_under};
 use thiserror::Error;
 
 /// Want of memory, the one error of `World::start` and `World::step`.
@@ -87,10 +87,10 @@ impl<P, S> Model for World<P, S> {
 }
 
 impl<P: PeerMethod, S: ServerMethod> World<P, S> {
-    ghost use Rattle.eap_method.specs.Peer.{peer_kinds, have_each};
+    ghost use Rattle.eap_method.specs.Peer.{peer_kinds, have_each, key_for};
     ghost use Rattle.eap_method.specs.Server.{server_kinds};
     ghost use Rattle.eap_world.specs.Run.{StartsRun, HasContinued};
-    ghost use Rattle.tag_book.specs.Book.{tags_verdict, tags_verdict_either};
+    ghost use Rattle.tag_book.specs.Book.{tags_verdict, tags_verdict_either, under};
     ghost use Rattle.eap_world.specs.Judgement.{verdict_of};
     ghost use Rattle.eap_world.specs.World.{HasObjects, PreservesObjects, PreservesAllObjects, NamesAlike, IsResult, brief_of, packet_octets, initial_world, world_start, world_step, now_of};
     ghost use Rattle.eap_world.specs.World.{octets_numbered, octets_of_sent, pass_state, state_of};
@@ -163,7 +163,7 @@ impl<P: PeerMethod, S: ServerMethod> World<P, S> {
         ensures preserves { PreservesAllObjects P.peer_shown S.server_shown self.old self.new }
         ensures names { NamesAlike self.old self.new }
         ensures objects { HasObjects P.peer_shown S.server_shown self.new }
-        ensures begun { IfOk result (λ _. self.new.started ≡ true) }
+        ensures starts { IfOk result (λ _. self.new.started ≡ true) }
         ensures counts { IfOk result (λ _. self.new.counts ≡ self.old.counts) }
     {
         self.start_by_table()
@@ -191,7 +191,7 @@ impl<P: PeerMethod, S: ServerMethod> World<P, S> {
         ensures preserves { PreservesAllObjects P.peer_shown S.server_shown self.old self.new }
         ensures names { NamesAlike self.old self.new }
         ensures objects { HasObjects P.peer_shown S.server_shown self.new }
-        ensures goes_on { IfOk result (λ _. self.new.started ≡ true) }
+        ensures remains { IfOk result (λ _. self.new.started ≡ true) }
         ensures counted { IfOk result (λ _. self.new.counts.events ≡ self.old.counts.events + 1) }
     {
         self.step_by_table(event)
@@ -209,7 +209,7 @@ impl<P: PeerMethod, S: ServerMethod> World<P, S> {
         ensures preserves { PreservesAllObjects P.peer_shown S.server_shown self.old self.new }
         ensures names { NamesAlike self.old self.new }
         ensures objects { HasObjects P.peer_shown S.server_shown self.new }
-        ensures begun { IfOk result (λ _. self.new.started ≡ true) }
+        ensures starts { IfOk result (λ _. self.new.started ≡ true) }
         ensures counts { IfOk result (λ _. self.new.counts ≡ self.old.counts) }
     {
         let brief = self.start_brief()?;
@@ -230,7 +230,7 @@ impl<P: PeerMethod, S: ServerMethod> World<P, S> {
         ensures preserves { PreservesAllObjects P.peer_shown S.server_shown self.old self.new }
         ensures names { NamesAlike self.old self.new }
         ensures objects { HasObjects P.peer_shown S.server_shown self.new }
-        ensures goes_on { IfOk result (λ _. self.new.started ≡ true) }
+        ensures remains { IfOk result (λ _. self.new.started ≡ true) }
         ensures counted { IfOk result (λ _. self.new.counts.events ≡ self.old.counts.events + 1) }
     {
         let brief = self.step_brief(event)?;
@@ -263,7 +263,7 @@ impl<P: PeerMethod, S: ServerMethod> World<P, S> {
             (λ _. self.new ≡ self.old) }
         ensures preserves { PreservesAllObjects P.peer_shown S.server_shown self.old self.new }
         ensures names { NamesAlike self.old self.new }
-        ensures begun { IfOk result (λ _. self.new.started ≡ true) }
+        ensures starts { IfOk result (λ _. self.new.started ≡ true) }
         ensures counts { IfOk result (λ _. self.new.counts ≡ self.old.counts) }
     {
         if !reserve_event(&mut self.sent, &mut self.book) {
@@ -293,7 +293,7 @@ impl<P: PeerMethod, S: ServerMethod> World<P, S> {
         ensures packets { length self.new.sent ≤ self.new.counts.events + 1 }
         ensures preserves { PreservesAllObjects P.peer_shown S.server_shown self.old self.new }
         ensures names { NamesAlike self.old self.new }
-        ensures goes_on { IfOk result (λ _. self.new.started ≡ true) }
+        ensures remains { IfOk result (λ _. self.new.started ≡ true) }
         ensures counted { IfOk result (λ _. self.new.counts.events ≡ self.old.counts.events + 1) }
     {
         if !reserve_event(&mut self.sent, &mut self.book) {
@@ -444,6 +444,19 @@ impl<P: PeerMethod, S: ServerMethod> World<P, S> {
         ensures { result ≡ tags_verdict_either self.now.book }
     {
         judge_tags(self.book.as_slice(), RecordOwner::Either)
+    }
+
+    /// [`World::tags`] of the tags under the peer's key for a method alone, whatever other users of the server do: what the laws of
+    /// one user ask (`ends_agree_under_a_key` of the crate `world_laws`). It is Honest whenever [`World::tags`] is
+    /// (`honest_under_a_key`).
+    pub fn tags_under(&self, kind: u8) -> TagsVerdict
+        ensures { result ≡ tags_verdict (under (key_for self.now.peer.vars.setup kind) self.now.book) }
+    {
+        let key: &[u8] = match self.machines.peer.setup().key(kind) {
+            None => &[],
+            Some(key) => key.as_slice(),
+        };
+        judge_tags_under(self.book.as_slice(), key, RecordOwner::Other)
     }
 
     /// Whether both ends agree in their present conversations. The crate `world_laws` says what this is in every run of a setup
