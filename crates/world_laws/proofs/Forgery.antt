@@ -8,7 +8,7 @@ use Rattle.std.proofs.lemmas.Slice.Eq.{bytes_eq-Decides}
 use Rattle.login_setup.specs.declared.setup.Setup.{Setup}
 use Rattle.eap_method.specs.declared.tags.TagRecord.{TagRecord}
 use Rattle.eap_method.specs.Peer.{key_for}
-use Rattle.tag_book.specs.Book.{first_broken, is_accepted, is_honest, label_number, may_make, same_end, same_tag, verdict_on, vouches}
+use Rattle.tag_book.specs.Book.{first_broken, is_accepted, is_honest, label_number, may_make, same_end, same_tag, under, verdict_on, vouches}
 use Rattle.tag_book.specs.declared.book.End.{End}
 use Rattle.tag_book.specs.declared.book.End.TheVariants as end
 use Rattle.tag_book.specs.declared.book.Entry.{Entry}
@@ -23,7 +23,6 @@ use Rattle.world_laws.specs.EachConversation.{Conversation, IsOneOf, OfPeer, OfS
 use Rattle.world_laws.specs.Forgery.{AgreeOrForged, EachTagIsRight, Forgery, HonestOrForged, IsOfConversation, of_peer, of_server, tags_in}
 use Rattle.world_laws.specs.Matching.{AreAll}
 use Rattle.world_laws.specs.Records.{IsIn, same_use, tags_by}
-use Rattle.world_laws.specs.UnderKey.{under}
 use Rattle.world_laws.proofs.Conversations.{conversations_are_all}
 use Rattle.world_laws.proofs.HonestRuns.{honest_ends_agree}
 use Rattle.world_laws.proofs.PastConversations.{in_either}
@@ -232,7 +231,7 @@ agree_or_forged setup events whole =
     let ss : List OfServer = server_conversations setup events in
     let keyed_or_forged : (makers : RecordOwner) (kind : ℕ) → HonestOrForged setup ps ss makers (under (key_for setup.peer kind) w.book) =
     λ makers kind. honest_or_forged setup ps ss (under (key_for setup.peer kind) w.book)
-        (λ e is. each_tag_is_right setup events whole e (in_whole (key_for setup.peer kind) e w.book is)) makers in
+    (λ e is. each_tag_is_right setup events whole e (in_whole (key_for setup.peer kind) e w.book is)) makers in
     record {
       whole = λ makers. honest_or_forged setup ps ss w.book (each_tag_is_right setup events whole) makers;
       keyed = λ makers key. honest_or_forged setup ps ss (under key w.book) (λ e is. each_tag_is_right setup events whole e (in_whole key e w.book is)) makers;

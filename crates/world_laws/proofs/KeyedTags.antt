@@ -4,7 +4,7 @@ use Rattle.std.specs.Prelude.{◌&&◌, ◌⊎◌, if◌then◌else◌}
 use Rattle.std.specs.Str.{bytes_eq}
 use Rattle.std.proofs.lemmas.Slice.Eq.{bytes_eq-Decides}
 use Rattle.eap_method.specs.declared.tags.TagRecord.{TagRecord}
-use Rattle.tag_book.specs.Book.{first_broken, same_end, tags_verdict, tags_verdict_either}
+use Rattle.tag_book.specs.Book.{first_broken, same_end, tags_verdict, tags_verdict_either, under}
 use Rattle.tag_book.specs.declared.book.End.{End}
 use Rattle.tag_book.specs.declared.book.Entry.{Entry}
 use Rattle.tag_book.specs.declared.book.RecordOwner.TheVariants.{Either, Other}
@@ -12,7 +12,6 @@ use Rattle.tag_book.specs.declared.book.TagsVerdict.TheVariants.{Honest}
 use Rattle.tag_book.specs.declared.book.Use.{Use}
 use Rattle.tag_book.specs.declared.book.Use.TheVariants.{Accepted, Made}
 use Rattle.world_laws.specs.Records.{IsIn, same_use, tags_by}
-use Rattle.world_laws.specs.UnderKey.{under}
 use Rattle.world_laws.proofs.HonestOfEither.{none_if_honest}
 use Rattle.world_laws.proofs.HonestOther.{honest_other}
 use Rattle.world_laws.proofs.TagsOfEnds.{by_test_in, honest_tags, in_if, other_end, skip_if}

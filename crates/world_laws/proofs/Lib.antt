@@ -175,4 +175,5 @@ pub mod Forgery
 pub mod Downgrade
 -- Each Nak that the peer sends anew answers a Request of a Type that it doesn't allow.
 pub mod NakAnswers
+-- By EAP-PSK a peer whose decision isn't FAIL has decided for a success that nothing can undo.
 pub mod UnconditionalPsk

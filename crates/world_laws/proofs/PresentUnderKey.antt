@@ -9,7 +9,7 @@ use Rattle.peer_machine.specs.PeerTable as peers
 use Rattle.peer_machine.specs.PeerTable.{PeerNow}
 use Rattle.server_machine.specs.ServerTable as servers
 use Rattle.server_machine.specs.ServerTable.{ServerNow}
-use Rattle.tag_book.specs.Book.{tags_verdict, tags_verdict_either}
+use Rattle.tag_book.specs.Book.{tags_verdict, tags_verdict_either, under}
 use Rattle.tag_book.specs.declared.book.End.TheVariants as end
 use Rattle.tag_book.specs.declared.book.TagsVerdict.TheVariants.{Honest}
 use Rattle.tag_book.specs.declared.book.Use.TheVariants.{Accepted, Made}
@@ -23,7 +23,7 @@ use Rattle.world_laws.specs.Matching.{PeerMatches, ServerRests}
 use Rattle.world_laws.specs.PresentUnderKey.{AgreeOnTheirs, EndsAgreeUnder, OneEndImpliesUnder, SucceedBy}
 use Rattle.world_laws.specs.Records.{IsIn, tags_by}
 use Rattle.world_laws.specs.TagOwners.{NotByServer, PeerTagOwner}
-use Rattle.world_laws.specs.UnderKey.{IsOfKey, under}
+use Rattle.world_laws.specs.UnderKey.{IsOfKey}
 use Rattle.world_laws.proofs.Alone.{knows, peer_tells, server_tells}
 use Rattle.world_laws.proofs.Asks.{AsksServer}
 use Rattle.world_laws.proofs.AsksByMethod.{peer_asks}

@@ -25,7 +25,8 @@ use Rattle.world_laws.specs.EachConversation.{AreTwoOf, IsOneOf, OfPeer, OfServe
 use Rattle.world_laws.specs.GpskPeerInvariant as gpsk_stands
 use Rattle.world_laws.specs.Matching.{RestsOn}
 use Rattle.world_laws.specs.PskPeerInvariant as psk_stands
-use Rattle.world_laws.specs.SessionIds.{AreOfTwo, HaveOneSession, SessionIdsMatch, SessionOf, gpsk_peer_session, gpsk_server_session, method_id_input, peer_session, peer_session_of, psk_peer_session, psk_server_session, psk_session_id, server_session, server_session_of, session_id}
+use Rattle.login_keys.specs.SessionId.{method_id_input}
+use Rattle.world_laws.specs.SessionIds.{AreOfTwo, HaveOneSession, SessionIdsMatch, SessionOf, gpsk_peer_session, gpsk_server_session, input_of, peer_session, peer_session_of, psk_peer_session, psk_server_session, psk_session_id, server_session, server_session_of, session_id}
 use Rattle.world_laws.proofs.Conversations.{run_known}
 use Rattle.world_laws.proofs.Fields.{fronts}
 use Rattle.world_laws.proofs.GpskAgrees as gpsk
@@ -131,7 +132,7 @@ module _ (nonce other_nonce : List ℕ) (size : length nonce ≡ 32) (other_size
       (ap length others ∙ front_size other_nonce (omega (arith, other_size))) (tails psk_kind psk_kind _ _ e)).0
       ∙ others)
 
-  gpsk_same : x.report.method ≡ gpsk_kind → y.report.method ≡ gpsk_kind → (suite its : Suite) → method_id_input suite x ≡ method_id_input its y
+  gpsk_same : x.report.method ≡ gpsk_kind → y.report.method ≡ gpsk_kind → (suite its : Suite) → method_id_input suite (input_of x) ≡ method_id_input its (input_of y)
       → front nonce ≡ front other_nonce
   gpsk_same one other suite its e =
       let own = from.by_gpsk one in

@@ -86,14 +86,14 @@ module _ (now : PeerNow) (h : IsUnconditional now) where
   expanded_sure out wins None = wins
   expanded_sure out wins (Some packet) = record { sure = wins.sure; over = wins.over }
 
-  hearing_sure : (bytes : List ℕ) (out : PeerAnswer) → PeerReceiving now bytes out → IsUnconditional out.after
-  hearing_sure bytes _ as_it_is = of_octets bytes
-  hearing_sure bytes _ (bad id kind body asks is_bad) = h
-  hearing_sure bytes _ (receiving.again id kind body asks last) = of_octets _
-  hearing_sure bytes _ (expresses id kind body asks new) = expanded_sure _ (of_octets _) _
+  receiving_sure : (bytes : List ℕ) (out : PeerAnswer) → PeerReceiving now bytes out → IsUnconditional out.after
+  receiving_sure bytes _ as_it_is = of_octets bytes
+  receiving_sure bytes _ (bad id kind body asks is_bad) = h
+  receiving_sure bytes _ (receiving.again id kind body asks last) = of_octets _
+  receiving_sure bytes _ (expresses id kind body asks new) = expanded_sure _ (of_octets _) _
 
   accepts_sure : (input : PeerInput) → IsUnconditional (peer_accepts now input).after
-  accepts_sure (octets bytes) = hearing_sure bytes _ (peer_receives_so now bytes)
+  accepts_sure (octets bytes) = receiving_sure bytes _ (peer_receives_so now bytes)
   accepts_sure idle = answer_sure idle
   accepts_sure alt_accept = answer_sure alt_accept
   accepts_sure alt_reject = answer_sure alt_reject

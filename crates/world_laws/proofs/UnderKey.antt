@@ -10,7 +10,7 @@ use Rattle.peer_machine.specs.PeerTable as peers
 use Rattle.peer_machine.specs.PeerTable.{peer_reports}
 use Rattle.server_machine.specs.ServerTable as servers
 use Rattle.server_machine.specs.ServerTable.{server_reports}
-use Rattle.tag_book.specs.Book.{tags_verdict, tags_verdict_either}
+use Rattle.tag_book.specs.Book.{tags_verdict, tags_verdict_either, under}
 use Rattle.tag_book.specs.declared.book.End.TheVariants as end
 use Rattle.tag_book.specs.declared.book.Entry.{Entry}
 use Rattle.tag_book.specs.declared.book.TagsVerdict.TheVariants.{Honest}
@@ -22,7 +22,7 @@ use Rattle.world_laws.specs.EachConversation.{IsOneOf, OfPeer, OfServer, all_pro
 use Rattle.eap_world.specs.Conversations.{front}
 use Rattle.world_laws.specs.Matching.{HaveNonces, PeerMatches, PeerRests, ReportsAgree, RestsOn, ServerMatches, ServerRests}
 use Rattle.world_laws.specs.Records.{IsIn, tags_by}
-use Rattle.world_laws.specs.UnderKey.{ConversationsMatchUnder, IsOfKey, under}
+use Rattle.world_laws.specs.UnderKey.{ConversationsMatchUnder, IsOfKey}
 use Rattle.world_laws.proofs.Conversations.{run_known}
 use Rattle.world_laws.proofs.HonestOfEither.{honest_of_either}
 use Rattle.world_laws.proofs.KeyedTags.{either_under, other_under}
@@ -227,12 +227,13 @@ module _ (setup : Setup) (last : WorldNow) (ps : List OfPeer) (ss : List OfServe
         let s_known = all.servers s s_is in
         let asking = matching.server_in setup s s_known s_in in
         let same = matching.the_same setup last ps ss all fresh m.by p m.is_one p_is
-        (one_stored (server_knows_nonce s) _ _ a.1 asking.holds ∙ sym (matching.server_on setup s s_known s_in p (all.peers p p_is) rests).0) in
-        (subst (λ (q : OfPeer). RestsOn q.accepted s.made) same a.0,
-        subst (λ (q : OfPeer). IsIn (tek_record is.psk 1 is.header is.sealed is.tag) q.made) same m.is_in)
+        (one_stored (server_knows_nonce s) _ _ a.1 asking.holds ∙ sym (matching.server_on setup s s_known s_in p (all.peers p p_is) rests).0) in (
+          subst (λ (q : OfPeer). RestsOn q.accepted s.made) same a.0,
+          subst (λ (q : OfPeer). IsIn (tek_record is.psk 1 is.header is.sealed is.tag) q.made) same m.is_in,
+        )
 
-    leads_there : (p : OfPeer) → IsOneOf p ps → RestsOn s.accepted p.made → peer_login p.now.vars.selected p.now.views ≡ server_reports s.now
-    leads_there p p_is rests =
+    same_login : (p : OfPeer) → IsOneOf p ps → RestsOn s.accepted p.made → peer_login p.now.vars.selected p.now.views ≡ server_reports s.now
+    same_login p p_is rests =
         let known = all.peers p p_is in
         let s_known = all.servers s s_is in
         same_report (peers.setup_with_nonce setup.peer (peer_nonce p)) (servers.setup_with_nonce setup.server (server_nonce s)) known.size s_known.size
@@ -246,7 +247,7 @@ module _ (setup : Setup) (last : WorldNow) (ps : List OfPeer) (ss : List OfServe
         let is : HasPsk4 (server_nonce s) s.accepted =
         record { psk = c.login.psk; header = c.header; sealed = c.sealed; tag = _; is_in = c.is_in; rand_in = c.rand_in } in
         let b = answered_back is p p_is rests in
-        (b.0, psk.confirm_from setup last ps ss all s s_is c p p_is rests b.1 ∙ leads_there p p_is rests)
+        (b.0, psk.confirm_from setup last ps ss all s s_is c p p_is rests b.1 ∙ same_login p p_is rests)
 
 pub conversations_match_under : ConversationsMatchUnder
 conversations_match_under setup events kind whole =
@@ -255,6 +256,6 @@ conversations_match_under setup events kind whole =
       peers_match = match_peers setup _ _ _ all kind;
       servers_match = match_servers setup _ _ _ all kind;
       both_agree = agree_both setup _ _ _ all kind;
-      peers_agree = λ honest fresh s s_is s_in of_key. leads_there setup _ _ _ all kind honest fresh s s_is s_in of_key;
+      peers_agree = λ honest fresh s s_is s_in of_key. same_login setup _ _ _ all kind honest fresh s s_is s_in of_key;
       psk_servers_confirm = λ honest fresh s s_is s_in of_key. confirms setup _ _ _ all kind honest fresh s s_is s_in of_key;
     }

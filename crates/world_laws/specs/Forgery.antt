@@ -20,7 +20,7 @@ use Rattle.eap_method.specs.declared.values.Report.{Report}
 use Rattle.eap_method.specs.Peer.{PeerViews, key_for}
 use Rattle.eap_method.specs.PskTags.{ak_record, channel_nonce, tek_record}
 use Rattle.eap_method.specs.Server.{ServerViews}
-use Rattle.tag_book.specs.Book.{first_broken, may_make, verdict_on}
+use Rattle.tag_book.specs.Book.{first_broken, may_make, under, verdict_on}
 use Rattle.tag_book.specs.declared.book.End.TheVariants as end
 use Rattle.tag_book.specs.declared.book.Entry.{Entry}
 use Rattle.tag_book.specs.declared.book.RecordOwner.{RecordOwner}
@@ -41,7 +41,7 @@ use Rattle.world_laws.specs.GpskServerInvariant.{gpsk_whole_rand_p_in}
 use Rattle.world_laws.specs.PskServerInvariant.{psk_rand_p_in}
 use Rattle.world_laws.specs.Records.{IsIn}
 use Rattle.world_laws.specs.PresentUnderKey.{AgreeOnTheirs, SucceedBy}
-use Rattle.world_laws.specs.UnderKey.{IsOfKey, under}
+use Rattle.world_laws.specs.UnderKey.{IsOfKey}
 
 -- from what the keys of a login derive: by EAP-PSK the PSK and RAND_P (RFC 4764 section 3); by EAP-GPSK CSuite_Sel, the PSK,
 -- RAND_Peer, ID_Peer, RAND_Server and ID_Server (RFC 5433 section 4)

@@ -1,11 +1,12 @@
 -- The Session-Id of a login (RFC 5247 section 1.4): both ends make the same, and no other login of the peer with fresh nonces makes it.
-use Rattle.std.specs.Prelude.{◌≡◌, ℕ, List, ◌∷◌, ◌++◌, Bool, true, ◌==◌, if◌then◌else◌, codes, Option, None, Some}
+use Rattle.std.specs.Prelude.{◌≡◌, ℕ, List, Bool, true, ◌==◌, if◌then◌else◌, Option, None, Some}
 use Rattle.login_setup.specs.declared.event.Event.{Event}
 use Rattle.login_setup.specs.declared.setup.Setup.{Setup}
 use Rattle.octet_lists.specs.Among.{gpsk_kind, psk_kind}
-use Rattle.octet_lists.specs.Suite.{suite_numbered, suite_octets}
+use Rattle.octet_lists.specs.Suite.{suite_numbered}
 use Rattle.octet_lists.specs.declared.suite.Suite.{Suite}
-use Rattle.login_keys.specs.Gpsk.{gkdf, input_string}
+use Rattle.login_keys.specs.Gpsk.{input_string}
+use Rattle.login_keys.specs.SessionId.{gpsk_id, method_id_input, psk_id}
 use Rattle.eap_method.specs.declared.values.Report.{Report}
 use Rattle.eap_method.specs.GpskPeer as gpsk_peer
 use Rattle.eap_method.specs.GpskServer as gpsk_server
@@ -28,18 +29,15 @@ pub record SessionOf : Type 0 where
   pub rand_p : List ℕ
   pub rand_s : List ℕ
 
--- EAP-PSK: its Type, RAND_P and RAND_S
 abbrev pub psk_session_id : SessionOf → List ℕ
-psk_session_id x = psk_kind ∷ (x.rand_p ++ x.rand_s)
+psk_session_id x = psk_id x.rand_p x.rand_s
 
--- EAP-GPSK: its Type and 16 octets that the KDF derives from these (RFC 5433 section 4), by the standard under a key of zeros
-abbrev pub method_id_input : Suite → SessionOf → List ℕ
-method_id_input suite x =
-    codes "Method ID" ++ (gpsk_kind ∷ (suite_octets suite ++ input_string x.rand_p x.report.id_p x.rand_s x.report.id_s))
+abbrev pub input_of : SessionOf → List ℕ
+input_of x = input_string x.rand_p x.report.id_p x.rand_s x.report.id_s
 
 abbrev pub gpsk_session_id : (Suite → List ℕ) → SessionOf → Option Suite → Option (List ℕ)
 gpsk_session_id key x None = None
-gpsk_session_id key x (Some suite) = Some (gpsk_kind ∷ gkdf suite 16 (key suite) (method_id_input suite x))
+gpsk_session_id key x (Some suite) = Some (gpsk_id suite (key suite) (input_of x))
 
 abbrev pub session_id : (Suite → List ℕ) → SessionOf → Option (List ℕ)
 session_id key x = if x.report.method == psk_kind then Some (psk_session_id x) else gpsk_session_id key x (suite_numbered x.report.suite)
@@ -95,7 +93,7 @@ pub record HaveOneSession (p : OfPeer) (s : OfServer) : Type 0 where
 pub record AreOfTwo (one other : SessionOf) : Type 0 where
   pub by_psk : one.report.method ≡ psk_kind → other.report.method ≡ psk_kind → psk_session_id one ≡ psk_session_id other → ⊥
   pub by_gpsk : one.report.method ≡ gpsk_kind → other.report.method ≡ gpsk_kind → (suite its : Suite)
-      → method_id_input suite one ≡ method_id_input its other → ⊥
+      → method_id_input suite (input_of one) ≡ method_id_input its (input_of other) → ⊥
 
 pub record HaveSessions (w : WorldNow) (peers : List OfPeer) (servers : List OfServer) : Type 0 where
   -- of two conversations in SUCCESS that rest on each other

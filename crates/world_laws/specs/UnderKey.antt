@@ -1,7 +1,6 @@
 -- Matching conversations of one user of the server, whatever its other users do: what is asked of tags is asked of those under the key
 -- that the peer shares with the server, and of no other.
-use Rattle.std.specs.Prelude.{◌≡◌, ℕ, List, [], ◌∷◌, true, if◌then◌else◌, Some}
-use Rattle.std.specs.Str.{bytes_eq}
+use Rattle.std.specs.Prelude.{◌≡◌, ℕ, List, true, Some}
 use Rattle.login_setup.specs.declared.setup.Setup.{Setup}
 use Rattle.login_setup.specs.declared.users.User.{User}
 use Rattle.login_setup.specs.declared.event.Event.{Event}
@@ -13,7 +12,7 @@ use Rattle.peer_machine.specs.PeerTable.{peer_reports}
 use Rattle.server_machine.specs.ServerTable.{ServerNow, server_reports}
 use Rattle.tag_book.specs.declared.book.Entry.{Entry}
 use Rattle.tag_book.specs.declared.book.TagsVerdict.TheVariants.{Honest}
-use Rattle.tag_book.specs.Book.{tags_verdict, tags_verdict_either}
+use Rattle.tag_book.specs.Book.{tags_verdict, tags_verdict_either, under}
 use Rattle.eap_world.specs.Judgement.{is_success}
 use Rattle.eap_world.specs.Run.{run_of}
 use Rattle.eap_world.specs.World.{WorldNow}
@@ -21,11 +20,6 @@ use Rattle.world_laws.specs.Agreement.{IsWhole}
 use Rattle.world_laws.specs.ByMethod.{peer_login}
 use Rattle.world_laws.specs.EachConversation.{IsOneOf, OfPeer, OfServer, peer_conversations, server_conversations}
 use Rattle.world_laws.specs.Matching.{PeerMatches, ReportsAgree, RestsOn, ServerMatches}
-
--- the entries of a book whose tags are under this shared key
-unfoldable pub under : List ℕ → List Entry → List Entry
-under key [] = []
-under key (e ∷ rest) = if bytes_eq e.tag.psk key then e ∷ under key rest else under key rest
 
 -- what the server reports is of a user of this key
 pub record IsOfKey (setup : Setup) (key : List ℕ) (now : ServerNow) : Type 0 where

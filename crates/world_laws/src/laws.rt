@@ -117,7 +117,8 @@ pub fn conversations_match()
 {}
 
 /// The same of one user of the server, whatever its other users do with keys of their own, and whoever they are: what is asked of tags is
-/// asked of those under the key that the peer has for a method, and of no other.
+/// asked of those under the key that the peer has for a method, and of no other. Over fresh nonces a login of that user is confirmed as
+/// there: what the server reports, the peer's login leads to; and by EAP-PSK that has succeeded, and reports it.
 pub fn conversations_match_under_a_key()
     ensures { ConversationsMatchUnder }
 {}
@@ -235,7 +236,9 @@ pub fn each_tag_is_right()
 /// made before is the right MAC of its octets under a key that the accepting conversation derives, and no tag that the other
 /// end had made before has the same method, label, PSK, octets and MAC. That is the event of a reduction to the MAC's
 /// unforgeability. So it is of the tags that neither end had made, and of those under one PSK alone. If no end has begun a
-/// second conversation, or nonces are fresh, two ends that are both in SUCCESS agree, or the run shows such a tag.
+/// second conversation, or nonces are fresh, two ends that are both in SUCCESS agree, or the run shows such a tag: under the
+/// peer's key for its method, if the server's success is of a user of that key. If no end has begun a second conversation,
+/// or by EAP-PSK if nonces are fresh, it is one that neither end had made: a tag that came back to its maker is no forgery.
 pub fn agree_or_forged()
     ensures { AgreeOrForged }
 {}

@@ -10,6 +10,6 @@ pub use laws::{
     ends_agree_under_a_key, few_packets, few_tags, freshness_is_exact, honest_ends_agree,
     honest_names_are_theirs, honest_of_either, honest_under_a_key, naks_refuse, one_end_implies,
     one_end_implies_under_a_key, pass_carries, pass_is_alone, pass_learns_nothing,
-    psk_success_is_unconditional, reflected_ends_agree, reports_are_traced, session_ids_match, skips_change_nothing, starts_once,
-    steps_are_lawful,
+    psk_success_is_unconditional, reflected_ends_agree, reports_are_traced, session_ids_match,
+    skips_change_nothing, starts_once, steps_are_lawful,
 };
