@@ -74,16 +74,16 @@ byte_lt : (k n : ℕ) → byte_at k n < 256
 byte_lt zero n = mod-lt n (omega arith)
 byte_lt (suc k) n = omega arith
 
-bytes_fit : (k n : ℕ) → AreOctets (bytes_high_first k n)
-bytes_fit zero n i = omega arith
-bytes_fit (suc k) n zero = byte_lt k n
-bytes_fit (suc k) n (suc i) = bytes_fit k n i
+byte_octets : (k n : ℕ) → AreOctets (bytes_high_first k n)
+byte_octets zero n i = omega arith
+byte_octets (suc k) n zero = byte_lt k n
+byte_octets (suc k) n (suc i) = byte_octets k n i
 
 -- ---- a block combined with a counter
 
 combined_is_block : (block : List ℕ) (c : ℕ) → IsBlock (combined_with block c)
 unfolding combined_with
-combined_is_block block c = record { whole = refl; octets = bytes_fit 16 (bit_xor (from_be_bytes w128 block) c) }
+combined_is_block block c = record { whole = refl; octets = byte_octets 16 (bit_xor (from_be_bytes w128 block) c) }
 
 xor_back : (a c : ℕ) → bit_xor (bit_xor a c) c ≡ a
 xor_back a c = xor_assoc a c c ∙ ap (bit_xor a) (xor_self c) ∙ xor_zero_r a
