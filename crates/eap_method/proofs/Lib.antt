@@ -26,3 +26,5 @@ pub mod ServerViews
 pub mod Unnamed
 -- Rows that were worked: which objects an end doesn't name.
 pub mod Worked
+-- Where an end has an object of both methods, it has one of each method that settings can name.
+mod BothMethods

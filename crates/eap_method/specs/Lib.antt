@@ -1,6 +1,7 @@
 pub mod GpskPeer
 pub mod GpskServer
 pub mod GpskTags
+pub mod Outcomes
 pub mod Peer
 pub mod PeerTurn
 pub mod Plain

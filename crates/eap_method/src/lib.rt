@@ -3,6 +3,8 @@
 #![tactic(auto)]
 
 mod note;
+mod outcome;
+mod pairs;
 mod peer;
 mod peer_objects;
 mod psk_macs;
@@ -12,8 +14,11 @@ mod server_objects;
 mod step;
 mod tags;
 mod turn;
+mod turns;
 mod values;
 
+pub use outcome::Outcome;
+pub use pairs::{peer_pair, server_pair};
 pub use peer::PeerMethod;
 pub use peer_objects::{call_peer_method, peer_report, start_peers};
 pub use psk_macs::{mac_p, mac_s};
@@ -23,4 +28,5 @@ pub use server_objects::{call_server_method, offer_method, server_report, side_o
 pub use step::{Step, WholeStep, has_ended};
 pub use tags::{Covering, Label, TagList, TagRecord, Tags};
 pub use turn::{PeerAnswer, PeerTurn, ServerAnswer, ServerTurn};
+pub use turns::Turns;
 pub use values::{Credential, Decision, MethodState, Methods, Report, ServerSide};

@@ -6,7 +6,7 @@ ghost use Rattle.eap_method.specs.Peer.{peer_kind, started_peer, peer_step, peer
 ghost use Rattle.eap_method.specs.PeerTurn.{peer_turn_of, peer_turn_with, peer_tags};
 ghost use Rattle.eap_method.specs.Capacity.{HasCapacity, PeerTurnHasCapacity, replies};
 
-use crate::records::Records;
+use crate::records::NoRecords;
 use crate::tags::Tags;
 use crate::turn::{PeerAnswer, PeerTurn};
 use crate::values::{Credential, Report};
@@ -48,15 +48,13 @@ pub trait PeerMethod: Drop {
         self.handle(request).put(packet, tags)
     }
 
-    /// The same, with room for the records or none.
-    fn handle_step<R: Records>(
+    /// The same, with no room for the records.
+    fn handle_unrecorded(
         &mut self,
         request: &[u8],
         packet: &mut Packet,
-        tags: &mut Tags<R>,
+        tags: &mut Tags<NoRecords>,
     ) -> PeerAnswer
-    where
-        Self: Sized,
         requires { IsRequest (peer_kind (peer_shown self.old)) request.now }
         ensures turn { peer_step (peer_shown self.old) request.now
             ≡ record { turn = peer_turn_with result packet.new tags.new; after = peer_shown self.new } }
@@ -93,16 +91,13 @@ impl PeerMethod for Box<dyn PeerMethod> {
         (**self).handle_into(request, packet, tags)
     }
 
-    fn handle_step<R: Records>(
+    fn handle_unrecorded(
         &mut self,
         request: &[u8],
         packet: &mut Packet,
-        tags: &mut Tags<R>,
+        tags: &mut Tags<NoRecords>,
     ) -> PeerAnswer {
-        let mut records = Tags::new();
-        let answer = (**self).handle_into(request, packet, &mut records);
-        tags.set(&records);
-        answer
+        (**self).handle_unrecorded(request, packet, tags)
     }
 
     fn report(&self) -> Option<Report> {

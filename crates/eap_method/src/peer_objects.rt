@@ -9,9 +9,9 @@ ghost use Rattle.eap_method.specs.PeerTurn.{peer_turn_with, peer_tags};
 ghost use Rattle.eap_method.specs.Capacity.{HasCapacity, replies};
 
 use crate::peer::PeerMethod;
-use crate::records::Records;
 use crate::tags::Tags;
 use crate::turn::PeerAnswer;
+use crate::turns::Turns;
 use crate::values::{Credential, Report};
 use eap_packet::Cause;
 use login_policy::peer_allows;
@@ -35,7 +35,7 @@ pub fn start_peers<M: PeerMethod>(methods: &mut [M], setup: &PeerSetup)
 /// its Length: its Response is written into `packet`, with room for an Expanded Type, the records of its
 /// tags into `tags`. If there is no such object, the Request is discarded as one that no method
 /// awaits. The objects of other methods stay as they are.
-pub fn call_peer_method<M: PeerMethod, R: Records>(
+pub fn call_peer_method<M: PeerMethod, R: Turns>(
     methods: &mut [M],
     kind: u8,
     request: &[u8],
@@ -58,7 +58,7 @@ pub fn call_peer_method<M: PeerMethod, R: Records>(
         }
         Some((first, rest)) => {
             if first.kind() == kind {
-                first.handle_step(request, packet, tags)
+                R::peer_turn(first, request, packet, tags)
             } else {
                 call_peer_method(rest, kind, request, packet, tags)
             }

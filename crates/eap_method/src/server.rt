@@ -6,7 +6,7 @@ ghost use Rattle.eap_method.specs.Server.{server_kind, started_server, has_initi
 ghost use Rattle.eap_method.specs.Capacity.{HasCapacity, ServerTurnHasCapacity, requests};
 ghost use Rattle.eap_method.specs.ServerTurn.{server_turn_of, server_turn_with, server_tags};
 
-use crate::records::Records;
+use crate::records::NoRecords;
 use crate::tags::Tags;
 use crate::turn::{ServerAnswer, ServerTurn};
 use crate::values::{Report, ServerSide};
@@ -75,17 +75,15 @@ pub trait ServerMethod: Drop {
         self.handle(response, next_id, users).put(packet, tags)
     }
 
-    /// The same, with room for the records or none.
-    fn handle_step<R: Records>(
+    /// The same, with no room for the records.
+    fn handle_unrecorded(
         &mut self,
         response: &[u8],
         next_id: u8,
         users: &Users,
         packet: &mut Packet,
-        tags: &mut Tags<R>,
+        tags: &mut Tags<NoRecords>,
     ) -> ServerAnswer
-    where
-        Self: Sized,
         requires response { IsResponse (server_kind (server_shown self.old)) response.now }
         requires keys { All (λ user. IsTrue (is_valid_for user.kind user.psk)) users.now }
         ensures turn { server_step users.now next_id (server_shown self.old) response.now
@@ -138,18 +136,15 @@ impl ServerMethod for Box<dyn ServerMethod> {
         (**self).handle_into(response, next_id, users, packet, tags)
     }
 
-    fn handle_step<R: Records>(
+    fn handle_unrecorded(
         &mut self,
         response: &[u8],
         next_id: u8,
         users: &Users,
         packet: &mut Packet,
-        tags: &mut Tags<R>,
+        tags: &mut Tags<NoRecords>,
     ) -> ServerAnswer {
-        let mut records = Tags::new();
-        let answer = (**self).handle_into(response, next_id, users, packet, &mut records);
-        tags.set(&records);
-        answer
+        (**self).handle_unrecorded(response, next_id, users, packet, tags)
     }
 
     fn report(&self) -> Option<Report> {

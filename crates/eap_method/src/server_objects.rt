@@ -9,10 +9,10 @@ ghost use Rattle.eap_method.specs.ServerTurn.{server_turn_with, server_tags};
 ghost use Rattle.eap_method.specs.Server.{server_kinds, server_views, server_offer, server_turn, IsResponse, server_report_of, side_of, views_started, server_started_in};
 ghost use Rattle.eap_method.specs.Unnamed.{servers_unnamed};
 
-use crate::records::Records;
 use crate::server::ServerMethod;
 use crate::tags::Tags;
 use crate::turn::ServerAnswer;
+use crate::turns::Turns;
 use crate::values::{Report, ServerSide};
 use eap_packet::Cause;
 use login_setup::{ServerSetup, Users};
@@ -67,7 +67,7 @@ pub fn offer_method<M: ServerMethod>(
 /// past its Length: a Request that follows has the Identifier `next_id` and is written into `packet`,
 /// the records of the turn's tags into `tags`. If there is no such object, the Response is discarded
 /// as one that no method awaits. The objects of other methods stay as they are.
-pub fn call_server_method<M: ServerMethod, R: Records>(
+pub fn call_server_method<M: ServerMethod, R: Turns>(
     methods: &mut [M],
     kind: u8,
     response: &[u8],
@@ -94,7 +94,7 @@ pub fn call_server_method<M: ServerMethod, R: Records>(
         }
         Some((first, rest)) => {
             if first.kind() == kind {
-                first.handle_step(response, next_id, users, packet, tags)
+                R::server_turn(first, response, next_id, users, packet, tags)
             } else {
                 call_server_method(rest, kind, response, next_id, users, packet, tags)
             }

@@ -11,7 +11,7 @@ use octet_lists::Packet;
 use std::marker::Model;
 
 /// What one call of a machine does, seen from outside.
-#[derive(Drop)]
+#[derive(Drop, Debug)]
 pub struct Step {
     /// The states that it enters, in order; none if the party had ended.
     pub path: Path,
@@ -23,6 +23,7 @@ pub struct Step {
 
 /// What one call of a machine does, with the packet that it sends and the records of its tags.
 #[derive(Drop)]
+#[derive_where(Debug)]
 pub struct WholeStep {
     /// The states that it enters, in order; none if the party had ended.
     pub path: Path,
@@ -30,7 +31,8 @@ pub struct WholeStep {
     pub cause: Option<Cause>,
     /// The packet that it sends.
     pub sent: Option<Packet>,
-    /// Of the tags accepted and made.
+    /// Of the tags accepted and made. `Debug` leaves them out, since each has the shared key.
+    #[derive_where(skip)]
     pub tags: Tags,
 }
 

@@ -26,7 +26,7 @@ pub enum Decision {
 }
 
 /// What a peer brings into a method.
-#[derive(Drop)]
+#[derive(Drop, Debug)]
 pub struct Credential {
     /// The peer's name, ID_P or ID_Peer.
     pub id_p: Identity,
@@ -54,7 +54,7 @@ impl Credential {
 }
 
 /// What a server brings into a method, its users apart.
-#[derive(Drop)]
+#[derive(Drop, Debug)]
 pub struct ServerSide {
     /// The server's name, ID_S or ID_Server.
     pub id_s: Identity,
@@ -74,8 +74,9 @@ impl ServerSide {
     }
 }
 
-/// What an end has after a method that succeeded.
+/// What an end has after a method that succeeded. `Debug` leaves the keys out.
 #[derive(Drop)]
+#[derive_where(Debug)]
 pub struct Report {
     /// The method: 47 (EAP-PSK) or 51 (EAP-GPSK).
     pub method: u8,
@@ -86,9 +87,27 @@ pub struct Report {
     /// The suite of EAP-GPSK, 1 or 2; 0 for EAP-PSK.
     pub suite: u8,
     /// The Master Session Key (RFC 3748 section 7.10).
+    #[derive_where(skip)]
     pub msk: [u8; 64],
     /// The Extended Master Session Key (RFC 3748 section 7.10).
+    #[derive_where(skip)]
     pub emsk: [u8; 64],
+}
+
+impl Report {
+    /// An equal report.
+    pub fn copy(&self) -> Report
+        ensures { result ≡ self.now }
+    {
+        Report {
+            method: self.method,
+            id_p: self.id_p.copy(),
+            id_s: self.id_s.copy(),
+            suite: self.suite,
+            msk: self.msk,
+            emsk: self.emsk,
+        }
+    }
 }
 
 /// The objects of both ends' methods.

@@ -248,7 +248,7 @@ impl<P: PeerMethod, S: ServerMethod> Machines<P, S> {
         ensures { DoesCall P.peer_shown S.server_shown self.old result self.new
             (first_skip (timer_skips (parties_of P.peer_shown S.server_shown self.old) Pass)) (Some (timer_call Pass)) }
     {
-        match self.pass_skip(self.pass.has_timer()) {
+        match self.pass_skip(self.pass.wants_timer()) {
             Some(skip) => Action::Skipped(skip),
             None => {
                 self.tags.clear();

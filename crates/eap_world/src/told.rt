@@ -35,7 +35,7 @@ pub struct SentNumber {
 }
 
 /// A report that an end has for the first time.
-#[derive(Drop)]
+#[derive(Drop, Debug)]
 pub struct Named {
     /// The peer or the server.
     pub party: Party,
@@ -43,7 +43,7 @@ pub struct Named {
 }
 
 /// The result of the start or of an event.
-#[derive(Drop)]
+#[derive(Drop, Debug)]
 pub struct Brief {
     /// The event's number, from 1; 0 is the start.
     pub event: u32,
@@ -62,7 +62,7 @@ pub struct Brief {
 }
 
 /// A packet that was sent, with its octets.
-#[derive(Drop)]
+#[derive(Drop, Debug)]
 pub struct SentPacket {
     /// Its number, counted from 1 in the order of sending; a packet that is sent again gets another.
     pub number: u32,
@@ -72,7 +72,7 @@ pub struct SentPacket {
 }
 
 /// The result of the start or of an event, with the packet that was sent.
-#[derive(Drop)]
+#[derive(Drop, Debug)]
 pub struct Told {
     /// The event's number, from 1; 0 is the start.
     pub event: u32,

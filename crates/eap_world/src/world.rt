@@ -95,6 +95,16 @@ impl<P: PeerMethod, S: ServerMethod> World<P, S> {
     ghost use Rattle.eap_world.specs.World.{HasObjects, PreservesObjects, PreservesAllObjects, NamesAlike, IsResult, brief_of, packet_octets, initial_world, world_start, world_step, now_of};
     ghost use Rattle.eap_world.specs.World.{octets_numbered, octets_of_sent, pass_state, state_of};
 
+    /// Whether [`World::new`] takes these settings with these objects.
+    pub fn takes(setup: &Setup, methods: &Methods<P, S>) -> bool
+        ensures { IsTrue result ↔ ((setup.now.max_retrans ≤ 10)
+            × (IsSoundPeer setup.now.peer × HasKeys setup.now.peer × (have_each (peer_kinds (map P.peer_shown methods.now.peer.items)) setup.now.peer.methods ≡ true))
+            × IsSoundServer setup.now.server × (have_each (server_kinds (map S.server_shown methods.now.server.items)) setup.now.server.methods ≡ true)) }
+    {
+        PeerMachine::takes(&setup.peer, methods.peer.as_slice())
+            && ServerMachine::takes(&setup.server, setup.max_retrans, methods.server.as_slice())
+    }
+
     /// The world of a setup, in which the peer has begun and the server, or the pass-through, hasn't started.
     /// Each method that an end allows or proposes has an object, which begins; the others stay as they were. It
     /// allocates no memory.

@@ -9,7 +9,7 @@ ghost use Rattle.end_commands.specs.EndText.{told_text};
 
 use crate::lines::{write_last, write_step};
 use command_driver::{Close, Command, Next, Status, Trouble};
-use eap_method::{Tags, TwoRecords};
+use eap_method::{NoRecords, Tags};
 use end_pipe::{EndInput, EndPipe, EndReader, EndStep, Machine, Role};
 use octet_io::{Failed, Sink};
 use octet_lists::Packet;
@@ -30,7 +30,7 @@ pub struct End<M, E> {
     /// The packet that the end sends.
     pub(crate) packet: Packet,
     /// The records of its tags.
-    pub(crate) tags: Tags<TwoRecords>,
+    pub(crate) tags: Tags<NoRecords>,
 }
 
 /// How an end begins.
@@ -138,7 +138,7 @@ fn tell<E: Machine, W: Sink>(
     number: u32,
     input: &EndInput,
     packet: &mut Packet,
-    tags: &mut Tags<TwoRecords>,
+    tags: &mut Tags<NoRecords>,
 ) -> Result<(), Failed>
     requires { E.is_running pipe.old.machine }
     ensures running { E.is_running pipe.new.machine }

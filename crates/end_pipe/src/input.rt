@@ -7,7 +7,7 @@ use octet_lists::{Injected, Octets};
 
 /// The inputs of an end. Octets come to both, the end of the retransmission timer to the server (RFC 4137 section
 /// 5.5), and reports of the lower layer to the peer (section 4.1.1).
-#[derive(Drop)]
+#[derive(Drop, Debug)]
 pub enum EndInput {
     /// Octets arrive from the other end.
     Octets(Injected),

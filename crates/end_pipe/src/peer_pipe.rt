@@ -7,7 +7,7 @@ ghost use Rattle.end_pipe.specs.EndRun.{IsPeerAfter, started_peer, peer_end};
 
 use crate::input::EndInput;
 use crate::pipe::{EndPipe, Machine};
-use eap_method::{PeerMethod, Report, Step, Tags, TwoRecords};
+use eap_method::{PeerMethod, Report, Step, Tags, Turns};
 use eap_packet::State;
 use login_setup::PeerSetup;
 use octet_lists::Packet;
@@ -45,11 +45,11 @@ impl<M: PeerMethod> Machine for PeerMachine<M> {
 
     ghost is_running = { λ machine. Unit {0} };
 
-    fn handle_input(
+    fn handle_input<R: Turns>(
         &mut self,
         input: &EndInput,
         packet: &mut Packet,
-        tags: &mut Tags<TwoRecords>,
+        tags: &mut Tags<R>,
     ) -> Step {
         packet.clear();
         tags.clear();

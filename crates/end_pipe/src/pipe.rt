@@ -8,7 +8,7 @@ ghost use Rattle.end_pipe.specs.declared.input.EndInput.{EndInput};
 
 use crate::input::EndInput;
 use crate::told::{EndStep, EndTold};
-use eap_method::{Report, Step, Tags, TwoRecords, has_ended};
+use eap_method::{Report, Step, Tags, Turns, has_ended};
 use eap_packet::State;
 use octet_lists::Packet;
 use std::marker::Model;
@@ -31,11 +31,11 @@ pub trait Machine: Drop {
 
     /// Takes an input that isn't skipped. The packet that is sent is written into `packet`, the records of the tags into
     /// `tags`, in place of what was there.
-    fn handle_input(
+    fn handle_input<R: Turns>(
         &mut self,
         input: &EndInput,
         packet: &mut Packet,
-        tags: &mut Tags<TwoRecords>,
+        tags: &mut Tags<R>,
     ) -> Step
         requires running { is_running self.old }
         requires unskipped { is_skipped (table.state (shown self.old)) input.now ≡ false }
@@ -72,11 +72,11 @@ impl<E: Machine> EndPipe<E> {
     /// records of the tags into `tags`, in place of what was there; without a packet that is sent, `packet` is
     /// unspecified. The end of a timer and a report of the lower layer are skipped after the end. The end of a timer is
     /// none of the peer's inputs, a report of the lower layer none of the server's: it does nothing.
-    pub fn step_into(
+    pub fn step_into<R: Turns>(
         &mut self,
         input: &EndInput,
         packet: &mut Packet,
-        tags: &mut Tags<TwoRecords>,
+        tags: &mut Tags<R>,
     ) -> EndStep
         requires { E.is_running self.old.machine }
         ensures step { end_step E.table (end_now E.shown self.old) input.now
@@ -115,11 +115,11 @@ impl<E: Machine> EndPipe<E> {
 
     /// The same as `step`, without the clause that follows from the others.
     #[tactic(auto, unfolding(crate::specs::EndRun::end_step))]
-    fn step_by_table(
+    fn step_by_table<R: Turns>(
         &mut self,
         input: &EndInput,
         packet: &mut Packet,
-        tags: &mut Tags<TwoRecords>,
+        tags: &mut Tags<R>,
     ) -> EndStep
         requires { E.is_running self.old.machine }
         ensures step { end_step E.table (end_now E.shown self.old) input.now

@@ -11,7 +11,7 @@ ghost use Rattle.end_pipe.specs.EndRun.{IsServerAfter, outcome, server_end, serv
 use crate::input::EndInput;
 use crate::pipe::{EndPipe, Machine, first_report};
 use crate::told::{EndStep, EndTold};
-use eap_method::{Report, ServerMethod, Step, Tags, TwoRecords};
+use eap_method::{Report, ServerMethod, Step, Tags, Turns};
 use eap_packet::State;
 use login_setup::ServerSetup;
 use octet_lists::Packet;
@@ -57,7 +57,7 @@ impl<M: ServerMethod> ServerPipe<M> {
     }
 
     /// The server, which hasn't started, starts: it asks for the peer's identity, in `packet`.
-    pub fn start_into(&mut self, packet: &mut Packet, tags: &mut Tags<TwoRecords>) -> EndStep
+    pub fn start_into<R: Turns>(&mut self, packet: &mut Packet, tags: &mut Tags<R>) -> EndStep
         requires { is_started self.old.machine.vars ≡ false }
         ensures start { server_starts (server_end M.server_shown self.old)
             ≡ outcome (result_with result packet.new tags.new) (server_end M.server_shown self.new) }
@@ -94,7 +94,7 @@ impl<M: ServerMethod> ServerPipe<M> {
 
     /// The same as `start`, without the clause that follows from the others.
     #[tactic(auto, unfolding(crate::specs::EndRun::server_starts))]
-    fn start_by_table(&mut self, packet: &mut Packet, tags: &mut Tags<TwoRecords>) -> EndStep
+    fn start_by_table<R: Turns>(&mut self, packet: &mut Packet, tags: &mut Tags<R>) -> EndStep
         requires { is_started self.old.machine.vars ≡ false }
         ensures start { server_starts (server_end M.server_shown self.old)
             ≡ outcome (result_with result packet.new tags.new) (server_end M.server_shown self.new) }
@@ -125,11 +125,11 @@ impl<M: ServerMethod> Machine for StandAloneServer<M> {
 
     ghost is_running = { λ machine. is_started machine.vars ≡ true };
 
-    fn handle_input(
+    fn handle_input<R: Turns>(
         &mut self,
         input: &EndInput,
         packet: &mut Packet,
-        tags: &mut Tags<TwoRecords>,
+        tags: &mut Tags<R>,
     ) -> Step {
         packet.clear();
         tags.clear();

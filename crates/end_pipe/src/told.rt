@@ -9,7 +9,7 @@ use std::marker::Model;
 
 /// What an end does at its start or at an input. The packet that it sends and the records of its tags are in the
 /// buffers passed to the call.
-#[derive(Drop)]
+#[derive(Drop, Debug)]
 pub struct EndStep {
     /// What its machine does; nothing if the input was skipped.
     pub step: Step,

@@ -13,7 +13,7 @@ use crate::nonces::Nonces;
 use crate::peer::login::Initial;
 use crate::peer::stage::{Phase, Stage};
 use crate::peer::turns::handle_request;
-use eap_method::{Credential, PeerAnswer, PeerMethod, PeerTurn, Records, Report, Tags};
+use eap_method::{Credential, NoRecords, PeerAnswer, PeerMethod, PeerTurn, Records, Report, Tags};
 use octet_lists::{GPSK_KIND, Nonce, Packet};
 use std::marker::Model;
 
@@ -74,6 +74,38 @@ impl GpskPeer {
     }
 }
 
+impl GpskPeer {
+    ghost use Rattle.std.specs.Prelude.{true};
+    ghost use Rattle.octet_lists.specs.Among.{gpsk_kind};
+    ghost use Rattle.eap_method.specs.Capacity.{HasCapacity, replies};
+    ghost use Rattle.eap_method.specs.Peer.{gpsk, peer_step, IsRequest};
+    ghost use Rattle.eap_method.specs.PeerTurn.{peer_turn_with, peer_tags};
+
+    /// The turn of the method, with room for the records or none.
+    #[tactic(auto, unfolding(eap_method::specs::Peer::peer_step))]
+    #[inline(never)]
+    fn handle_step<R: Records>(
+        &mut self,
+        request: &[u8],
+        packet: &mut Packet,
+        tags: &mut Tags<R>,
+    ) -> PeerAnswer
+        requires { IsRequest gpsk_kind request.now }
+        ensures turn { peer_step (gpsk self.old) request.now
+            ≡ record { turn = peer_turn_with result packet.new tags.new; after = gpsk self.new } }
+        ensures tags { tags.new ≡ peer_tags (peer_turn_with result packet.new tags.new) }
+        ensures capacity { replies result ≡ true → HasCapacity packet.new }
+    {
+        match handle_request(&mut self.stage, request, packet, tags) {
+            PeerAnswer::Discard(cause) => {
+                tags.clear();
+                PeerAnswer::Discard(cause)
+            }
+            PeerAnswer::Reply { state, decision } => PeerAnswer::Reply { state, decision },
+        }
+    }
+}
+
 impl PeerMethod for GpskPeer {
     ghost use Rattle.eap_method.specs.Peer.{gpsk};
 
@@ -103,21 +135,13 @@ impl PeerMethod for GpskPeer {
         self.handle_step(request, packet, tags)
     }
 
-    #[tactic(auto, unfolding(eap_method::specs::Peer::peer_step))]
-    #[inline(never)]
-    fn handle_step<R: Records>(
+    fn handle_unrecorded(
         &mut self,
         request: &[u8],
         packet: &mut Packet,
-        tags: &mut Tags<R>,
+        tags: &mut Tags<NoRecords>,
     ) -> PeerAnswer {
-        match handle_request(&mut self.stage, request, packet, tags) {
-            PeerAnswer::Discard(cause) => {
-                tags.clear();
-                PeerAnswer::Discard(cause)
-            }
-            PeerAnswer::Reply { state, decision } => PeerAnswer::Reply { state, decision },
-        }
+        self.handle_step(request, packet, tags)
     }
 
     #[tactic(auto, unfolding(eap_method::specs::Peer::peer_report))]

@@ -12,7 +12,9 @@ use crate::nonces::Nonces;
 use crate::server::login::Initial;
 use crate::server::stage::{Alone, Phase, Stage};
 use crate::server::turns::{ask, handle_response};
-use eap_method::{Records, Report, ServerAnswer, ServerMethod, ServerSide, ServerTurn, Tags};
+use eap_method::{
+    NoRecords, Records, Report, ServerAnswer, ServerMethod, ServerSide, ServerTurn, Tags,
+};
 use login_setup::Users;
 use octet_lists::{GPSK_KIND, Nonce, Packet};
 use std::marker::Model;
@@ -87,6 +89,43 @@ impl GpskServer {
     }
 }
 
+impl GpskServer {
+    ghost use Rattle.std.specs.Prelude.{true, IsTrue, All};
+    ghost use Rattle.octet_lists.specs.Among.{gpsk_kind};
+    ghost use Rattle.login_setup.specs.Setup.{is_valid_for};
+    ghost use Rattle.eap_method.specs.Capacity.{HasCapacity, requests};
+    ghost use Rattle.eap_method.specs.Server.{gpsk, server_step, IsResponse};
+    ghost use Rattle.eap_method.specs.ServerTurn.{server_turn_with, server_tags};
+
+    /// The turn of the method, with room for the records or none.
+    #[tactic(auto, unfolding(eap_method::specs::Server::server_step))]
+    #[inline(never)]
+    fn handle_step<R: Records>(
+        &mut self,
+        response: &[u8],
+        next_id: u8,
+        users: &Users,
+        packet: &mut Packet,
+        tags: &mut Tags<R>,
+    ) -> ServerAnswer
+        requires response { IsResponse gpsk_kind response.now }
+        requires keys { All (λ user. IsTrue (is_valid_for user.kind user.psk)) users.now }
+        ensures turn { server_step users.now next_id (gpsk self.old) response.now
+            ≡ record { turn = server_turn_with result packet.new tags.new; after = gpsk self.new } }
+        ensures tags { tags.new ≡ server_tags (server_turn_with result packet.new tags.new) }
+        ensures capacity { requests result ≡ true → HasCapacity packet.new }
+    {
+        match handle_response(&mut self.stage, response, next_id, users, packet, tags) {
+            ServerAnswer::Discard(cause) => {
+                tags.clear();
+                ServerAnswer::Discard(cause)
+            }
+            ServerAnswer::Request => ServerAnswer::Request,
+            ServerAnswer::Done { success } => ServerAnswer::Done { success },
+        }
+    }
+}
+
 impl ServerMethod for GpskServer {
     ghost use Rattle.eap_method.specs.Server.{gpsk};
 
@@ -135,24 +174,15 @@ impl ServerMethod for GpskServer {
         self.handle_step(response, next_id, users, packet, tags)
     }
 
-    #[tactic(auto, unfolding(eap_method::specs::Server::server_step))]
-    #[inline(never)]
-    fn handle_step<R: Records>(
+    fn handle_unrecorded(
         &mut self,
         response: &[u8],
         next_id: u8,
         users: &Users,
         packet: &mut Packet,
-        tags: &mut Tags<R>,
+        tags: &mut Tags<NoRecords>,
     ) -> ServerAnswer {
-        match handle_response(&mut self.stage, response, next_id, users, packet, tags) {
-            ServerAnswer::Discard(cause) => {
-                tags.clear();
-                ServerAnswer::Discard(cause)
-            }
-            ServerAnswer::Request => ServerAnswer::Request,
-            ServerAnswer::Done { success } => ServerAnswer::Done { success },
-        }
+        self.handle_step(response, next_id, users, packet, tags)
     }
 
     #[tactic(auto, unfolding(eap_method::specs::Server::server_report))]

@@ -1,16 +1,15 @@
 //! The objects of both methods at both ends, as the program's call takes them.
 
-ghost use Rattle.std.specs.Prelude.{◌≡◌, ◌∷◌, [], IfOk};
+ghost use Rattle.std.specs.Prelude.{◌≡◌, IfOk};
 ghost use Rattle.octet_lists.specs.Among.{psk_kind, gpsk_kind};
 ghost use Rattle.eap_method.specs.Peer.{peer_kind};
 ghost use Rattle.eap_method.specs.Server.{server_kind};
 ghost use Rattle.world_commands.specs.Replay.{HasBoth};
 
-use eap_method::{Methods, PeerMethod, ServerMethod};
+use eap_method::{Methods, PeerMethod, ServerMethod, peer_pair, server_pair};
 use std::alloc::{AllocError, Global};
 
 /// An object of EAP-GPSK and one of EAP-PSK for each end. An `Err` is want of memory.
-#[tactic(auto, using(crate::proofs::BothMethods::all_have))]
 pub fn methods_of<P: PeerMethod, S: ServerMethod>(
     alloc: Global,
     gpsk_peer: P,
@@ -25,17 +24,7 @@ pub fn methods_of<P: PeerMethod, S: ServerMethod>(
     ensures { IfOk result (HasBoth P.peer_shown S.server_shown) }
 {
     Ok(Methods {
-        peer: pair(alloc, gpsk_peer, psk_peer)?,
-        server: pair(alloc, gpsk_server, psk_server)?,
+        peer: peer_pair(alloc, gpsk_peer, psk_peer)?,
+        server: server_pair(alloc, gpsk_server, psk_server)?,
     })
-}
-
-/// A list of these two.
-fn pair<T: Drop>(alloc: Global, first: T, second: T) -> Result<Vec<T>, AllocError>
-    ensures { IfOk result (λ both. both.items ≡ first ∷ second ∷ []) }
-{
-    let mut both = Vec::with_capacity(alloc, 2)?;
-    both.push(first)?;
-    both.push(second)?;
-    Ok(both)
 }

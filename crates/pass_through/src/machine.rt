@@ -275,7 +275,7 @@ impl PassThrough {
     }
 
     /// True in IDLE and IDLE2, where the retransmission timer runs.
-    pub fn has_timer(&self) -> bool
+    pub fn wants_timer(&self) -> bool
         ensures { result ≡ has_timer self.now.state }
     {
         is_idle(self.vars.state) || is_idle2(self.vars.state)

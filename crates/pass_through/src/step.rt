@@ -10,7 +10,7 @@ use octet_lists::Packet;
 use std::marker::Model;
 
 /// What one call of the pass-through does: at most one of the two packets is there.
-#[derive(Drop)]
+#[derive(Drop, Debug)]
 pub struct PassStep {
     /// The states that it enters, in order.
     pub path: Path,

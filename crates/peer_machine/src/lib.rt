@@ -3,6 +3,7 @@
 
 mod laws;
 mod machine;
+mod plain;
 mod variables;
 
 pub use laws::{answers_are_rows, discards_change_nothing, unconditional_success_stays};

@@ -21,7 +21,7 @@
 //! If no row applies, a delivery is discarded with its cause by RECEIVED, DISCARD and IDLE; after the end as Ended with
 //! an empty path.
 
-ghost use Rattle.std.specs.Prelude.{◌≡◌, ◌≢◌, ◌≤◌, [], ◌∷◌, ◌++◌, length, slice_index, true, false, map, None, Some, Ok, ℕ, List, option_map};
+ghost use Rattle.std.specs.Prelude.{◌≡◌, ◌≢◌, ◌≤◌, ◌↔◌, IsTrue, [], ◌∷◌, ◌++◌, length, slice_index, true, false, map, None, Some, Ok, ℕ, List, option_map};
 ghost use Rattle.octet_lists.specs.Among.{is_among, expanded_kind, ietf, nak_kind};
 ghost use Rattle.login_setup.specs.Setup.{IsSoundPeer, HasKeys};
 ghost use Rattle.eap_packet.specs.Packet.{spelled, value_of, IsPacket, max_type_data};
@@ -39,10 +39,9 @@ ghost use Rattle.peer_machine.specs.Expanded.{express};
 ghost use Rattle.peer_machine.specs.PeerTable.{before_method, method_answers, views_after, answer, is_allowed, first_of, selected_shown, selected_view};
 ghost use Rattle.eap_method.specs.Peer.{IsRequest, PeerShown, PeerViews, have_each, peer_views, peer_turn, peer_kinds};
 
-use crate::PeerStep;
 use crate::variables::PeerVariables;
 use eap_method::{
-    Decision, MethodState, PeerAnswer, PeerMethod, Records, Report, Step, Tags, call_peer_method,
+    Decision, MethodState, PeerAnswer, PeerMethod, Report, Step, Tags, Turns, call_peer_method,
     has_ended, peer_report, start_peers,
 };
 use eap_packet::{
@@ -50,7 +49,7 @@ use eap_packet::{
     write_plain,
 };
 use login_policy::{expanded_nak, nak_list, peer_allows};
-use login_setup::PeerSetup;
+use login_setup::{PeerSetup, is_sound_peer};
 use octet_lists::{EXPANDED, IDENTITY, IETF, NAK, NOTIFICATION, Nonce, Packet, VENDOR_SIZE};
 use std::marker::Model;
 
@@ -79,6 +78,14 @@ impl<M: PeerMethod> PeerMachine<M> {
     ghost use Rattle.eap_method.specs.Steps.{is_end};
     ghost use Rattle.peer_machine.specs.PeerTable.{now_of, setup_with_nonce, initial_peer, peer_restart, peer_deliver, peer_idle, peer_alt_accept, peer_alt_reject, peer_reports, peer_row, peer_success, peer_failure, new_request, peer_method, is_last_id};
     ghost use Rattle.peer_machine.specs.Expanded.{peer_receives, reads_request, expressed_unless};
+
+    /// Whether [`new`](PeerMachine::new) takes these settings with these objects.
+    pub fn takes(setup: &PeerSetup, methods: &[M]) -> bool
+        ensures { IsTrue result ↔ (IsSoundPeer setup.now × HasKeys setup.now
+            × (have_each (peer_kinds (map M.peer_shown methods.now)) setup.now.methods ≡ true)) }
+    {
+        is_sound_peer(setup) && has_each(methods, setup.methods.as_slice())
+    }
 
     /// INITIALIZE (RFC 4137 section 4.5): begins the objects of the methods that the setup allows; the peer is then in
     /// IDLE. Each of these methods has an object.
@@ -140,7 +147,7 @@ impl<M: PeerMethod> PeerMachine<M> {
     /// silently discarded for BadExpanded, unless the peer has ended: one with under 7 octets of
     /// Type-Data, or an Expanded Nak. What isn't a Request of Type 254 is handled as without `expanded`.
     #[tactic(auto, unfolding(crate::specs::Expanded::peer_receives))]
-    pub fn deliver_step<R: Records>(
+    pub fn deliver_step<R: Turns>(
         &mut self,
         octets: &[u8],
         packet: &mut Packet,
@@ -201,58 +208,6 @@ impl<M: PeerMethod> PeerMachine<M> {
         ensures setup { self.new.vars.setup ≡ self.old.vars.setup }
     {
         end(&mut self.vars, State::Failure)
-    }
-
-    /// [`restart_step`](PeerMachine::restart_step), with all that it does in its answer.
-    pub fn restart(&mut self, nonce: &Nonce) -> PeerStep
-        requires objects { have_each (peer_kinds (map M.peer_shown self.old.methods)) self.old.vars.setup.methods ≡ true }
-        ensures step { peer_restart (now_of M.peer_shown self.old) nonce.now ≡ answer result (now_of M.peer_shown self.new) }
-        ensures preserves { PreservesPeers self.old.vars.setup.methods (map M.peer_shown self.old.methods) (map M.peer_shown self.new.methods) }
-        ensures setup { self.new.vars.setup ≡ setup_with_nonce self.old.vars.setup nonce.now }
-    {
-        self.restart_step(nonce).alone()
-    }
-
-    /// [`deliver_step`](PeerMachine::deliver_step), with the packet and the records in its answer.
-    pub fn deliver(&mut self, octets: &[u8]) -> PeerStep
-        ensures step { peer_receives (now_of M.peer_shown self.old) octets.now ≡ answer result (now_of M.peer_shown self.new) }
-        ensures preserves { PreservesPeers self.old.vars.setup.methods (map M.peer_shown self.old.methods) (map M.peer_shown self.new.methods) }
-        ensures setup { self.new.vars.setup ≡ self.old.vars.setup }
-    {
-        let mut packet = Packet::new();
-        let mut tags = Tags::new();
-        let step = self.deliver_step(octets, &mut packet, &mut tags);
-        step.with(packet, tags)
-    }
-
-    /// [`idle_step`](PeerMachine::idle_step), with all that it does in its answer.
-    pub fn idle(&mut self) -> PeerStep
-        requires { is_end self.old.vars.state ≡ false }
-        ensures step { peer_idle (now_of M.peer_shown self.old) ≡ answer result (now_of M.peer_shown self.new) }
-        ensures preserves { PreservesPeers self.old.vars.setup.methods (map M.peer_shown self.old.methods) (map M.peer_shown self.new.methods) }
-        ensures setup { self.new.vars.setup ≡ self.old.vars.setup }
-    {
-        self.idle_step().alone()
-    }
-
-    /// [`alt_accept_step`](PeerMachine::alt_accept_step), with all that it does in its answer.
-    pub fn alt_accept(&mut self) -> PeerStep
-        requires { is_end self.old.vars.state ≡ false }
-        ensures step { peer_alt_accept (now_of M.peer_shown self.old) ≡ answer result (now_of M.peer_shown self.new) }
-        ensures preserves { PreservesPeers self.old.vars.setup.methods (map M.peer_shown self.old.methods) (map M.peer_shown self.new.methods) }
-        ensures setup { self.new.vars.setup ≡ self.old.vars.setup }
-    {
-        self.alt_accept_step().alone()
-    }
-
-    /// [`alt_reject_step`](PeerMachine::alt_reject_step), with all that it does in its answer.
-    pub fn alt_reject(&mut self) -> PeerStep
-        requires { is_end self.old.vars.state ≡ false }
-        ensures step { peer_alt_reject (now_of M.peer_shown self.old) ≡ answer result (now_of M.peer_shown self.new) }
-        ensures preserves { PreservesPeers self.old.vars.setup.methods (map M.peer_shown self.old.methods) (map M.peer_shown self.new.methods) }
-        ensures setup { self.new.vars.setup ≡ self.old.vars.setup }
-    {
-        self.alt_reject_step().alone()
     }
 
     /// The peer's settings.
@@ -317,7 +272,7 @@ impl<M: PeerMethod> PeerMachine<M> {
     /// that the packets of the functions below widen no frame of a peer that doesn't.
     #[inline(never)]
     #[tactic(auto, unfolding(crate::specs::Expanded::peer_receives))]
-    fn read<R: Records>(&mut self, octets: &[u8], packet: &mut Packet, tags: &mut Tags<R>) -> Step
+    fn read<R: Turns>(&mut self, octets: &[u8], packet: &mut Packet, tags: &mut Tags<R>) -> Step
         requires expanded { self.old.vars.setup.expanded ≡ true }
         requires tags { tags.old ≡ no_tags }
         ensures step { peer_receives (now_of M.peer_shown self.old) octets.now ≡ answer (step_with result packet.new tags.new) (now_of M.peer_shown self.new) }
@@ -334,7 +289,7 @@ impl<M: PeerMethod> PeerMachine<M> {
 
     /// A Request that the octets begin with, to a peer that reads Expanded Types and has not ended;
     /// `tags` has no record yet.
-    fn read_request<R: Records>(
+    fn read_request<R: Turns>(
         &mut self,
         view: &PacketView,
         octets: &[u8],
@@ -361,7 +316,7 @@ impl<M: PeerMethod> PeerMachine<M> {
 
     /// A Request of Type 254 is handled in its plain form, and what is sent of that is expressed in Type 254,
     /// but for what RETRANSMIT sends. `tags` has no record yet.
-    fn receive_expanded<R: Records>(
+    fn receive_expanded<R: Turns>(
         &mut self,
         view: &PacketView,
         octets: &[u8],
@@ -390,7 +345,7 @@ impl<M: PeerMethod> PeerMachine<M> {
     /// record yet.
     #[tactic(auto, using(crate::proofs::Identifiers::second_is_id, crate::proofs::Identifiers::plain_second_is_id))]
     #[inline(never)]
-    fn receive_plain<R: Records>(
+    fn receive_plain<R: Turns>(
         &mut self,
         view: &PacketView,
         octets: &[u8],
@@ -417,7 +372,7 @@ impl<M: PeerMethod> PeerMachine<M> {
     /// A delivery, by the table alone, which handles Type 254 like any other Type. What it sends has room
     /// for an Expanded Type, but for what RETRANSMIT sends. `tags` has no record yet.
     #[tactic(auto, unfolding(crate::specs::PeerTable::peer_deliver), using(crate::proofs::Identifiers::second_is_id))]
-    fn receive_octets<R: Records>(
+    fn receive_octets<R: Turns>(
         &mut self,
         octets: &[u8],
         packet: &mut Packet,
@@ -440,7 +395,7 @@ impl<M: PeerMethod> PeerMachine<M> {
 
     /// RECEIVED, of a packet; `tags` has no record yet.
     #[tactic(auto, using(crate::proofs::Requests::is_request))]
-    fn receive_packet<R: Records>(
+    fn receive_packet<R: Turns>(
         &mut self,
         view: &PacketView,
         packet: &mut Packet,
@@ -515,7 +470,7 @@ impl<M: PeerMethod> PeerMachine<M> {
     }
 
     /// A Request with another Identifier than lastId; `tags` has no record yet.
-    fn new_request<R: Records>(
+    fn new_request<R: Turns>(
         &mut self,
         id: u8,
         kind: u8,
@@ -551,7 +506,7 @@ impl<M: PeerMethod> PeerMachine<M> {
     /// policy allows handles the Request; any other is answered by a Nak (RFC 3748 section 5.3.1). `tags`
     /// has no record yet.
     #[tactic(auto, using(login_policy::proofs::Choices::nak_lists_some))]
-    fn first_request<R: Records>(
+    fn first_request<R: Turns>(
         &mut self,
         id: u8,
         kind: u8,
@@ -584,7 +539,7 @@ impl<M: PeerMethod> PeerMachine<M> {
     /// METHOD: the object of this Type, which the policy allows, handles the whole packet. Nothing is
     /// written into the variables before its turn is known to be a reply.
     #[tactic(auto, unfolding(crate::specs::PeerTable::peer_method))]
-    fn method<R: Records>(
+    fn method<R: Turns>(
         &mut self,
         selects: bool,
         kind: u8,
@@ -704,7 +659,7 @@ fn end_received(vars: &mut PeerVariables, state: State) -> Step
 }
 
 /// The turn of the object of this Type.
-fn call_method<M: PeerMethod, R: Records>(
+fn call_method<M: PeerMethod, R: Turns>(
     methods: &mut Vec<M>,
     kind: u8,
     request: &[u8],

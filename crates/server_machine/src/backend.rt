@@ -11,7 +11,7 @@
 //! propose, has the Response's own. Afterwards the backend's rows are the server's. It has no Identity Request and no
 //! timer.
 
-ghost use Rattle.std.specs.Prelude.{◌≡◌, [], ◌∷◌, ◌++◌, map, true, option_map, All, IsTrue};
+ghost use Rattle.std.specs.Prelude.{◌≡◌, ◌↔◌, [], ◌∷◌, ◌++◌, map, true, option_map, All, IsTrue};
 ghost use Rattle.octet_lists.specs.Among.{is_kind};
 ghost use Rattle.login_setup.specs.Setup.{IsSoundServer, is_valid_for};
 ghost use Rattle.login_setup.specs.Users as users;
@@ -24,10 +24,9 @@ ghost use Rattle.server_machine.specs.ServerTable.{answer, initial_backend, curr
 ghost use Rattle.server_machine.specs.Expanded.{server_receives};
 ghost use Rattle.server_machine.specs.declared.variables.Role.TheVariants as role;
 
-use crate::ServerStep;
 use crate::machine::ServerMachine;
 use crate::variables::Role;
-use eap_method::{Records, Report, ServerMethod, Step, Tags};
+use eap_method::{Report, ServerMethod, Step, Tags, Turns};
 use eap_packet::State;
 use login_setup::{ServerSetup, User, Users};
 use octet_lists::{Nonce, Packet};
@@ -55,6 +54,14 @@ impl<M> Model for Backend<M> {
 }
 
 impl<M: ServerMethod> Backend<M> {
+    /// Whether [`new`](Backend::new) takes these settings with these objects.
+    pub fn takes(setup: &ServerSetup, methods: &[M]) -> bool
+        ensures { IsTrue result ↔ (IsSoundServer setup.now
+            × (have_each (server_kinds (map M.server_shown methods.now)) setup.now.methods ≡ true)) }
+    {
+        ServerMachine::takes(setup, 0, methods)
+    }
+
     /// A backend that waits for its first Response: begins the objects of the methods that the setup
     /// proposes. Each of these methods has an object.
     pub fn new(setup: ServerSetup, methods: Vec<M>) -> Backend<M>
@@ -90,7 +97,7 @@ impl<M: ServerMethod> Backend<M> {
     /// If the settings say `expanded`, Expanded Types (RFC 3748 section 5.7) are read and sent as that call does;
     /// before the first Response a BadExpanded too has an empty path, and an Expanded Nak may be the first.
     #[tactic(auto, using(crate::proofs::Starting::backend_is_ready))]
-    pub fn deliver_step<R: Records>(
+    pub fn deliver_step<R: Turns>(
         &mut self,
         octets: &[u8],
         packet: &mut Packet,
@@ -127,28 +134,6 @@ impl<M: ServerMethod> Backend<M> {
         ensures setup { self.new.vars.setup ≡ setup_with_nonce self.old.vars.setup nonce.now }
     {
         self.machine.make_again(nonce)
-    }
-
-    /// [`deliver_step`](Backend::deliver_step), with the packet and the records in its answer.
-    pub fn deliver(&mut self, octets: &[u8]) -> ServerStep
-        ensures step { server_receives (now_of M.server_shown self.old) octets.now ≡ answer result (now_of M.server_shown self.new) }
-        ensures preserves { PreservesServers self.old.vars.setup.methods (map M.server_shown self.old.methods) (map M.server_shown self.new.methods) }
-        ensures setup { self.new.vars.setup ≡ self.old.vars.setup }
-    {
-        let mut packet = Packet::new();
-        let mut tags = Tags::new();
-        let step = self.deliver_step(octets, &mut packet, &mut tags);
-        step.with(packet, tags)
-    }
-
-    /// [`restart_step`](Backend::restart_step), with all that it does in its answer.
-    pub fn restart(&mut self, nonce: &Nonce) -> ServerStep
-        requires objects { have_each (server_kinds (map M.server_shown self.old.methods)) self.old.vars.setup.methods ≡ true }
-        ensures step { server_restart (now_of M.server_shown self.old) nonce.now ≡ answer result (now_of M.server_shown self.new) }
-        ensures preserves { PreservesServers self.old.vars.setup.methods (map M.server_shown self.old.methods) (map M.server_shown self.new.methods) }
-        ensures setup { self.new.vars.setup ≡ setup_with_nonce self.old.vars.setup nonce.now }
-    {
-        self.restart_step(nonce).alone()
     }
 
     /// The backend's settings.

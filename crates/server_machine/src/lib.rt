@@ -7,6 +7,7 @@ mod expanded;
 mod laws;
 mod machine;
 mod outcome;
+mod plain;
 mod variables;
 
 pub use backend::Backend;

@@ -18,7 +18,7 @@
 //! If no row applies, a delivery is discarded with its cause by RECEIVED, DISCARD and IDLE; after the end as Ended with
 //! an empty path.
 
-ghost use Rattle.std.specs.Prelude.{◌≡◌, ◌≤◌, [], ◌∷◌, ◌++◌, true, false, map, length, Some, None, Ok, option_copied, option_map, All, IsTrue, if◌then◌else◌};
+ghost use Rattle.std.specs.Prelude.{◌≡◌, ◌≤◌, ◌↔◌, [], ◌∷◌, ◌++◌, true, false, map, length, Some, None, Ok, option_copied, option_map, All, IsTrue, if◌then◌else◌};
 ghost use Rattle.octet_lists.specs.Among.{is_among, is_kind};
 ghost use Rattle.login_setup.specs.Setup.{IsSoundServer, are_suites, is_valid_for};
 ghost use Rattle.login_setup.specs.Users as users;
@@ -36,17 +36,16 @@ ghost use Rattle.eap_method.specs.Unnamed.{PreservesServers};
 ghost use Rattle.server_machine.specs.Expanded.{MayWrap, reads_response};
 ghost use Rattle.server_machine.specs.ServerTable.{answer, before_proposal, identity_request, next_id, AreInOrder, first_of};
 
-use crate::ServerStep;
 use crate::expanded::{awaits_first, wrap_sent, write_if_accepted};
 use crate::outcome::{end_badly, next_id, settle, settle_offer};
 use crate::variables::{Progress, ProposalPath, Role, ServerVariables};
 use eap_method::{
-    Records, Report, ServerAnswer, ServerMethod, Step, Tags, call_server_method, has_ended,
+    Report, ServerAnswer, ServerMethod, Step, Tags, Turns, call_server_method, has_ended,
     offer_method, server_report, side_of, start_servers,
 };
 use eap_packet::{Cause, Code, PacketView, State, decode, encode_into, is_bad_expanded};
 use login_policy::next_method;
-use login_setup::{ServerSetup, User, Users};
+use login_setup::{ServerSetup, User, Users, is_sound_server};
 use octet_lists::{IDENTITY, Kinds, NAK, Nonce, Packet};
 use std::marker::Model;
 
@@ -79,6 +78,14 @@ impl<M: ServerMethod> ServerMachine<M> {
     ghost use Rattle.server_machine.specs.ServerTable.{current_view, first_response, has_timer, is_backend, is_ready, pick_up, with_users};
     ghost use Rattle.server_machine.specs.Expanded.{server_receives, server_reads};
     ghost use Rattle.server_machine.specs.declared.variables.Role.TheVariants.{StandAlone};
+
+    /// Whether [`new`](ServerMachine::new) takes these settings with these objects.
+    pub fn takes(setup: &ServerSetup, max_retrans: u8, methods: &[M]) -> bool
+        ensures { IsTrue result ↔ (IsSoundServer setup.now × (max_retrans ≤ 10)
+            × (have_each (server_kinds (map M.server_shown methods.now)) setup.now.methods ≡ true)) }
+    {
+        is_sound_server(setup) && max_retrans <= 10 && has_each(methods, setup.methods.as_slice())
+    }
 
     /// A stand-alone server that has not started: begins the objects of the methods that the setup
     /// proposes. Each of these methods has an object; `max_retrans` is at most 10.
@@ -232,7 +239,7 @@ impl<M: ServerMethod> ServerMachine<M> {
     /// 7 octets longer, at most 1,500 in all, and again so by the timer; the Identity Request, a Success and a Failure
     /// are sent as they are.
     #[tactic(auto, unfolding(crate::specs::Expanded::server_receives))]
-    pub fn deliver_step<R: Records>(
+    pub fn deliver_step<R: Turns>(
         &mut self,
         octets: &[u8],
         packet: &mut Packet,
@@ -254,7 +261,7 @@ impl<M: ServerMethod> ServerMachine<M> {
     /// Octets arrive at a server that reads Expanded Types and has not ended. It isn't inlined, so that no other
     /// server has the octets of a plain form on its stack.
     #[inline(never)]
-    fn read<R: Records>(&mut self, octets: &[u8], packet: &mut Packet, tags: &mut Tags<R>) -> Step
+    fn read<R: Turns>(&mut self, octets: &[u8], packet: &mut Packet, tags: &mut Tags<R>) -> Step
         requires ready { is_ready self.old.vars ≡ true }
         ensures step { server_reads (now_of M.server_shown self.old) octets.now (packet_of octets.now)
             ≡ answer (step_with result packet.new tags.new) (now_of M.server_shown self.new) }
@@ -273,7 +280,7 @@ impl<M: ServerMethod> ServerMachine<M> {
     }
 
     /// These octets begin with a Response, which is handled in its plain form; a Request that is sent is wrapped.
-    fn read_response<R: Records>(
+    fn read_response<R: Turns>(
         &mut self,
         octets: &[u8],
         view: &PacketView,
@@ -308,7 +315,7 @@ impl<M: ServerMethod> ServerMachine<M> {
     /// Octets arrive, and are handled by the transitions of RFC 4137 alone, which know of no Expanded Type. A Request
     /// that is sent has room for one.
     #[tactic(auto, unfolding(crate::specs::ServerTable::server_deliver))]
-    fn deliver_plain<R: Records>(
+    fn deliver_plain<R: Turns>(
         &mut self,
         octets: &[u8],
         packet: &mut Packet,
@@ -346,7 +353,7 @@ impl<M: ServerMethod> ServerMachine<M> {
 
     /// The retransmission timer ends (RFC 4137 section 5.5): the Request is sent again, in `packet`, at
     /// most MaxRetrans times; then TIMEOUT_FAILURE follows. The server
-    /// [has the timer](ServerMachine::has_timer) running.
+    /// [has the timer](ServerMachine::wants_timer) running.
     #[tactic(auto, using(crate::proofs::Starting::timer_is_running), unfolding(crate::specs::ServerTable::server_timeout))]
     pub fn timeout_step(&mut self, packet: &mut Packet) -> Step
         requires { has_timer self.old.vars ≡ true }
@@ -362,54 +369,6 @@ impl<M: ServerMethod> ServerMachine<M> {
             self.vars.state = State::TimeoutFailure;
             Step::entering(&[State::Retransmit, State::TimeoutFailure])
         }
-    }
-
-    /// [`start_step`](ServerMachine::start_step), with the packet in its answer.
-    pub fn start(&mut self) -> ServerStep
-        requires unstarted { is_started self.old.vars ≡ false }
-        requires stand_alone { is_backend self.old.vars ≡ false }
-        ensures step { server_start (now_of M.server_shown self.old) ≡ answer result (now_of M.server_shown self.new) }
-        ensures preserves { PreservesServers self.old.vars.setup.methods (map M.server_shown self.old.methods) (map M.server_shown self.new.methods) }
-        ensures setup { self.new.vars.setup ≡ self.old.vars.setup }
-    {
-        let mut packet = Packet::new();
-        self.start_step(&mut packet).with(packet, Tags::new())
-    }
-
-    /// [`restart_step`](ServerMachine::restart_step), with the packet in its answer.
-    pub fn restart(&mut self, nonce: &Nonce) -> ServerStep
-        requires objects { have_each (server_kinds (map M.server_shown self.old.methods)) self.old.vars.setup.methods ≡ true }
-        ensures step { server_restart (now_of M.server_shown self.old) nonce.now ≡ answer result (now_of M.server_shown self.new) }
-        ensures preserves { PreservesServers self.old.vars.setup.methods (map M.server_shown self.old.methods) (map M.server_shown self.new.methods) }
-        ensures setup { self.new.vars.setup ≡ setup_with_nonce self.old.vars.setup nonce.now }
-    {
-        let mut packet = Packet::new();
-        let step = self.restart_step(nonce, &mut packet);
-        step.with(packet, Tags::new())
-    }
-
-    /// [`deliver_step`](ServerMachine::deliver_step), with the packet and the records in its answer.
-    pub fn deliver(&mut self, octets: &[u8]) -> ServerStep
-        requires ready { is_ready self.old.vars ≡ true }
-        ensures step { server_receives (now_of M.server_shown self.old) octets.now ≡ answer result (now_of M.server_shown self.new) }
-        ensures preserves { PreservesServers self.old.vars.setup.methods (map M.server_shown self.old.methods) (map M.server_shown self.new.methods) }
-        ensures setup { self.new.vars.setup ≡ self.old.vars.setup }
-    {
-        let mut packet = Packet::new();
-        let mut tags = Tags::new();
-        let step = self.deliver_step(octets, &mut packet, &mut tags);
-        step.with(packet, tags)
-    }
-
-    /// [`timeout_step`](ServerMachine::timeout_step), with the packet in its answer.
-    pub fn timeout(&mut self) -> ServerStep
-        requires { has_timer self.old.vars ≡ true }
-        ensures step { server_timeout (now_of M.server_shown self.old) ≡ answer result (now_of M.server_shown self.new) }
-        ensures preserves { PreservesServers self.old.vars.setup.methods (map M.server_shown self.old.methods) (map M.server_shown self.new.methods) }
-        ensures setup { self.new.vars.setup ≡ self.old.vars.setup }
-    {
-        let mut packet = Packet::new();
-        self.timeout_step(&mut packet).with(packet, Tags::new())
     }
 
     /// The server's settings.
@@ -450,7 +409,7 @@ impl<M: ServerMethod> ServerMachine<M> {
 
     /// True if the retransmission timer may end: at a stand-alone server that has started and has not
     /// ended.
-    pub fn has_timer(&self) -> bool
+    pub fn wants_timer(&self) -> bool
         ensures { result ≡ has_timer self.now.vars }
     {
         !self.is_backend() && self.started() && !self.ended()
@@ -570,7 +529,7 @@ impl<M: ServerMethod> ServerMachine<M> {
 
     /// RECEIVED, of a packet; `tags` has no record yet.
     #[tactic(auto, using(crate::proofs::Responses::is_response))]
-    fn receive_packet<R: Records>(
+    fn receive_packet<R: Turns>(
         &mut self,
         view: &PacketView,
         packet: &mut Packet,
@@ -599,7 +558,7 @@ impl<M: ServerMethod> ServerMachine<M> {
 
     /// A Response with currentId; `tags` has no record yet. With the identity the Identity round is over,
     /// and the first method is proposed.
-    fn receive_current<R: Records>(
+    fn receive_current<R: Turns>(
         &mut self,
         view: &PacketView,
         packet: &mut Packet,
@@ -653,7 +612,7 @@ impl<M: ServerMethod> ServerMachine<M> {
 
     /// INTEGRITY_CHECK: the object of the current method checks the whole packet. Nothing is written
     /// into the variables before its turn is known not to be a discard.
-    fn method<R: Records>(
+    fn method<R: Turns>(
         &mut self,
         id: u8,
         kind: u8,
@@ -715,7 +674,7 @@ fn write_first<M: ServerMethod>(
 }
 
 /// The turn of the object of this Type.
-fn turn_of<M: ServerMethod, R: Records>(
+fn turn_of<M: ServerMethod, R: Turns>(
     methods: &mut Vec<M>,
     vars: &ServerVariables,
     kind: u8,

@@ -93,7 +93,7 @@ pub extern "C" fn tuv_peer_method_handle(end: &mut TuvEnd, octets: &[u8]) -> Tuv
             Ok(whole) => {
                 let mut packet = Packet::new();
                 let mut tags: Tags<NoRecords> = Tags::new();
-                let turn = TuvMethodTurn::of_peer(object.handle_step(
+                let turn = TuvMethodTurn::of_peer(object.handle_unrecorded(
                     whole,
                     &mut packet,
                     &mut tags,
@@ -190,7 +190,13 @@ pub extern "C" fn tuv_server_method_handle(
             Ok(whole) => {
                 let mut packet = Packet::new();
                 let mut tags: Tags<NoRecords> = Tags::new();
-                let turn = object.handle_step(whole, next_id, &known.users, &mut packet, &mut tags);
+                let turn = object.handle_unrecorded(
+                    whole,
+                    next_id,
+                    &known.users,
+                    &mut packet,
+                    &mut tags,
+                );
                 let turn = TuvMethodTurn::of_server(turn);
                 session.sent.set(turn.sends, packet.as_slice());
                 turn

@@ -124,7 +124,7 @@ pub extern "C" fn tuv_pass_timeout(end: &mut TuvEnd) -> TuvTurn
 {
     let session = end.session();
     match &mut session.end {
-        End::Pass(machine) if machine.has_timer() => {
+        End::Pass(machine) if machine.wants_timer() => {
             let mut packet = Packet::new();
             let step = machine.timeout_step(&mut packet);
             TuvTurn::of(&step, packet.as_slice(), machine.state(), &mut session.sent)

@@ -12,11 +12,11 @@ returns-in-None-clause-turn g t c = λ allowed is_allowed.
 pub returns-then-kind-clause-turn : goal.returns-then-kind-clause-turn
 returns-then-kind-clause-turn g t c = λ allowed is_allowed.
     rw c.in-Some.ensures.cases.0
-    (turn_hit allowed _ _ _ _ _ _ c.handle_step.ensures.turn (sym c.kind.ensures ∙ c.if-kind.true) is_allowed)
+    (turn_hit allowed _ _ _ _ _ _ c.peer_turn.ensures.turn (sym c.kind.ensures ∙ c.if-kind.true) is_allowed)
 
 pub returns-then-kind-clause-kinds : goal.returns-then-kind-clause-kinds
 returns-then-kind-clause-kinds g t c =
-    rw c.in-Some.ensures.cases.0 (rw (step_kind _ _ _ _ c.handle_step.ensures.turn) refl)
+    rw c.in-Some.ensures.cases.0 (rw (step_kind _ _ _ _ c.peer_turn.ensures.turn) refl)
 
 pub returns-else-kind-clause-turn : goal.returns-else-kind-clause-turn
 returns-else-kind-clause-turn g t c = λ allowed is_allowed.
@@ -26,7 +26,7 @@ returns-else-kind-clause-turn g t c = λ allowed is_allowed.
 pub returns-then-kind-clause-unnamed : goal.returns-then-kind-clause-unnamed
 returns-then-kind-clause-unnamed g t c = λ allowed is_allowed.
     rw c.in-Some.ensures.cases.0
-    (peer_hit allowed _ _ _ _ (step_kind _ _ _ _ c.handle_step.ensures.turn) (sym c.kind.ensures ∙ c.if-kind.true) is_allowed)
+    (peer_hit allowed _ _ _ _ (step_kind _ _ _ _ c.peer_turn.ensures.turn) (sym c.kind.ensures ∙ c.if-kind.true) is_allowed)
 
 pub returns-else-kind-clause-unnamed : goal.returns-else-kind-clause-unnamed
 returns-else-kind-clause-unnamed g t c = λ allowed is_allowed.

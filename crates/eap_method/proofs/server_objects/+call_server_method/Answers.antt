@@ -11,11 +11,11 @@ returns-in-None-clause-turn g t c = λ order is_proposed.
 pub returns-then-kind-clause-turn : goal.returns-then-kind-clause-turn
 returns-then-kind-clause-turn g t c = λ order is_proposed.
     rw c.in-Some.ensures.cases.0
-    (turn_hit _ _ order _ _ _ _ _ _ c.handle_step.ensures.turn (sym c.kind.ensures ∙ c.if-kind.true) is_proposed)
+    (turn_hit _ _ order _ _ _ _ _ _ c.server_turn.ensures.turn (sym c.kind.ensures ∙ c.if-kind.true) is_proposed)
 
 pub returns-then-kind-clause-kinds : goal.returns-then-kind-clause-kinds
 returns-then-kind-clause-kinds g t c =
-    rw c.in-Some.ensures.cases.0 (rw (step_kind _ _ _ _ _ _ c.handle_step.ensures.turn) refl)
+    rw c.in-Some.ensures.cases.0 (rw (step_kind _ _ _ _ _ _ c.server_turn.ensures.turn) refl)
 
 pub returns-else-kind-clause-turn : goal.returns-else-kind-clause-turn
 returns-else-kind-clause-turn g t c = λ order is_proposed.
@@ -25,7 +25,7 @@ returns-else-kind-clause-turn g t c = λ order is_proposed.
 pub returns-then-kind-clause-unnamed : goal.returns-then-kind-clause-unnamed
 returns-then-kind-clause-unnamed g t c = λ order is_proposed.
     rw c.in-Some.ensures.cases.0
-    (server_hit order _ _ _ _ (step_kind _ _ _ _ _ _ c.handle_step.ensures.turn) (sym c.kind.ensures ∙ c.if-kind.true) is_proposed)
+    (server_hit order _ _ _ _ (step_kind _ _ _ _ _ _ c.server_turn.ensures.turn) (sym c.kind.ensures ∙ c.if-kind.true) is_proposed)
 
 pub returns-else-kind-clause-unnamed : goal.returns-else-kind-clause-unnamed
 returns-else-kind-clause-unnamed g t c = λ order is_proposed.
