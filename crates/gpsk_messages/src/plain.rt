@@ -16,7 +16,7 @@ use eap_packet::{Cause, Code};
 use octet_lists::{Packet, Suite};
 
 /// A message of EAP-GPSK (RFC 5433 section 9), borrowed from its Type-Data.
-#[derive(Clone, Copy)]
+#[derive(Clone, Copy, Debug)]
 pub enum GpskView<'a> {
     M1 {
         id_s: &'a [u8],

@@ -3,7 +3,7 @@
 use octet_lists::Suite;
 
 /// GPSK-1, the server's first message.
-#[derive(Clone, Copy)]
+#[derive(Clone, Copy, Debug)]
 pub struct Gpsk1<'a> {
     /// ID_Server.
     pub id_s: &'a [u8],
@@ -14,7 +14,7 @@ pub struct Gpsk1<'a> {
 }
 
 /// GPSK-2, the peer's answer; its MAC has KS octets of its suite.
-#[derive(Clone, Copy)]
+#[derive(Clone, Copy, Debug)]
 pub struct Gpsk2<'a> {
     /// ID_Peer.
     pub id_p: &'a [u8],
@@ -34,7 +34,7 @@ pub struct Gpsk2<'a> {
 }
 
 /// GPSK-3, the server's second message; its MAC has KS octets of its suite.
-#[derive(Clone, Copy)]
+#[derive(Clone, Copy, Debug)]
 pub struct Gpsk3<'a> {
     /// RAND_Peer.
     pub rand_p: [u8; 32],
@@ -50,7 +50,7 @@ pub struct Gpsk3<'a> {
 }
 
 /// GPSK-4, the peer's last message; its MAC has 16 or 32 octets.
-#[derive(Clone, Copy)]
+#[derive(Clone, Copy, Debug)]
 pub struct Gpsk4<'a> {
     /// The PD block.
     pub pd: &'a [u8],
@@ -60,7 +60,7 @@ pub struct Gpsk4<'a> {
 /// A message of EAP-GPSK (RFC 5433 section 9), borrowed from its Type-Data.
 ///
 /// Identities have at most 253 octets, lists of suites one to 20 entries of six octets.
-#[derive(Clone, Copy)]
+#[derive(Clone, Copy, Debug)]
 pub enum GpskMessage<'a> {
     M1(Gpsk1<'a>),
     M2(Gpsk2<'a>),

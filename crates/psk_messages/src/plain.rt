@@ -17,7 +17,7 @@ use octet_lists::Packet;
 
 /// A message of EAP-PSK (RFC 4764 section 5), borrowed from its Type-Data. Of PCHANNEL, `sealed` is the octet that is
 /// encrypted.
-#[derive(Clone, Copy)]
+#[derive(Clone, Copy, Debug)]
 pub enum PskView<'a> {
     P1 {
         rand_s: [u8; 16],
