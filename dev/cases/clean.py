@@ -26,6 +26,7 @@ def case_checkers(run: Run) -> Iterator[Optional[str]]:
     shell = [it for it, line in scripts().items() if line.startswith(SHELL)]
     python = [it for it, line in scripts().items() if it.endswith(".py") or line.startswith("#!") and "python3" in line]
     typed = [str(it.relative_to("tools")) for folder in ("lib", "cases/lib") for it in sorted(Path("tools", folder).glob("*.py"))]
+    typed.append("../dev/relations")
     yield from finds_nothing(("shellcheck",), ["-x", "-S", "warning", "-f", "gcc", *shell])
     yield from finds_nothing(("pyflakes", "pyflakes3"), python)
     yield from finds_nothing(("mypy",), ["--strict", "--explicit-package-bases", "--python-version", "3.9", "--cache-dir", "../out/mypy", *typed], "tools")
