@@ -177,3 +177,5 @@ pub mod Downgrade
 pub mod NakAnswers
 -- By EAP-PSK a peer whose decision isn't FAIL has decided for a success that nothing can undo.
 pub mod UnconditionalPsk
+-- By EAP-PSK no two conversations of the peer with fresh nonces have one MSK or one EMSK.
+pub mod NewKeys

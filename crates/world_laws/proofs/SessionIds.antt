@@ -44,7 +44,7 @@ same_session : (report other : Report) (rand_p rand_p' rand_s rand_s' : List ℕ
     ≡ Some (let x : SessionOf = record { report = other; rand_p = rand_p'; rand_s = rand_s' } in x)
 same_session report other rand_p rand_p' rand_s rand_s' r p s = rw (r, p, s) refl
 
-session_is : (o : Option SessionOf) (x y : SessionOf) → o ≡ Some x → o ≡ Some y → x ≡ y
+pub session_is : (o : Option SessionOf) (x y : SessionOf) → o ≡ Some x → o ≡ Some y → x ≡ y
 session_is o x y a b = cc
 
 one_session : (p : OfPeer) (s : OfServer) (session : SessionOf) → peer_session p.now ≡ Some session → server_session s.now ≡ Some session → HaveOneSession p s

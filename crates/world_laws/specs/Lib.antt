@@ -24,3 +24,4 @@ pub mod Passing
 pub mod Forgery
 pub mod Downgrade
 pub mod UnconditionalPsk
+pub mod NewKeys

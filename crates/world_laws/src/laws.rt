@@ -11,6 +11,7 @@ ghost use Rattle.world_laws.specs.Matching.{ConversationsAreAll, ConversationsMa
 ghost use Rattle.world_laws.specs.Passing.{PassCarries, PassIsAlone, PassIsDelivered, PassLearnsNothing};
 ghost use Rattle.world_laws.specs.PresentUnderKey.{EndsAgreeUnder, OneEndImpliesUnder};
 ghost use Rattle.world_laws.specs.PskReflected.{ReflectedEndsAgree};
+ghost use Rattle.world_laws.specs.NewKeys.{KeysAreNew};
 ghost use Rattle.world_laws.specs.SessionIds.{SessionIdsMatch};
 ghost use Rattle.world_laws.specs.SingleSteps.{StepsAreLawful};
 ghost use Rattle.world_laws.specs.UnconditionalPsk.{PskSuccessIsUnconditional};
@@ -158,6 +159,12 @@ pub fn conversations_are_all()
 /// what the KDF derives them from does (RFC 5433 section 4). That its 16 octets differ then isn't proved of any KDF.
 pub fn session_ids_match()
     ensures { SessionIdsMatch }
+{}
+
+/// By EAP-PSK any two conversations of the peer whose methods have succeeded have different MSKs and different EMSKs, if nonces are fresh:
+/// both are AES under KDK of RAND_P alone (RFC 4764 section 3.2), and AES gives different blocks for different ones. The key has 16 octets.
+pub fn keys_are_new()
+    ensures { KeysAreNew }
 {}
 
 /// An end whose settings have no later nonces begins no second conversation: then both ends have begun one each in every run.
