@@ -19,7 +19,7 @@ static int fake_cpuid(unsigned int leaf, unsigned int part, unsigned int *a,
 
 #define __get_cpuid_count(...) fake_cpuid(__VA_ARGS__)
 #endif
-#include "machine.c"
+#include "machine.c"	/* NOLINT(bugprone-suspicious-include): the processor is another one here */
 #include <malloc.h>
 #include <stdio.h>
 #include <stdlib.h>
@@ -127,25 +127,25 @@ PROVED(tuv_server_method_user, SETTINGS)
  * most that is read. */
 enum { FIRST = 80, MOST = 4096 };
 
-/* A call with settings of this size, which stand at the end of a block of that size and
- * have another octet at this place. */
+/* Each call with settings of this size, which have another octet at this place. */
 static void try_settings(size_t size, size_t at, uint8_t octet)
 {
 	static const uint8_t nonce[TUV_NONCE_LEN];
-	size_t room = size < sizeof(size) || size > MOST + 1 ? sizeof(size) : size;
-	uint8_t *octets = malloc(room);
+	static union {
+		size_t size;
+		uint8_t octets[MOST + 8];
+	} room;
+	const struct tuv_settings *settings = (const void *) &room;
 	struct tuv_settings wanted = { .size = sizeof(wanted) };
-	const struct tuv_settings *settings = (const void *) octets;
 	bool is_good = size >= FIRST && size <= MOST && !(octet && at >= sizeof(wanted));
 	uint8_t answers[7];
 	size_t i;
 
-	memset(octets, 0, room);
-	memcpy(octets, &size, sizeof(size));
+	memset(&room, 0, sizeof(room));
+	room.size = size;
 	if (octet)
-		octets[at] = octet;
-	memcpy((uint8_t *) &wanted + sizeof(size), octets + sizeof(size),
-	       (size < sizeof(wanted) ? room : sizeof(wanted)) - sizeof(size));
+		room.octets[at] = octet;
+	memcpy((uint8_t *) &wanted + sizeof(size), room.octets + sizeof(size), sizeof(wanted) - sizeof(size));
 	calls = 0;
 	memset(&handed, 'x', sizeof(handed));
 	answers[0] = tuv_peer_begin(NULL, settings, nonce);
@@ -161,7 +161,6 @@ static void try_settings(size_t size, size_t at, uint8_t octet)
 	holds(calls == (is_good ? 7 : 0), "settings that are refused are handed on");
 	holds(!is_good || !memcmp(&handed, &wanted, sizeof(wanted)),
 	      "settings are handed on otherwise than they were given");
-	free(octets);
 }
 
 static void try_border(void)

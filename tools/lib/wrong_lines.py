@@ -5,19 +5,21 @@ from __future__ import annotations
 import os
 import shlex
 import shutil
-import subprocess
 import tempfile
+import threading
 import time
 from concurrent.futures import ThreadPoolExecutor
 from functools import lru_cache
 from pathlib import Path
-from typing import Iterator, NamedTuple, Optional
+from typing import Iterator, NamedTuple
 
+from lib import pages
 from lib.common import ROOT, Refused, grouped, said_by
 
 LIST = "wrong/scripts.lines"
-SECONDS = 300
 SHARE = 3
+# Who is stopped begins no more tries.
+stopped = threading.Event()
 
 
 class Wrong(NamedTuple):
@@ -61,8 +63,9 @@ def faults() -> list[str]:
 
 
 def copy_to(folder: Path) -> None:
-    """What stands in the repository, without its history and what is built."""
-    for name in said_by("git", "ls-files", "-co", "--exclude-standard").splitlines():
+    """What stands in the repository, and the programs that are kept, without its history."""
+    kept = [f"out/{it.name}" for it in (ROOT / "out").glob("eap_login-*")]
+    for name in said_by("git", "ls-files", "-co", "--exclude-standard").splitlines() + kept:
         if (ROOT / name).is_file():
             (folder / name).parent.mkdir(parents=True, exist_ok=True)
             shutil.copy2(ROOT / name, folder / name)
@@ -76,16 +79,10 @@ def program() -> str:
     return str(kept) if kept.exists() else os.environ.get("EAP_LOGIN") or str(ROOT / "eap_login")
 
 
-def sees(seer: str, folder: Path) -> Optional[bool]:
-    """Whether a command fails there; None where it takes too long."""
-    names = {**os.environ, "EAP_LOGIN": program(), "TMPDIR": str(folder / "out")}
-    (folder / "out").mkdir(exist_ok=True)
-    try:
-        done = subprocess.run(shlex.split(seer), cwd=folder, env=names, stdin=subprocess.DEVNULL, stdout=subprocess.DEVNULL,
-                              stderr=subprocess.DEVNULL, timeout=SECONDS)
-    except subprocess.TimeoutExpired:
-        return None
-    return done.returncode != 0
+def sees(seer: str, folder: Path) -> bool:
+    """Whether a command fails there."""
+    (folder / "out/tmp").mkdir(parents=True, exist_ok=True)
+    return pages.run(f"EAP_LOGIN={shlex.quote(program())} TMPDIR=$PWD/out/tmp {seer}", str(folder))[0] != 0
 
 
 def unseen_by(seer: str, lines: list[Wrong]) -> Iterator[str]:
@@ -93,10 +90,12 @@ def unseen_by(seer: str, lines: list[Wrong]) -> Iterator[str]:
     with tempfile.TemporaryDirectory(prefix="wrong-") as room:
         folder = Path(room)
         copy_to(folder)
-        if sees(seer, folder) is not False:
+        if sees(seer, folder):
             yield f"{seer} fails by itself"
             return
         for it in lines:
+            if stopped.is_set():
+                return
             file = folder / it.file
             whole = file.read_text()
             file.write_text(whole.replace(it.old, it.new))
@@ -117,4 +116,7 @@ def unseen(lines: list[Wrong]) -> list[str]:
         raise Refused(wrong[0])
     groups = grouped((it.seer, it) for it in lines)
     with ThreadPoolExecutor(len(os.sched_getaffinity(0))) as pool:
-        return [it for found in pool.map(lambda seer: list(unseen_by(seer, groups[seer])), groups) for it in found]
+        try:
+            return [it for found in pool.map(lambda seer: list(unseen_by(seer, groups[seer])), groups) for it in found]
+        finally:
+            stopped.set()

@@ -1,7 +1,7 @@
 //! Sources and sinks, and reads and writes that fail.
 
 ghost use Rattle.std.specs.Prelude.{◌≤◌, ℕ, IfOk, None};
-ghost use Rattle.octet_io.specs.Shown.{Shown, HasRisen};
+ghost use Rattle.octet_io.specs.Shown.{HasRisen};
 
 use octet_io::{MemSink, MemSource, Sink, Source, StdSink, StdSource, SureSink, SureSource};
 use std::io;
