@@ -65,10 +65,7 @@ int main(void)
 	}
 #ifdef BEGIN
 	len = write(4, report.msk, sizeof(report.msk));
-	tuv_end_close(&end);
-	explicit_bzero(end.at, tuv_end_size());
-	free(end.at);
-	tuv_clear_stack();
+	tuv_end_drop(&end);
 #elif defined(THEIRS)
 	if (!supplicant_peer.succeeded())
 		return 1;

@@ -42,15 +42,6 @@ static bool agree(struct tuv_end *peer, struct tuv_end *server)
 	return same;
 }
 
-static void drop(struct tuv_end *end)
-{
-	size_t size = tuv_end_size();
-
-	tuv_end_close(end);
-	explicit_bzero(end->at, size);
-	free(end->at);
-}
-
 static bool log_in(const struct tuv_settings *of_peer,
 		   const struct tuv_settings *of_server, uint32_t number)
 {
@@ -68,9 +59,8 @@ static bool log_in(const struct tuv_settings *of_peer,
 		converse(&server, &peer, tuv_server_start(&server));
 		good = agree(&peer, &server);
 	}
-	drop(&peer);
-	drop(&server);
-	tuv_clear_stack();
+	tuv_end_drop(&peer);
+	tuv_end_drop(&server);
 	return good;
 }
 

@@ -1,22 +1,33 @@
-/* The calls that take settings: `size` is read first, and no more than it says.
- * The proved call behind each gets a whole struct, as this library knows it, with
- * 0 in each field that the caller's has not.  (c/library names the proved call of
- * each line below proved_..) */
+/* The calls that take settings or write a report: `size` is read first, and no
+ * more than it says is read or written.  The proved call behind each gets a whole
+ * struct, as this library knows it, with 0 in each field that the caller's has
+ * not.  (c/library names the proved call of each line below proved_..)  And the
+ * end of a handle. */
+#define _DEFAULT_SOURCE
 #include <string.h>
 #include "tuvaddri.h"
 
 #ifndef TAKES_SETTINGS	/* (else for the table alone) */
-/* The struct of version 2, which is the shortest, and what is read at most. */
-enum { FIRST_SIZE = (offsetof(struct tuv_settings, barred) + sizeof(size_t)) /
-		    sizeof(size_t) * sizeof(size_t), MOST_SIZE = 4096 };
+/* The structs of version 2, which are the shortest, and what is read at most. */
+#define ENDS_WITH(type, field, len) ((offsetof(struct type, field) + (len) + sizeof(size_t) - 1) / \
+				     sizeof(size_t) * sizeof(size_t))
+enum { FIRST_SETTINGS = ENDS_WITH(tuv_settings, barred, 1),
+       FIRST_REPORT = ENDS_WITH(tuv_report, server_rand, TUV_RAND_MAX), MOST_SIZE = 4096 };
+
+static size_t size_of(const void *at)
+{
+	size_t size;
+
+	memcpy(&size, at, sizeof(size));
+	return size;
+}
 
 static bool complete(struct tuv_settings *whole, const void *settings)
 {
 	const uint8_t *octets = settings;
-	size_t size, i;
+	size_t size = size_of(settings), i;
 
-	memcpy(&size, octets, sizeof(size));
-	if (size < FIRST_SIZE || size > MOST_SIZE)
+	if (size < FIRST_SETTINGS || size > MOST_SIZE)
 		return false;
 	for (i = sizeof(*whole); i < size; i++)
 		if (octets[i])
@@ -84,6 +95,58 @@ static bool widened(wide_settings *wide, const void *settings)
 		return widened(&whole, settings) ? proved_##name handed	\
 						  : TUV_OTHER_SIZE;		\
 	}
+
+#if UINTPTR_MAX == UINT64_MAX
+#define WHOLE_REPORT(name) proved_##name
+#else
+#define WHOLE_REPORT(name) whole_##name	/* narrow.c's */
+#endif
+
+typedef bool reporter(struct tuv_end *end, struct tuv_report *report);
+
+/* A struct without a size is the first one.  What lies behind the report that this
+ * library knows is 0. */
+static bool report_by(reporter *whole_by, struct tuv_end *end, void *report)
+{
+	struct tuv_report whole;
+	size_t size = size_of(report) ? size_of(report) : FIRST_REPORT;
+	size_t known = size < sizeof(whole) ? size : sizeof(whole);
+	bool held;
+
+	if (size < FIRST_REPORT || size > MOST_SIZE)
+		return false;
+	memset(&whole, 0, sizeof(whole));
+	memcpy(&whole, report, known);
+	whole.size = sizeof(whole);
+	held = whole_by(end, &whole);
+	whole.size = size_of(report);
+	if (held) {
+		memcpy(report, &whole, known);
+		memset((uint8_t *) report + known, 0, size - known);
+	}
+	explicit_bzero(&whole, sizeof(whole));
+	return held;
+}
+
+#define TAKES_REPORT(name)							\
+	reporter WHOLE_REPORT(name);						\
+	bool name(struct tuv_end *end, struct tuv_report *report)		\
+	{									\
+		return report_by(WHOLE_REPORT(name), end, report);		\
+	}
+
+/* heap.c's, pool.c's or the program's; it clears what it gives back. */
+void rattle_dealloc(void *at);
+
+void tuv_end_drop(struct tuv_end *end)
+{
+	if (end->at) {
+		tuv_end_close(end);
+		rattle_dealloc(end->at);
+		end->at = NULL;
+	}
+	tuv_clear_stack();
+}
 #endif
 
 /* (a pointer is a pointer, whatever it points to) */
@@ -100,3 +163,6 @@ TAKES_SETTINGS(tuv_peer_method_begin, (END, NONCE), (end, WHOLE, nonce))
 TAKES_SETTINGS(tuv_server_method_begin, (END, NONCE, uint8_t id),
 	       (end, WHOLE, nonce, id))
 TAKES_SETTINGS(tuv_server_method_user, (END), (end, WHOLE))
+TAKES_REPORT(tuv_end_report)
+TAKES_REPORT(tuv_peer_report)
+TAKES_REPORT(tuv_server_report)

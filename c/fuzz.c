@@ -27,10 +27,14 @@
  * says (or of `size` alone, where it is over what the header reads).  Names,
  * keys, Identifiers, sizes and counts are at one of their limits in one of eight.
  *
- * heap.c is compiled with -Dmalloc=fuzz_malloc: in between each allocation of a
- * login fails in its turn, and what was refused succeeds when it is asked
- * again. */
+ * heap.c is compiled with -Dmalloc=fuzz_malloc -Dfree=fuzz_free: in between each
+ * allocation of a login fails in its turn, and what was refused succeeds when it is
+ * asked again; each block is given back cleared.
+ *
+ * Before them, whatever the seed: each limit of settings, at the last that it allows
+ * and one past it, and a block that grows and shrinks. */
 #define _DEFAULT_SOURCE
+#include <malloc.h>
 #include <stdio.h>
 #include <stdlib.h>
 #include <string.h>
@@ -39,6 +43,7 @@
 #include "fuzz.h"
 
 void *fuzz_malloc(size_t size);
+void fuzz_free(void *at);
 
 /* The allocation that fails, counted from 1; none where it is 0. */
 static unsigned long fails_at, allocations;
@@ -146,6 +151,21 @@ static void remember(enum handle h)
 {
 	calls++;
 	memcpy(before, ends[h].at, tuv_end_size());
+}
+
+static bool is_filled(const uint8_t *at, uint8_t octet, size_t len)
+{
+	while (len--)
+		if (*at++ != octet)
+			return false;
+	return true;
+}
+
+void fuzz_free(void *at)
+{
+	if (!is_filled(at, 0, malloc_usable_size(at)))
+		fail("a block is given back with what it held");
+	free(at);
 }
 
 /* So many octets of the block may have changed. */
@@ -317,21 +337,36 @@ static bool known(const struct tuv_octets *name, const uint8_t *at, uint8_t len)
 	return name->len == len && memcmp(name->at, at, len) == 0;
 }
 
-/* A report of another size: of less, or of more, octets. */
-static void ask_otherwise(enum handle h)
+/* A report of a size that is refused is read no further, and not written. */
+static void ask_refused(enum handle h)
 {
-	size_t size = any(2) ? among(sizeof(size), sizeof(struct tuv_report) - 1)
-			     : sizeof(struct tuv_report) + among(1, 64);
-	size_t room = (size + 7) / 8 * 8, i;
-	uint8_t *at = memset(guarded(&passing, room), 0, room);
+	size_t size = any(2) ? among(1, REPORT_FIRST - 1)
+			     : among(SETTINGS_MOST + 1, UINT32_MAX - 1);
+	uint8_t *at = copied(&size, sizeof(size));
 
+	remember(h);
+	if (BY_ROLE(h, report)(&ends[h], (void *) at) || memcmp(at, &size, sizeof(size)) != 0)
+		fail("a report of a size that is none");
+	same(h, 0, "a report of a size that is none changes the end");
+}
+
+/* A report of another size that is served: of 0, the first struct's, or of more than
+ * is known, where what lies behind becomes 0. */
+static void ask_otherwise(enum handle h, bool has, const struct tuv_report *r)
+{
+	size_t size = any(2) ? 0 : sizeof(*r) + sizeof(size) * among(1, 400);
+	size_t room = size ? size : REPORT_FIRST, known = room < sizeof(*r) ? room : sizeof(*r);
+	uint8_t *at = memset(guarded(&passing, room), 1, room);
+
+	memset(at, 0, known);
 	memcpy(at, &size, sizeof(size));
 	remember(h);
-	if (BY_ROLE(h, report)(&ends[h], (void *) at))
-		fail("a report of another size");
-	for (i = sizeof(size); i < room; i++)
-		if (at[i])
-			fail("a report of another size is written");
+	if (BY_ROLE(h, report)(&ends[h], (void *) at) != has)
+		fail("a report depends on its size");
+	if (memcmp(at, &size, sizeof(size)) != 0 ||
+	    memcmp(at + sizeof(size), (const uint8_t *) r + sizeof(size), known - sizeof(size)) != 0 ||
+	    !is_filled(at + known, has ? 0 : 1, room - known))
+		fail("a report of another size is another");
 	same(h, 0, "a report of another size changes the end");
 }
 
@@ -341,7 +376,7 @@ static bool report(enum handle h, struct tuv_report *r)
 	struct tuv_report *at;
 	bool has;
 
-	ask_otherwise(h);
+	ask_refused(h);
 	memset(r, 0, sizeof(*r));
 	r->size = sizeof(*r);
 	at = (void *) copied(r, sizeof(*r));
@@ -352,9 +387,10 @@ static bool report(enum handle h, struct tuv_report *r)
 	same(h, 0, "a report changes the end");
 	if (!has && memcmp(at, r, sizeof(*r)) != 0)
 		fail("a report is written where there is none");
+	*r = *at;
+	ask_otherwise(h, has, r);
 	if (!has)
 		return false;
-	*r = *at;
 	if (r->rand_length != (r->method == TUV_KIND_PSK ? 16 : 32) ||
 	    memcmp(h == PEER ? r->peer_rand : r->server_rand, models[h].nonce,
 		   r->rand_length) != 0)
@@ -499,8 +535,18 @@ static size_t other_size(void)
 	}
 }
 
-/* Settings as they are handed in: what they say is there of them, and what lies
- * behind the struct that is known here is 0, or not. */
+/* What lies behind the struct that is known here: of a login's any of these. */
+static enum { RANDOM, NOTHING, AT_ONCE, AT_LAST } behind;
+
+/* Where it isn't 0. */
+static size_t place_behind(size_t size)
+{
+	if (behind == AT_LAST)
+		return size - 1;
+	return behind == AT_ONCE || any(2) ? sizeof(*told) : among(sizeof(*told), size - 1);
+}
+
+/* Settings as they are handed in: what they say is there of them. */
 static const struct tuv_settings *handed(const struct tuv_settings *s)
 {
 	size_t size = s->size > SETTINGS_MOST || s->size < sizeof(s->size)
@@ -508,14 +554,14 @@ static const struct tuv_settings *handed(const struct tuv_settings *s)
 	uint8_t *at = memset(guarded(&passing, size), 0, size);
 
 	memcpy(at, s, size < sizeof(*s) ? size : sizeof(*s));
-	if (size > sizeof(*s) && any(2))
-		at[any(2) ? sizeof(*s) : among(sizeof(*s), s->size - 1)] = 1;
+	if (size > sizeof(*s) && (behind ? behind != NOTHING : any(2)))
+		at[place_behind(s->size)] = 1;
 	return (void *) at;
 }
 
 /* Octets of which there are as many as is allowed at the least or at the most, one
  * more, one fewer, or none. */
-static struct tuv_octets at_limit(size_t least, size_t most)
+static struct tuv_octets octets_at(size_t least, size_t most)
 {
 	size_t sizes[] = { 0, least - 1, least, most, most + 1 };
 
@@ -528,10 +574,10 @@ static void spoil(struct tuv_settings *s)
 	case 0: case 1: s->size = other_size(); break;
 	case 2: s->methods[any(2)] = any(2) ? any(256) : TUV_KIND_PSK; break;
 	case 3: s->suites[any(2)] = any(4); break;
-	case 4: s->name = at_limit(1, TUV_NAME_MAX); break;
-	case 5: s->other = at_limit(1, TUV_NAME_MAX); break;
-	case 6: s->psk_key = at_limit(16, 16); break;
-	case 7: s->gpsk_key = at_limit(32, TUV_KEY_MAX); break;
+	case 4: s->name = octets_at(1, TUV_NAME_MAX); break;
+	case 5: s->other = octets_at(1, TUV_NAME_MAX); break;
+	case 6: s->psk_key = octets_at(16, 16); break;
+	case 7: s->gpsk_key = octets_at(32, TUV_KEY_MAX); break;
 	case 8: s->psk_key = new_octets(among(0, TUV_KEY_MAX)); break;
 	case 9: s->other = TUV_ANY; break;
 	default: break;
@@ -900,12 +946,15 @@ static void be_silent(void)
 		fail("silence doesn't end a login");
 }
 
+/* What is done twice does no harm. */
 static void drop(struct tuv_end *end)
 {
 	tuv_end_close(end);
 	tuv_end_close(end);
-	explicit_bzero(end->at, tuv_end_size());
-	free(end->at);
+	tuv_end_drop(end);
+	tuv_end_drop(end);
+	if (end->at)
+		fail("a handle that is dropped has a block");
 }
 
 /* Begins at an end whose allocations may fail: asked again, it has begun. Whether
@@ -960,6 +1009,99 @@ static void starve(void)
 	fails_at = 0;
 }
 
+enum limit { LONGEST_NAME, SHORTEST_NAME, LONGEST_OTHER, LONGEST_PSK, SHORTEST_PSK,
+	     LONGEST_GPSK, SHORTEST_GPSK, LEAST_SIZE, GREATEST_SIZE, LIMITS };
+
+/* Settings at a limit, or one octet past it. */
+static struct tuv_settings limited(enum limit limit, size_t past)
+{
+	struct tuv_settings s = { .size = sizeof(s), .name = new_octets(5), .other = new_octets(5),
+				  .psk_key = new_octets(16), .gpsk_key = new_octets(32) };
+
+	switch (limit) {
+	case LONGEST_NAME: s.name = new_octets(TUV_NAME_MAX + past); break;
+	case SHORTEST_NAME: s.name = new_octets(1 - past); break;
+	case LONGEST_OTHER: s.other = new_octets(TUV_NAME_MAX + past); break;
+	case LONGEST_PSK: s.psk_key = new_octets(16 + past); break;
+	case SHORTEST_PSK: s.psk_key = new_octets(16 - past); break;
+	case LONGEST_GPSK: s.gpsk_key = new_octets(TUV_KEY_MAX + past); break;
+	case SHORTEST_GPSK: s.gpsk_key = new_octets(32 - past); break;
+	case LEAST_SIZE: s.size = SETTINGS_FIRST - past; break;
+	case GREATEST_SIZE: s.size = SETTINGS_MOST + past; break;
+	default: break;
+	}
+	return s;
+}
+
+static void at_limit(const struct tuv_settings *s, uint8_t retries, bool good)
+{
+	enum handle h;
+
+	for (h = PEER; h <= SERVER; h++)
+		if ((begin(h, s, h == PEER ? 0 : retries) == TUV_BEGUN) !=
+		    (good || (h == PEER && retries > 10)))
+			fail("a limit of settings isn't where the header has it");
+}
+
+static void try_limits(void)
+{
+	struct tuv_settings s = limited(LIMITS, 0), later = limited(LIMITS, 0);
+	enum limit limit;
+	size_t past;
+
+	setting = ALONE;
+	behind = NOTHING;
+	for (past = 0; past < 2; past++) {
+		for (limit = 0; limit < LIMITS; limit++) {
+			struct tuv_settings it = limited(limit, past);
+
+			at_limit(&it, 10, !past);
+		}
+		at_limit(&s, 10 + past, !past);
+	}
+	later.size += sizeof(size_t);
+	at_limit(&later, 10, true);
+	behind = AT_ONCE;
+	at_limit(&later, 10, false);
+	behind = AT_LAST;
+	at_limit(&later, 10, false);
+	later.size = SETTINGS_MOST;
+	at_limit(&later, 10, false);
+	behind = RANDOM;
+}
+
+/* heap.c's. */
+struct block {
+	bool ok;
+	void *at;
+};
+
+struct block rattle_alloc(size_t size, size_t align);
+struct block rattle_realloc(void *at, size_t old_size, size_t size, size_t align);
+void rattle_dealloc(void *at);
+
+/* A filled block moves, to more room and to less; where there is none it stays. */
+static void try_heap(void)
+{
+	static const size_t sizes[] = { 100, 300, 40, 40 };
+	struct block block = rattle_alloc(sizes[0], 8), next;
+	size_t i, kept = sizes[0];
+
+	memset(block.at, 0x5a, sizes[0]);
+	for (i = 1; i < 4; i++) {
+		fails_at = allocations + 1;
+		next = rattle_realloc(block.at, sizes[i - 1], sizes[i], 8);
+		fails_at = 0;
+		if (next.ok || !is_filled(block.at, 0x5a, kept))
+			fail("a block that can't move is lost");
+		block = rattle_realloc(block.at, sizes[i - 1], sizes[i], 8);
+		kept = kept < sizes[i] ? kept : sizes[i];
+		if (!block.ok || !is_filled(block.at, 0x5a, kept))
+			fail("a block that moves loses what it held");
+	}
+	rattle_dealloc(block.at);
+}
+
 static void make_ends(void)
 {
 	int i, c;
@@ -991,6 +1133,8 @@ int main(int argc, char *argv[])
 	state = strtoull(argv[1], NULL, 10);
 	most = strtoul(argv[2], NULL, 10);
 	make_ends();
+	try_limits();
+	try_heap();
 	while (calls < most) {
 		login(any(2) ? 0 : 1 + any(60));
 		if (any(16) == 0)

@@ -11,9 +11,10 @@ enum setting { ALONE, THROUGH, METHODS };
 enum role { CLOSED, A_PEER, A_SERVER, A_BACKEND, A_PASS, A_PEER_METHOD,
 	    A_SERVER_METHOD };
 
-/* What the header says of `size` of settings: the first struct's, and what is read
- * at most. */
-enum { SETTINGS_FIRST = sizeof(void *) == 8 ? 80 : 44, SETTINGS_MOST = 4096 };
+/* What the header says of `size`: that of the first structs, and what is read at
+ * most. */
+enum { SETTINGS_FIRST = sizeof(void *) == 8 ? 80 : 44, SETTINGS_MOST = 4096,
+       REPORT_FIRST = sizeof(void *) == 8 ? 712 : 708 };
 
 struct packet {
 	uint8_t octets[TUV_PACKET_MAX + 4];

@@ -112,8 +112,6 @@ static bool report_by(bool (*proved)(struct tuv_end *, struct wide_report *),
 	uint8_t *rest = (uint8_t *) report + REPORT_FRONT;
 	bool made;
 
-	if (report->size != sizeof(*report))
-		return false;
 	wide.size = sizeof(wide);
 	memcpy(wide.rest, rest, sizeof(wide.rest));
 	made = proved(end, &wide);
@@ -125,7 +123,8 @@ static bool report_by(bool (*proved)(struct tuv_end *, struct wide_report *),
 
 #define REPORT(name)								\
 	bool proved_##name(struct tuv_end *end, struct wide_report *report);	\
-	bool name(struct tuv_end *end, struct tuv_report *report)		\
+	bool whole_##name(struct tuv_end *end, struct tuv_report *report);	\
+	bool whole_##name(struct tuv_end *end, struct tuv_report *report)	\
 	{									\
 		return report_by(proved_##name, end, report);			\
 	}

@@ -1,4 +1,4 @@
-/* secrets METHOD SUITE keep|clear [stop]
+/* secrets METHOD SUITE keep|clear|short [stop]
  *
  * Runs logins by METHOD (47 or 51) and SUITE (1 or 2; 0 for 47) in every way
  * that a key can go: alone, again by a restart, with altered packets, with other
@@ -10,16 +10,22 @@
  * Session-Ids.
  *
  * For memcheck the keys are undefined, and what goes out is defined again: it is
- * public.  At the end all is closed, cleared and freed as tuvaddri.h says, with
- * `clear` the stack too.  With `stop` the process then stops, so that its memory
- * can be searched, and no call may have gone deeper into the stack than
- * TUV_STACK_MAX.  The exit status is 0 where each way ended as it should. */
+ * public.  At the end all is closed, cleared and freed, with `clear` the stack too as
+ * tuvaddri.h says, with `short` by tuv_clear_stack wherever the calls were made.
+ * With `stop` the process then stops, so that its memory can be searched, and no
+ * call may have gone deeper into the stack than TUV_STACK_MAX.  The exit status is 0
+ * where each way ended as it should.
+ *
+ * SECRETS_DEPTH in the environment is how many octets deeper than the clear the calls
+ * are made.  With SECRETS_SIGNALS a timer sends a signal each 30 microseconds, and
+ * on x86-64 one comes at each instruction of the clear. */
 #define _DEFAULT_SOURCE
 #include <signal.h>
 #include <stdio.h>
 #include <stdlib.h>
 #include <string.h>
 #include <sys/random.h>
+#include <sys/time.h>
 #include <unistd.h>
 #include "stack_paint.h"
 #include "tuvaddri.h"
@@ -341,6 +347,7 @@ static void ends(void)
 	tuv_end_close(&server);
 }
 
+/* (Without tuv_clear_stack, which `keep` has none of.) */
 static void drop(struct tuv_end *end)
 {
 	tuv_end_close(end);
@@ -362,6 +369,60 @@ static void run(void)
 	drop(&pass);
 }
 
+static void run_deeper(size_t octets)
+{
+	volatile uint8_t room[octets + 1];
+
+	room[0] = room[octets] = 1;
+	run();
+	room[0] = 2;
+}
+
+static void nothing(int number)
+{
+	(void) number;
+}
+
+static void send_signals(long each)
+{
+	const struct itimerval timer = { { 0, each }, { 0, each } };
+
+	setitimer(ITIMER_REAL, &timer, NULL);
+}
+
+/* Whether the processor stops at each instruction (EFLAGS.TF), by SIGTRAP. */
+static void step(int on)
+{
+#ifdef __x86_64__
+	unsigned long flags;
+
+	__asm__ volatile("pushfq\n\tpopq %0" : "=r"(flags));
+	flags = on ? flags | 0x100 : flags & ~0x100ul;
+	__asm__ volatile("pushq %0\n\tpopfq" : : "r"(flags) : "cc", "memory");
+#else
+	(void) on;
+#endif
+}
+
+static void clear(const char *how, size_t depth, int signals)
+{
+	if (signals)
+		step(1);
+	if (strcmp(how, "clear") == 0)
+		tuv_clear_stack_of(TUV_STACK_MAX + depth);
+	else if (strcmp(how, "short") == 0)
+		tuv_clear_stack();
+	if (signals)
+		step(0);
+}
+
+static size_t number_in(const char *name)
+{
+	const char *word = getenv(name);
+
+	return word ? strtoul(word, NULL, 10) : 0;
+}
+
 static void read_keys(struct keys *keys)
 {
 	if (read(0, keys, sizeof(*keys)) != (ssize_t) sizeof(*keys))
@@ -371,6 +432,9 @@ static void read_keys(struct keys *keys)
 
 int main(int argc, char *argv[])
 {
+	size_t depth = number_in("SECRETS_DEPTH");
+	int signals = number_in("SECRETS_SIGNALS") != 0;
+
 	if (argc < 4)
 		return 2;
 	method = strcmp(argv[1], "47") == 0 ? TUV_KIND_PSK : TUV_KIND_GPSK;
@@ -379,15 +443,20 @@ int main(int argc, char *argv[])
 	read_keys(&others);
 	if (argc > 4)
 		paint();
-	run();
-	if (argc > 4) {
-		size_t depth = deepest();
-
-		printf("stack %zu\n", depth);
-		expect(depth <= TUV_STACK_MAX, "a call goes deeper than TUV_STACK_MAX");
+	if (signals) {
+		signal(SIGALRM, nothing);
+		signal(SIGTRAP, nothing);
+		send_signals(30);
 	}
-	if (strcmp(argv[3], "clear") == 0)
-		tuv_clear_stack();
+	run_deeper(depth);
+	if (argc > 4 && !depth && !signals) {
+		size_t most = deepest();
+
+		printf("stack %zu\n", most);
+		expect(most <= TUV_STACK_MAX, "a call goes deeper than TUV_STACK_MAX");
+	}
+	clear(argv[3], depth, signals);
+	send_signals(0);
 	explicit_bzero(&shared, sizeof(shared));
 	explicit_bzero(&others, sizeof(others));
 	fflush(stdout);

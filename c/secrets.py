@@ -1,7 +1,7 @@
 #!/usr/bin/env python3
 """What becomes of keys in secrets.c.
 
-    secrets.py left keep|clear COMMAND ..   where octets of a key are left in memory, when all is closed and cleared
+    secrets.py left keep|clear|short COMMAND ..   where octets of a key are left in memory, when all is closed and cleared
     secrets.py branches LIST PROGRAM        where memcheck sees an address or a branch that depends on a key, beside LIST
 
 `left` computes the keys and Session-Ids of each conversation from its packets, and searches the writable memory of the
@@ -359,7 +359,7 @@ def branches(path, program):
 
 
 def main(words):
-    if len(words) > 2 and words[0] == "left" and words[1] in ("keep", "clear"):
+    if len(words) > 2 and words[0] == "left" and words[1] in ("keep", "clear", "short"):
         return left(words[1], words[2:])
     if len(words) == 3 and words[0] == "branches":
         return branches(*words[1:])

@@ -40,8 +40,7 @@ enum { TUV_PACKET_MAX = 1500, TUV_NAME_MAX = 253, TUV_KEY_MAX = 64,
  * and are never used again; EAP-PSK takes the first 16. */
 enum { TUV_NONCE_LEN = 32 };
 
-/* No call goes deeper into the stack, and tuv_clear_stack clears so many octets
- * below its caller. */
+/* No call goes deeper into the stack. */
 #define TUV_STACK_MAX 16384
 
 /* Octets that belong to the caller. */
@@ -167,7 +166,8 @@ enum {
 	TUV_CAUSE_EARLY_FAILURE = 15,	/* a Failure while the method goes on */
 	TUV_CAUSE_WRONG_METHOD = 16,	/* a Response of another Type than was asked */
 	TUV_CAUSE_NOT_WAITING = 17,	/* nothing is awaited from this side */
-	TUV_CAUSE_ENDED = 18,		/* the end has ended */
+	TUV_CAUSE_ENDED = 18,		/* the end has ended (of a Request to a peer: the
+					 * server asks anew, tuv_peer_restart) */
 	TUV_CAUSE_GPSK_SHAPE = 19,	/* no EAP-GPSK message */
 	TUV_CAUSE_LIST_TOO_LONG = 20,	/* an EAP-GPSK list of more than 20 suites */
 	TUV_CAUSE_PSK_SHAPE = 21,	/* no EAP-PSK message */
@@ -188,13 +188,7 @@ enum { TUV_METHOD_NONE = 0, TUV_METHOD_INIT = 1, TUV_METHOD_CONT = 2,
 enum { TUV_DECISION_FAIL = 0, TUV_DECISION_COND_SUCC = 1,
        TUV_DECISION_UNCOND_SUCC = 2 };
 
-/* An end, which belongs to the caller.  When it is done with, in this order:
- *	tuv_end_close(&end);
- *	explicit_bzero(end.at, tuv_end_size());
- *	free(end.at);
- *	tuv_clear_stack();
- * for the octets of the keys still stand in the block after the close, and on
- * the stack, where the calls left them. */
+/* An end, which belongs to the caller.  When it is done with, tuv_end_drop. */
 struct tuv_end {
 	void *at;
 };
@@ -216,8 +210,10 @@ struct tuv_method_turn {
 	uint8_t decision;	/* TUV_DECISION_.. */
 };
 
-/* What an end holds after a method that succeeded; `size` is sizeof(struct
- * tuv_report).  Clear it after use. */
+/* What an end holds after a method that succeeded.  `size` is sizeof(struct
+ * tuv_report), and no more is written: what a larger struct has behind the one that
+ * the library knows becomes 0.  0 is the size of the first struct (712; 708 where a
+ * pointer has 32 bits).  Clear it after use. */
 struct tuv_report {
 	size_t size;
 	uint8_t method;		/* TUV_KIND_.. */
@@ -262,8 +258,13 @@ bool tuv_end_new(void **at);
 size_t tuv_end_size(void);
 
 /* Closes an end: it has no packet and no report, and takes no call but a begin.
- * A handle that is closed stays so. */
+ * A handle that is closed stays so.  Octets of keys still stand in its block. */
 void tuv_end_close(struct tuv_end *end);
+
+/* Ends a handle: closes it, clears its block and gives it back, makes `at` null,
+ * and clears the stack (tuv_clear_stack).  Of a handle whose `at` is null it clears
+ * the stack alone, so a second time does no harm. */
+void tuv_end_drop(struct tuv_end *end);
 
 /* The length of the packet of the end's last turn (or of tuv_server_method_begin),
  * 0 if that turn didn't say `sends`: after a discard, a misplaced call, a begin.
@@ -277,7 +278,8 @@ size_t tuv_end_packet(struct tuv_end *end, uint8_t *room, size_t room_len);
 size_t tuv_end_again(struct tuv_end *end, uint8_t *room, size_t room_len);
 
 /* Writes the report of a method that has succeeded, and answers true; false, with
- * nothing written, before that, at any other end, and if `size` is another.  A
+ * nothing written, before that, at any other end, and if `size` is below that of
+ * the first struct (but not 0) or over 4,096.  A
  * peer has it before the Success comes: the login has succeeded if the state is
  * SUCCESS too.  Behind a name and behind 16 octets of a nonce the octets stay that
  * were there. */
@@ -294,7 +296,9 @@ bool tuv_server_report(struct tuv_end *end, struct tuv_report *report);
 size_t tuv_end_session_id(struct tuv_end *end, uint8_t room[TUV_SESSION_ID_MAX]);
 
 /* The same as wpa_supplicant and hostapd 2.10 derive it, which take for EAP-GPSK's
- * Method-ID the front of the PSK for its key, not octets of zero. */
+ * Method-ID the front of the PSK for its key, not octets of zero.  A server takes
+ * the key that its user of this name has now: if tuv_server_user has replaced him
+ * since the login it is another Session-Id, or none.  Ask before that. */
 size_t tuv_end_session_id_wpa(struct tuv_end *end,
 			      uint8_t room[TUV_SESSION_ID_MAX]);
 
@@ -432,10 +436,17 @@ struct tuv_method_turn tuv_server_method_handle(struct tuv_end *end,
 
 /* --- written in C --- */
 
-/* Clears TUV_STACK_MAX octets of the stack below the caller, and the vector
- * registers that a call needn't keep: in both the calls above have left octets of
- * keys.  After the last call of a login, in the thread
- * that made it, from no deeper than the calls were made. */
+/* Clears so many octets of the stack below the caller, and the vector registers that
+ * a call needn't keep: in both the calls above have left octets of keys.  After the
+ * last call of a login, in the thread that made it, from no deeper than the calls were
+ * made; of at least TUV_STACK_MAX octets, and so many more as the calls were made
+ * deeper than this one is.  A signal leaves what a call had in registers on the stack
+ * of its handler: on one of its own (sigaltstack) this clears nothing.  Block signals
+ * from the first call to the clear, or clear that stack too. */
+void tuv_clear_stack_of(size_t octets);
+
+/* The same of TUV_STACK_MAX octets: for the function that made the calls, or one it
+ * was called by whose frame and all between are at most 2,000 octets. */
 void tuv_clear_stack(void);
 
 /* Whether the processor has what the library was built for (README.md). */

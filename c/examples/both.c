@@ -159,13 +159,6 @@ static void print_report(const char *who, struct tuv_end *end,
 	print("session-id", id, len);
 }
 
-static void drop(struct tuv_end *end)
-{
-	tuv_end_close(end);
-	explicit_bzero(end->at, tuv_end_size());
-	free(end->at);
-}
-
 /* Whether the two ends report the same; what was reported is cleared. */
 static int agree(struct ends *e)
 {
@@ -241,10 +234,9 @@ int main(int argc, char *argv[])
 		return failed;
 	for (at = 4; !failed && at + 1 < argc; at += 2)
 		failed = log_in_by(&e, argv + at, at == 4, through);
-	drop(&e.peer);
-	drop(&e.server);
-	drop(&e.pass);
-	tuv_clear_stack();
+	tuv_end_drop(&e.peer);
+	tuv_end_drop(&e.server);
+	tuv_end_drop(&e.pass);
 	explicit_bzero(key, sizeof(key));
 	return failed;
 }

@@ -66,10 +66,7 @@ static bool open_server(const struct login *login)
 
 static void close_end(struct own *own)
 {
-	tuv_end_close(&own->end);
-	explicit_bzero(own->end.at, tuv_end_size());
-	free(own->end.at);
-	tuv_clear_stack();
+	tuv_end_drop(&own->end);
 }
 
 static void close_peer(void)

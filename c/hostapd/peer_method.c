@@ -19,6 +19,10 @@
 #define REGISTER eap_peer_gpsk_register
 #endif
 
+/* The octets of the stack that are cleared at the end: the machine's calls before
+ * it were made some 6,000 deeper, and the linker saves registers below them. */
+enum { CLEARED = TUV_STACK_MAX + 8192 };
+
 struct peer {
 	struct tuv_end end;
 	/* Of a method that has succeeded; it has both keys, which are asked
@@ -29,11 +33,9 @@ struct peer {
 
 static void drop(struct peer *p)
 {
-	tuv_end_close(&p->end);
-	forced_memzero(p->end.at, tuv_end_size());
-	os_free(p->end.at);
+	tuv_end_drop(&p->end);
 	bin_clear_free(p, sizeof(*p));
-	tuv_clear_stack();
+	tuv_clear_stack_of(CLEARED);
 }
 
 /* A network's phase1="cipher=1" or 2 allows that suite alone; 0, or no word of

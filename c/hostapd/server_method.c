@@ -18,6 +18,10 @@
 #define REGISTER eap_server_gpsk_register
 #endif
 
+/* The octets of the stack that are cleared at the end: the machine's calls before
+ * it were made some 6,000 deeper, and the linker saves registers below them. */
+enum { CLEARED = TUV_STACK_MAX + 8192 };
+
 struct server {
 	struct tuv_end end;
 	struct tuv_method_turn turn;
@@ -30,11 +34,9 @@ struct server {
 
 static void drop(struct server *s)
 {
-	tuv_end_close(&s->end);
-	forced_memzero(s->end.at, tuv_end_size());
-	os_free(s->end.at);
+	tuv_end_drop(&s->end);
 	bin_clear_free(s, sizeof(*s));
-	tuv_clear_stack();
+	tuv_clear_stack_of(CLEARED);
 }
 
 /* The method begins, with its first Request; the user has been looked up. */
