@@ -1,10 +1,14 @@
 //! The handle that a program in C keeps.
 
-ghost use Rattle.std.specs.Prelude.{◌≡◌, IsTrue};
+ghost use Rattle.std.specs.Prelude.{◌≡◌, IsTrue, Some};
 ghost use Rattle.tuvaddri_c.specs.declared.session.Session.{Session};
 ghost use Rattle.tuvaddri_c.specs.Capacities.{IsCopied};
 ghost use Rattle.tuvaddri_c.specs.Sent.{no_end, turn_packet};
+ghost use Rattle.tuvaddri_c.specs.contracts.session.Session.{the_row};
+ghost use denote.Param.{layout};
+ghost use prog.Memory.{size, capped};
 
+use crate::place::TuvPlace;
 use crate::rooms::copy;
 use crate::session::{End, Sent, Session};
 use std::alloc::Global;
@@ -40,11 +44,6 @@ impl TuvEnd {
     }
 }
 
-/// A pointer that does not say what it points to: C has no name for it.
-fn as_octets(at: *mut Session) -> *mut u8 {
-    at as *mut u8
-}
-
 /// The number of this interface: a program compares it with that of its header.
 #[unsafe(no_mangle)]
 pub extern "C" fn tuv_version() -> u32
@@ -53,16 +52,17 @@ pub extern "C" fn tuv_version() -> u32
     2
 }
 
-/// Makes a session without an end, and answers true; false for want of memory. The program releases its block by
-/// `free`, after `tuv_end_close`.
+/// Makes a session without an end at this place, and answers true; false for want of memory, and the place stays as it
+/// was. The program releases its block by `tuv_end_drop`.
 #[unsafe(no_mangle)]
-pub extern "C" fn tuv_end_new(alloc: Global, at: &mut *mut u8) -> bool
-    ensures { (IsTrue result → ⊥) → at.new ≡ at.old }
+pub extern "C" fn tuv_end_new(alloc: Global, place: &mut TuvPlace) -> bool
+    ensures made { IsTrue result → place.new.made ≡ Some no_end }
+    ensures refused { (IsTrue result → ⊥) → place.new ≡ place.old }
 {
     match Box::new(alloc, Session::closed()) {
         Err(_) => false,
         Ok(session) => {
-            *at = as_octets(Box::into_raw(session));
+            *place = TuvPlace::of(session);
             true
         }
     }
@@ -70,7 +70,9 @@ pub extern "C" fn tuv_end_new(alloc: Global, at: &mut *mut u8) -> bool
 
 /// The octets of the block: the program clears so many before it releases the block.
 #[unsafe(no_mangle)]
-pub extern "C" fn tuv_end_size() -> usize {
+pub extern "C" fn tuv_end_size() -> usize
+    ensures { result ≡ capped (size (layout the_row)) }
+{
     size_of::<Session>()
 }
 

@@ -1,0 +1,11 @@
+-- The peer stands, after the octets, in a state in which it waits or has ended.
+use Rattle.std.proofs.Common.{◌≡◌, true, subst}
+use Rattle.tuvaddri_c.proofs.Stays.{peer_delivered}
+use Rattle.tuvaddri_c.proofs.deliver.deliver_to_peer.Goals as goal
+use Rattle.tuvaddri_c.specs.Standing.{stands}
+use Rattle.tuvaddri_c.specs.declared.session.End.{End}
+
+pub returns-in-Peer-clause-stands : goal.returns-in-Peer-clause-stands
+returns-in-Peer-clause-stands c before =
+    peer_delivered c.in-Peer.machine c.deliver_step-step.new.self _ c.args.octets.now c.deliver_step-step.ensures.step
+    (subst (λ (e : End). stands e ≡ true) c.in-Peer.is before)

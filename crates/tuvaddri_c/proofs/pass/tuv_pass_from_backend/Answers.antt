@@ -1,0 +1,13 @@
+-- After octets of the backend a pass-through waits, or has ended.
+use Rattle.std.proofs.Common.{◌≡◌, true, subst, sym}
+use Rattle.tuvaddri_c.proofs.Stays.{backend_passed}
+use Rattle.tuvaddri_c.proofs.pass.tuv_pass_from_backend.Goals as goal
+use Rattle.tuvaddri_c.specs.Standing.{stands}
+use Rattle.tuvaddri_c.specs.declared.session.End.{End}
+use Rattle.tuvaddri_c.specs.declared.session.Session.{Session}
+
+pub returns-in-Pass-clause-stands : goal.returns-in-Pass-clause-stands
+returns-in-Pass-clause-stands c before =
+    backend_passed c.in-Pass.machine c.from_backend_step-step.new.self _ c.args.octets.now c.from_backend_step-step.ensures.step
+    (subst (λ (e : End). stands e ≡ true) c.in-Pass.is
+    (subst (λ (s : Session). stands s.end ≡ true) (sym c.session-session.ensures.value) before))

@@ -1,0 +1,13 @@
+-- A peer that is told of success has ended, or stands as it stood.
+use Rattle.std.proofs.Common.{◌≡◌, true, subst, sym}
+use Rattle.tuvaddri_c.proofs.Stays.{peer_accepted}
+use Rattle.tuvaddri_c.proofs.peer.tuv_peer_alt_accept.Goals as goal
+use Rattle.tuvaddri_c.specs.Standing.{stands}
+use Rattle.tuvaddri_c.specs.declared.session.End.{End}
+use Rattle.tuvaddri_c.specs.declared.session.Session.{Session}
+
+pub returns-in-Peer-clause-stands : goal.returns-in-Peer-clause-stands
+returns-in-Peer-clause-stands c before =
+    peer_accepted c.in-Peer.machine c.alt_accept_step-step.new.self _ c.alt_accept_step-step.ensures.step
+    (subst (λ (e : End). stands e ≡ true) c.in-Peer.is
+    (subst (λ (s : Session). stands s.end ≡ true) (sym c.session-session.ensures.value) before))
