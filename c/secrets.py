@@ -1,13 +1,13 @@
 #!/usr/bin/env python3
 """What becomes of keys in secrets.c.
 
-    secrets.py left keep|clear|short COMMAND ..   where octets of a key are left in memory, when all is closed and cleared
+    secrets.py left keep|clear|short [nameless] COMMAND ..   where octets of a key are left in memory, when all is closed and cleared
     secrets.py branches LIST PROGRAM        where memcheck sees an address or a branch that depends on a key, beside LIST
 
 `left` computes the keys and Session-Ids of each conversation from its packets, and searches the writable memory of the
 stopped program for any 16 successive octets of the keys, and of what is derived from them: round keys of AES, L, K1 and
 K2 of CMAC, HMAC's midstates. Of a program under an emulator that is the emulator's memory, with the registers that it
-holds for the program. The status is 0 where none is found.
+holds for the program. The status is 0 where none is found. A `nameless` program gives no Session-Ids.
 
 `branches` needs valgrind. LIST has a line `FUNCTION PLACES`, ` # ` and why, for each function that branches on a key.
 The status is 0 where there is no such address, and no such branch but those of the list.
@@ -301,14 +301,16 @@ def counts_of(secrets, parts):
 
 def left(word, command):
     check_ciphers()
-    found = False
+    found, nameless = False, command[:1] == ["nameless"]
+    command = command[nameless:]
     for way in WAYS:
         method, suite = map(int, way)
         keys = random.Random(suite + 1).randbytes(128)
         said, parts = run_stopped(command, way, word, keys)
         packets = values("packet", said)
         made = set(zip(values("session-id", said), values("session-id-wpa", said)))
-        if not made or not made <= set(ids_of(method, suite, keys, packets)):
+        wanted = set(ids_of(method, suite, keys, packets))
+        if not wanted or bool(made) == nameless or not made <= wanted:
             sys.exit(f"secrets.py: {command[-1]} gives other Session-Ids than its packets")
         secrets = secrets_of(method, suite, keys, packets)
         counts, octets = counts_of(secrets, parts), sum(len(octets) for _, octets in parts)

@@ -11,7 +11,7 @@ between := supplicant_peer.o hostapd_server.o peer_47.o peer_51.o server_47.o se
 ours := library_ends.o pairs.o
 
 pairs: $(theirs) $(between) $(ours)
-	gcc -O2 -Wl,--gc-sections -o $@ $^ $(LIBRARY)/libtuvaddri.a
+	gcc -O2 -Wl,--gc-sections,-z,lazy -o $@ $^ $(LIBRARY)/libtuvaddri.a
 
 vpath %.c $(addprefix $(SOURCE)/src/,utils eap_common eap_peer eap_server crypto) $(HERE)
 settings := -DIEEE8021X_EAPOL -DEAP_PSK -DEAP_GPSK -DEAP_GPSK_SHA256 -DEAP_SERVER -DEAP_SERVER_IDENTITY \

@@ -19,8 +19,8 @@
 #define REGISTER eap_peer_gpsk_register
 #endif
 
-/* The octets of the stack that are cleared at the end: the machine's calls before
- * it were made some 6,000 deeper, and the linker saves registers below them. */
+/* The octets of the stack that are cleared at the end: the calls before it were made
+ * deeper, and the linker saves registers below them. */
 enum { CLEARED = TUV_STACK_MAX + 8192 };
 
 struct peer {

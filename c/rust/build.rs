@@ -1,13 +1,13 @@
-//! Where the library for C is: the folder that TUVADDRI_FOLDER names, else `c/out` of these sources, else where pkg-config
-//! finds it.
+//! Where the library for C is: the folder that TUVADDRI_FOLDER names, else `c/out` of these sources or its `unchecked`, else
+//! where pkg-config finds it.
 use std::path::{Path, PathBuf};
 use std::process::Command;
 
 fn main() {
     println!("cargo:rerun-if-env-changed=TUVADDRI_FOLDER");
-    let built = Path::new(env!("CARGO_MANIFEST_DIR")).join("../out");
+    let mut built = ["../out", "../out/unchecked"].iter().map(|it| Path::new(env!("CARGO_MANIFEST_DIR")).join(it));
     let named = std::env::var_os("TUVADDRI_FOLDER").map(PathBuf::from);
-    match named.or_else(|| Some(built).filter(|it| it.join("libtuvaddri.a").exists())).or_else(installed) {
+    match named.or_else(|| built.find(|it| it.join("libtuvaddri.a").exists())).or_else(installed) {
         Some(folder) => {
             let form = if folder.join("libtuvaddri.a").exists() { "static=" } else { "" };
             println!("cargo:rerun-if-changed={}", folder.join("libtuvaddri.a").display());

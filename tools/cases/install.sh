@@ -184,7 +184,8 @@ if has pkg-config pkg-config it; then
     found=$(PKG_CONFIG_PATH=$work/with/lib/pkgconfig pkg-config --cflags --libs tuvaddri | tr -s ' ' | sed 's/ $//')
     holds "pkg-config finds '$found'" [ "$found" = "-I$work/with/include -L$work/with/lib -ltuvaddri" ]
 fi
-# CMake's find_package has both forms, which a program is linked with, of this version alone.
+# CMake's find_package has both forms, which a program is linked with, of this version alone, where the prefix is now; it
+# leaves the caller's variables.
 if has cmake CMake it; then
     mkdir "$work/cmake"
     cat >"$work/cmake/program.c" <<'TEXT'
@@ -194,20 +195,35 @@ TEXT
     cat >"$work/cmake/CMakeLists.txt" <<TEXT
 cmake_minimum_required(VERSION 3.10)
 project(program C)
-find_package(tuvaddri 3 QUIET)
-if(tuvaddri_FOUND)
-  message(FATAL_ERROR "version 3 is found")
-endif()
+foreach(other 3 $number.7 "$number.7;EXACT" 1)
+  find_package(tuvaddri \${other} QUIET)
+  if(tuvaddri_FOUND)
+    message(FATAL_ERROR "version \${other} is found")
+  endif()
+endforeach()
+foreach(it name form file target lib prefix)
+  set(\${it} "the caller's")
+endforeach()
+find_package(tuvaddri $number EXACT REQUIRED)
 find_package(tuvaddri $number REQUIRED)
+find_package(tuvaddri REQUIRED)
+foreach(it name form file target lib prefix)
+  if(NOT \${it} STREQUAL "the caller's")
+    message(FATAL_ERROR "\${it} is \${\${it}}")
+  endif()
+endforeach()
 foreach(form tuvaddri static)
   add_executable(by-\${form} program.c)
   target_link_libraries(by-\${form} tuvaddri::\${form})
 endforeach()
 TEXT
-    holds "CMake finds the library" cmake -S "$work/cmake" -B "$work/cmake/out" -DCMAKE_PREFIX_PATH="$work/with" --log-level=ERROR
+    cp -R "$work/with" "$work/moved"
+    mv "$work/with/lib" "$work/lib"
+    holds "CMake finds the library" cmake -S "$work/cmake" -B "$work/cmake/out" -DCMAKE_PREFIX_PATH="$work/moved" --log-level=ERROR
     holds "CMake links both forms" cmake --build "$work/cmake/out"
     holds "what CMake has linked with the shared object" "$work/cmake/out/by-tuvaddri"
     holds "what CMake has linked with the archive" "$work/cmake/out/by-static"
+    mv "$work/lib" "$work/with/lib"
 fi
 for it in lib/python3/dist-packages/tuvaddri/__init__.py share/tuvaddri/rust/src/lib.rs; do
     holds "install of $it" [ -s "$work/with/$it" ]

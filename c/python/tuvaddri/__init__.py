@@ -12,6 +12,7 @@ were never used before; where none is given, the system's random source gives th
 from __future__ import annotations
 
 import ctypes
+import hmac
 import os
 import threading
 from contextlib import contextmanager, nullcontext
@@ -123,7 +124,10 @@ class _Cleared:
 
 
 class Report(_Cleared):
-    """What an end holds after a method that succeeded. Close it after use, which clears the keys; they are bytearrays."""
+    """What an end holds after a method that succeeded. Close it after use, which clears the keys; they are bytearrays. Two
+    are equal if all that they hold is."""
+
+    __hash__ = None  # type: ignore[assignment]
 
     def __init__(self, told: _abi.Report) -> None:
         self.msk, self.emsk = bytearray(told.msk), bytearray(told.emsk)
@@ -137,6 +141,12 @@ class Report(_Cleared):
     def close(self) -> None:
         for key in (self.msk, self.emsk):
             key[:] = bytes(len(key))
+
+    def __eq__(self, other: object) -> bool:
+        if not isinstance(other, Report):
+            return NotImplemented
+        same = [hmac.compare_digest(one, another) for one, another in ((self.msk, other.msk), (self.emsk, other.emsk))]
+        return all(same) and {**vars(self), "msk": 0, "emsk": 0} == {**vars(other), "msk": 0, "emsk": 0}
 
     def __repr__(self) -> str:
         return f"<tuvaddri.Report method {self.method} suite {self.suite} peer {self.peer!r} server {self.server!r}>"
@@ -257,11 +267,8 @@ class _End(_Cleared):
         if not hasattr(self, "_end"):
             return
         with self._lock:
-            at, self._end.at = self._end.at, None
-            if at:
-                _library.tuv_end_close(_abi.End(at))
-                _abi.free(at)
-                _library.tuv_clear_stack()
+            if self._end.at:  # (one call, which no interrupt cuts in two)
+                _library.tuv_end_drop(self._end)
 
     def __repr__(self) -> str:
         return f"<tuvaddri.{type(self).__name__} {'closed' if self.closed else self._state or 'begun'}>"

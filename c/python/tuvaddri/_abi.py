@@ -4,6 +4,7 @@ from __future__ import annotations
 
 import ctypes
 import os
+import sys
 from ctypes import POINTER, Structure, c_bool, c_char_p, c_size_t, c_uint8, c_uint32, c_void_p
 from pathlib import Path
 from typing import Any, List
@@ -80,7 +81,7 @@ _CALLS: List[Any] = [
     (c_bool, [_END, POINTER(Report)], "end_report"),
     (c_bool, [], "processor_serves"),
     (Failure, [_END], "end_failure"),
-    (None, [_END], "end_close"),
+    (None, [_END], "end_close end_drop"),
     (None, [], "clear_stack"),
     (c_char_p, [c_uint8], "cause_word state_word refusal_word failure_word"),
     (c_uint32, [], "version"),
@@ -88,14 +89,15 @@ _CALLS: List[Any] = [
 
 
 def _path() -> str:
-    """The shared object that TUVADDRI_LIBRARY names; else the one that was installed or built together with this package;
-    else the loader finds it."""
+    """The shared object that TUVADDRI_LIBRARY names; else the one that lies in this package, or was installed or built
+    together with it; else the loader finds it."""
     named = os.environ.get("TUVADDRI_LIBRARY")
     if named:
         return named
-    above = Path(__file__).resolve().parents
-    near = [above[3] / NAME, above[2] / "out" / NAME] if len(above) > 3 else []
-    return next((str(it) for it in near if it.is_file()), NAME)
+    here = Path(__file__).resolve().parent
+    near = [here / it / NAME for it in (".", "../../..", "../../out", "../../out/unchecked")]
+    prefix = [Path(sys.prefix, it, NAME) for it in ("lib", "lib64")]
+    return next((str(it) for it in near + prefix if it.is_file()), NAME)
 
 
 def _load() -> Any:
@@ -111,18 +113,12 @@ def _load() -> Any:
         raise ImportError(f"{path} has version {version()} of the interface, and this package is for version {VERSION}")
     for answer, words, names in _CALLS:
         for name in names.split():
-            call = getattr(library, f"tuv_{name}")
+            call = getattr(library, f"tuv_{name}", None)
+            if call is None:
+                raise ImportError(f"{path} is an earlier library of version {VERSION}: it has no tuv_{name}")
             call.restype, call.argtypes = answer, words
     return library
 
 
 library = _load()
 ident = ctypes.string_at(ctypes.addressof(ctypes.c_char.in_dll(library, "tuv_ident"))).decode()
-_libc = ctypes.CDLL(None)
-_libc.free.argtypes, _libc.free.restype = [c_void_p], None
-
-
-def free(at: int) -> None:
-    """Gives a block of tuv_end_new back, cleared."""
-    ctypes.memset(at, 0, library.tuv_end_size())
-    _libc.free(at)

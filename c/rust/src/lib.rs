@@ -486,13 +486,8 @@ fn taken(answer: u8) -> Result<(), Error> {
 
 impl Drop for End {
     fn drop(&mut self) {
-        // SAFETY: the block is tuv_end_new's, of this size, by malloc, and nothing uses it from here on.
-        unsafe {
-            sys::tuv_end_close(&mut self.0);
-            sys::explicit_bzero(self.0.at, sys::tuv_end_size());
-            sys::free(self.0.at);
-            sys::tuv_clear_stack();
-        }
+        // SAFETY: the block is tuv_end_new's, and nothing uses it from here on.
+        unsafe { sys::tuv_end_drop(&mut self.0) }
     }
 }
 

@@ -84,8 +84,7 @@ extern "C" {
     pub fn tuv_processor_serves() -> bool;
     pub fn tuv_clear_stack();
     pub fn tuv_end_new(at: *mut *mut c_void) -> bool;
-    pub fn tuv_end_size() -> usize;
-    pub fn tuv_end_close(end: *mut End);
+    pub fn tuv_end_drop(end: *mut End);
     pub fn tuv_end_packet(end: *mut End, room: *mut u8, len: usize) -> usize;
     pub fn tuv_end_again(end: *mut End, room: *mut u8, len: usize) -> usize;
     pub fn tuv_end_report(end: *mut End, report: *mut Report) -> bool;
@@ -127,6 +126,5 @@ extern "C" {
     pub static tuv_ident: [c_char; 1];
     // of the C library
     pub fn explicit_bzero(at: *mut c_void, len: usize);
-    pub fn free(at: *mut c_void);
     pub fn getrandom(room: *mut c_void, len: usize, flags: u32) -> isize;
 }

@@ -102,7 +102,10 @@ fn through_a_pass_through() {
     assert_eq!(turn.packet.as_ref().unwrap()[1], 7);
     loop {
         let heard = peer.deliver(&turn.packet.unwrap()).unwrap();
-        let Some(packet) = heard.packet else { break };
+        let packet = match heard.packet {
+            Some(packet) => packet,
+            None => break,
+        };
         let passed = pass.from_peer(&packet).unwrap().packet.unwrap();
         let answered = backend.deliver(&passed).unwrap().packet.unwrap();
         turn = pass.from_backend(&answered).unwrap();
