@@ -9,7 +9,7 @@ from functools import cached_property
 from typing import Sequence
 
 from lib import replays
-from lib.common import ask
+from lib.common import Refused, ask
 
 ENDS = ("peer", "server")
 KINDS = ("47", "51")
@@ -29,7 +29,10 @@ class Scenario:
         return "\n".join(["eap-scenario 2", *self.settings, "events", *self.events, "end", ""]).encode()
 
     def trace(self, *words: str) -> list[str]:
-        return ask(["replay", *words], self.text)
+        lines = ask(["replay", *words], self.text)
+        if lines[-1:] != ["end"]:
+            raise Refused("the trace has no end")
+        return lines
 
     def replay(self) -> replays.Replay:
         return replays.of_scenario(self.text)
