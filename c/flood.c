@@ -1,8 +1,9 @@
-/* The server of docs/EMBEDDING.md.  Under a stranger who sends one bad packet each
- * 0.3 seconds it ends as it does in silence, after as many Requests and as long;
- * and it tells apart why a login fails.  The clock is one that `receive` sets, and
- * heap.c is compiled with -Dmalloc=flood_malloc.  The exit status is 0 where all
- * of this holds. */
+/* The server and the peer of docs/EMBEDDING.md.  Under a stranger who sends one bad
+ * packet each 0.3 seconds the server ends as it does in silence, after as many
+ * Requests and as long; and it tells apart why a login fails.  The peer logs in each
+ * time that a server asks anew.  The clock is one that `receive` sets, and heap.c is
+ * compiled with -Dmalloc=flood_malloc.  The exit status is 0 where all of this
+ * holds. */
 #include <stdio.h>
 #include <stdlib.h>
 #include <string.h>
@@ -12,6 +13,9 @@ const char *serve(const struct tuv_settings *settings,
 		  void (*send)(const uint8_t *, size_t),
 		  size_t (*receive)(uint8_t *, size_t, double until),
 		  double (*now)(void), struct tuv_report *report);
+void log_in(const struct tuv_settings *settings,
+	    void (*send)(const uint8_t *, size_t), size_t (*receive)(uint8_t *, size_t),
+	    void (*tell)(const char *why, const struct tuv_report *report));
 
 static double clock, between;	/* seconds; between two packets, 0: there are none */
 static unsigned int requests, packets;
@@ -121,6 +125,58 @@ static bool flooded(void)
 		clock == lasted;
 }
 
+/* A server, which asks anew when a login is over, and how the peer's logins went. */
+enum { ASKED = 5 };
+static struct tuv_end server;
+static unsigned int conversations, logins;
+static bool asks;
+static const char *told_last;
+
+static void answer_server(const uint8_t *packet, size_t len)
+{
+	asks = tuv_server_deliver(&server, packet, len).sends;
+}
+
+static size_t receive_of_server(uint8_t *packet, size_t room)
+{
+	uint8_t nonce[TUV_NONCE_LEN] = { 9 };
+
+	if (!asks && conversations < ASKED) {
+		nonce[1] = (uint8_t) ++conversations;
+		asks = tuv_server_restart(&server, nonce).sends;
+	}
+	if (!asks)
+		return 0;
+	asks = false;
+	return tuv_end_packet(&server, packet, room);
+}
+
+static void note(const char *why, const struct tuv_report *report)
+{
+	told_last = why;
+	logins += !why && report->method == TUV_KIND_GPSK;
+}
+
+/* Whether a peer with this key logs in so often at that server, and is told this. */
+static bool is_asked(const char *key, const char *other, unsigned int often, const char *word)
+{
+	static const uint8_t nonce[TUV_NONCE_LEN] = "another nonce of a test .......";
+	struct tuv_settings of_server = told("srv", other, "32 octets that both ends share..");
+	struct tuv_settings of_peer = told("alice", "srv", key);
+
+	conversations = logins = 0;
+	asks = false;
+	told_last = NULL;
+	if (!tuv_end_new(&server.at) || tuv_server_begin(&server, &of_server, nonce, 0, 4))
+		return false;
+	log_in(&of_peer, answer_server, receive_of_server, note);
+	tuv_end_drop(&server);
+	if (logins == often && (told_last ? word && strcmp(told_last, word) == 0 : !word))
+		return true;
+	printf("flood: %u logins, and at last %s\n", logins, told_last ? told_last : "nothing");
+	return false;
+}
+
 int main(void)
 {
 	bool good;
@@ -132,7 +188,11 @@ int main(void)
 		answered("alice", "32 octets, and of another one ..", "BadTag") &&
 		answered("bob", "32 octets that both ends share..", "UnknownUser") &&
 		ends("", "32 octets that both ends share..", "BadName") &&
-		ends("srv", "a short key", "BadKey");
+		ends("srv", "a short key", "BadKey") &&
+		is_asked("32 octets that both ends share..", "alice", ASKED, NULL) &&
+		is_asked("32 octets that both ends share..", "bob", 0, "Refused") &&
+		is_asked("32 octets, and of another one ..", "alice", 0, NULL) &&
+		is_asked("a short key", "alice", 0, "BadKey");
 	starves = true;
 	good = good && ends("srv", "32 octets that both ends share..", "NoMemory");
 	free(peer.at);
