@@ -35,7 +35,7 @@ LOGINS = {
 OTHERS = {"start": START, "failure": FAILURE}
 KEYS = {"key": KEY, "other": OTHER_KEY, "short": KEY[:16]}
 WRONG = [*BAD.front, BAD.gpsk2, FAILURE]
-REFUSED = "wrong key, refused, received"
+REFUSED = "wrong key, received"
 
 
 def framed(*items: Item) -> list[tuple[float, bytes]]:
@@ -83,10 +83,12 @@ def files() -> Iterator[tuple[str, bytes, str, str]]:
         yield name, wire.pcap(framed(*items)), wanted, user and f"{user} {KEYS[its_key].hex()}"
     wrong = framed(*WRONG)
     broken = (STATION_FRAME, b"\1\0\0\x99" + BAD.gpsk2)
-    yield "a Failure in the middle of what is cut", wire.pcap(framed(*BAD.front, FAILURE, broken, BAD.gpsk3)), "fragment", key
-    yield "a frame that is shorter than it says", wire.pcap(framed(*BAD.front, broken, FAILURE)), "fragment", key
+    yield "a Failure in the middle of what is cut", wire.pcap(framed(*BAD.front, FAILURE, broken, BAD.gpsk3)), "fragment, unseen, forged end", key
+    yield "a frame that is shorter than it says", wire.pcap(framed(*BAD.front, broken, FAILURE)), "fragment, unseen", key
+    odd_code = (STATION_FRAME, b"\1\0" + wire.sized(altered(GOOD.gpsk2, 0)))
+    yield "a Code that a station doesn't send", wire.pcap(framed(*GOOD.front, odd_code, FAILURE)), "malformed, other side, made so", key
     for snap in (32, 64, 96, 128):
-        yield f"-s {snap}", wire.pcap(wrong, snap), "cut", key
+        yield f"-s {snap}", wire.pcap(wrong, snap), "cut, unseen", key
     yield "-s 96 of a good login", wire.pcap(framed(*GOOD.whole), 96), "cut good", key
     yield "-s 30 of a login with repetitions", wire.pcap(framed(*GOOD.front, *GOOD.whole[2:6], *GOOD.whole[5:]), 30), "cut good, many", key
     yield "times in nanoseconds", wire.pcap(wrong, magic=0xA1B23C4D), REFUSED, key
@@ -104,11 +106,11 @@ def files() -> Iterator[tuple[str, bytes, str, str]]:
         yield f"VLAN {tags}", wire.pcap([(at, wire.tagged(it, *tags)) for at, it in wrong]), REFUSED, key
     yield "padded", wire.pcap([(at, it.ljust(60, b"\0")) for at, it in wrong]), REFUSED, key
     yield "a file that ends in the middle", wire.pcap(wrong)[:-10], "server silent, ended, end of file, wrong key, received", key
-    yield "three stations to a group", wire.pcap(stations()), "good, wrong key, refused, received, at once, given", key + " bob 51 " + KEY.hex()
-    yield "three stations to a group, one silent", wire.pcap(stations(is_silent=True)), "unsure, good", key + " bob 51 " + KEY.hex()
+    yield "three stations to a group", wire.pcap(stations()), "good, wrong key, received, at once, behind, given", key + " bob 51 " + KEY.hex()
+    yield "three stations to a group, one silent", wire.pcap(stations(is_silent=True)), "unsure, good, at once, behind, given", key + " bob 51 " + KEY.hex()
     yield "RADIUS", wire.pcap(framed(*wire.by_radius(WRONG[1:]))), REFUSED, key
     yield "RADIUS at another port", wire.pcap(framed(*wire.by_radius(WRONG[1:], port=11812))), REFUSED, key + " --port 11812"
-    yield "RADIUS with -s 128", wire.pcap(framed(*wire.by_radius(WRONG[1:])), 128), "cut", key
+    yield "RADIUS with -s 128", wire.pcap(framed(*wire.by_radius(WRONG[1:])), 128), "cut, unseen", key
     yield "RADIUS, another secret", wire.pcap(framed(*wire.by_radius(GOOD.whole[1:]))), "secret, good", key + " --secret x"
     yield "RADIUS at the earlier port", wire.pcap(framed(*wire.by_radius(WRONG[1:], port=1645))), REFUSED, key
     whole = [(head, ip[:6] + b"\x40\0" + ip[8:]) for head, ip in wire.by_radius(WRONG[1:])]
@@ -243,11 +245,11 @@ def case_interface(run: Run) -> Iterator[Optional[str]]:
         yield holds(status == 0 and found_in(out) == set(REFUSED.split(", ")), f"it says {out}{errors}")
         yield holds("capturing at eth0 by tcpdump, and waiting for a login" in errors, f"it waits for {errors}")
         status, out, errors = why("any", twice)
-        right = status == 0 and found_in(out) == {*REFUSED.split(", "), "interfaces"} and out.count("it failed") == 1
+        right = status == 0 and found_in(out) == {*REFUSED.split(", "), "interfaces"} and out.count("it failed by") == 1
         yield holds(right, f"of any: {out}{errors}")
         for name in ("INT", "TERM"):
             status, out, errors = why("eth0", twice, SLOW.replace("SIGNAL", name))
-            yield holds(status == 0 and out.count("it failed") == 1, f"stopped by {name} it ends with {status}: {out}{errors}")
+            yield holds(status == 0 and out.count("it failed by") == 1, f"stopped by {name} it ends with {status}: {out}{errors}")
         status, out, errors = why("nowhere", once)
         yield holds(status == 2 and not out and "tcpdump can't capture at nowhere: nowhere: No such" in errors, f"it says {errors}")
         listening.PATH = "/nowhere"

@@ -9,7 +9,7 @@ from collections import Counter
 from dataclasses import dataclass, field
 from typing import BinaryIO, Iterable, Iterator, NamedTuple, Optional, Sequence
 
-from lib import frames
+from lib import frames, sessions
 from lib.common import Refused, ask, run
 from lib.texts import comments_of, lines_of, packet_of
 from lib.words import MOST_OCTETS
@@ -73,9 +73,9 @@ class Packets:
 class Capture:
     """Packets in their order; the users, as the words NAME, KIND and KEY; what the text says of itself; the station, and
     what was left out of a file. Of frames without a whole EAP packet: those that are cut, by number, octets kept and octets
-    on the wire, the EAPOL-Starts, by number and time, and how many other ones of several stations can be of this one;
-    the numbers of all frames, with the file's first capture those that came at another interface again, and the time of its
-    last."""
+    on the wire, the EAPOL-Starts and the EAPOL-Logoffs, by number and time, and how many other ones of several stations can be
+    of this one; the numbers of all frames, with the file's first capture those that came at another interface again, and the
+    time of its last. Over RADIUS `parts` has the places of the packets of each login."""
 
     packets: Packets
     users: list[User] = field(default_factory=list)
@@ -84,6 +84,8 @@ class Capture:
     notes: list[str] = field(default_factory=list)
     cut: list[tuple[int, int, int]] = field(default_factory=list)
     starts: list[tuple[int, float]] = field(default_factory=list)
+    logoffs: list[tuple[int, float]] = field(default_factory=list)
+    parts: list[list[int]] = field(default_factory=list)
     unsure: int = 0
     name: str = ""
     numbers: array[int] = field(default_factory=lambda: array("I"))
@@ -209,8 +211,21 @@ class Reading:
         packets.ways.append(is_to_peer)
         packets.octets.append(eap)
 
+    def set_ways(self) -> None:
+        """A flow goes one way, also where the Code of a packet in it says another; but where the addresses don't tell both ends
+        apart."""
+        sources, votes = [it[-6:] for it in self.flows], Counter[bytes]()
+        for source, vote in zip(sources, self.votes):
+            votes[source] += vote
+        # (who sends as much either way is the other end of the others)
+        sure = {it: vote or vote - sum(votes.values()) for it, vote in votes.items() if len(votes) > 1}
+        for at, flow in enumerate(self.of_flow):
+            if vote := sure.get(sources[flow], 0):
+                self.packets.ways[at] = vote < 0
+
     def by_eapol(self) -> list[Capture]:
         """The captures of EAPOL frames, one for each pair of a station and what it talks to."""
+        self.set_ways()
         votes: Counter[bytes] = Counter()
         for flow, vote in zip(self.flows, self.votes):
             votes[flow[-6:]] += vote
@@ -238,8 +253,8 @@ class Reading:
                 found.cut.append((number, *self.cut[number]))
             elif at not in self.kinds:
                 packets.append(number, bool(whole.ways[at]), whole.octets[at], whole.times[at])
-            elif self.kinds[at] == frames.START:
-                found.starts.append((number, whole.times[at]))
+            elif self.kinds[at] in (frames.START, frames.LOGOFF):
+                (found.starts if self.kinds[at] == frames.START else found.logoffs).append((number, whole.times[at]))
         return found
 
     def pairs(self, votes: Counter[bytes]) -> tuple[dict[tuple[bytes, bytes], list[int]], Counter[bytes]]:
@@ -286,34 +301,33 @@ class Reading:
         return pairs, alone
 
     def by_radius(self) -> list[Capture]:
-        """The captures of RADIUS packets that carry EAP, one for each station; a reply belongs to its request."""
+        """The captures of RADIUS packets that carry EAP, one for each station, with the packets of each login."""
         stations: dict[str, Capture] = {}
-        requests: dict[object, frames.Radius] = {}
-        last: dict[tuple[str, int, bytes], bytes] = {}
-        for packet, it in zip(self.radius, self.radius.radius):
-            it.request = None if it.is_request else requests.get(it.exchange)
-            if it.is_request:
-                requests[it.exchange] = it
-            first = it.request or it
-            name = (first.get(frames.CALLING_STATION) or first.get(frames.USER_NAME)).decode("latin-1")
-            if not packet.octets and it.octets[0] != 3 and not it.is_cut:
-                self.left["of RADIUS without EAP"] += 1
-                continue
-            to, last[name, it.octets[0], packet.octets] = last.get((name, it.octets[0], packet.octets)), it.to[0]
-            if to == it.source[0] != it.to[0]:
-                self.left["of RADIUS that a proxy passed on, as those before them"] += 1
-                continue
+        parts, passed = sessions.of_packets(self.radius)
+        for part in parts:
+            its = [self.radius.radius[at] for at in part]
+            asked = next((it for it in its if it.is_request), its[0])
+            name = (asked.get(frames.CALLING_STATION) or asked.get(frames.USER_NAME)).decode("latin-1")
             station = stations.setdefault(name, Capture(Packets(), station=name, name="radius_" + re.sub("[^A-Za-z0-9.-]", "_", name)))
-            station.numbers.append(packet.number)
-            if it.is_cut:
-                station.cut.append((packet.number, *self.cut[packet.number]))
-            else:
-                station.packets.append(packet.number, packet.is_to_peer, packet.octets, packet.at or 0.0, it)
-        return list(stations.values())
+            station.parts.append([])
+            for at, it in zip(part, its):
+                packet = self.radius[at]
+                if at in passed or not packet.octets and it.octets[0] != 3 and not it.is_cut:
+                    self.left["of RADIUS that a proxy passed on, as those before them" if at in passed else "of RADIUS without EAP"] += 1
+                    continue
+                station.numbers.append(packet.number)
+                if it.is_cut:
+                    station.cut.append((packet.number, *self.cut[packet.number]))
+                else:
+                    station.parts[-1].append(len(station.packets))
+                    station.packets.append(packet.number, packet.is_to_peer, packet.octets, packet.at or 0.0, it)
+        return [it for it in stations.values() if it.numbers]
 
     def notes(self) -> list[str]:
         """What is left out."""
-        self.left["that are cut: `tcpdump -s 0` keeps them whole"] = len(self.cut)
+        whole = sum(kept >= wire for kept, wire in self.cut.values())
+        self.left["that are cut: `tcpdump -s 0` keeps them whole"] = len(self.cut) - whole
+        self.left["that aren't whole, being fragments or shorter than they say"] = whole
         again = len(self.twice.numbers)
         found = [f"frames that came at several interfaces, each taken once: {again} left out"] * bool(again)
         return found + [f"left out: frames {what}: {count}" for what, count in sorted(self.left.items()) if count]

@@ -257,7 +257,7 @@ class Twice:
 # ---- RADIUS (RFC 2865, RFC 3579).
 
 CODES = {1: "Access-Request", 2: "Access-Accept", 3: "Access-Reject", 11: "Access-Challenge"}
-USER_NAME, CALLING_STATION, EAP_MESSAGE, ERROR_CAUSE = 1, 31, 79, 101
+USER_NAME, NAS_ADDRESS, STATE, CALLING_STATION, NAS_NAME, EAP_MESSAGE, ERROR_CAUSE = 1, 4, 24, 31, 32, 79, 101
 # Error-Cause 202, Invalid EAP Packet (Ignored) (RFC 3579 section 2.6.3).
 IGNORED = (202).to_bytes(4, "big")
 

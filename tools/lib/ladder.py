@@ -4,12 +4,10 @@ from __future__ import annotations
 
 from dataclasses import dataclass, field
 from functools import cached_property
-from typing import Iterator, Optional, Sequence
+from typing import Optional
 
-from lib import frames, packets
-from lib.captures import NONE, Capture, Packets, User, text_of
-from lib.common import Refused, run
-from lib.packets import FIRST, LAST, SECOND, THIRD
+from lib import observed, packets
+from lib.captures import NONE, Capture, Packet, Packets
 from lib.replays import Event, Replay
 from lib.words import MARKS
 
@@ -18,8 +16,7 @@ from lib.words import MARKS
 class Row:
     """A row: `kind` is arrow, injected, lost, mark or skip; `number` is the packet's, `event` that of the event, where
     there is one. What happened on the way is in `changes`, and `was` has the octets as they were sent, where these are
-    others. `finding` is the program's line of it, without the number; `at` the time in a file; a RADIUS
-    packet and its answer have the same `exchange`."""
+    others. `finding` is the program's line of it, without the number; `at` the time in a file."""
 
     kind: str
     number: str = ""
@@ -36,9 +33,6 @@ class Row:
     finding: str = ""
     at: Optional[float] = None
     carrier: str = ""
-    exchange: int = 0
-    is_ignored: bool = False
-    is_other: bool = False
 
     @cached_property
     def reading(self) -> packets.Reading:
@@ -93,20 +87,6 @@ def party_of(port: str) -> str:
     return "pass" if port.startswith("pass") else port
 
 
-def findings_of(packets: Packets, users: list[User]) -> tuple[list[str], str]:
-    """What `check` says of each packet, and its last line."""
-    status, said = run(["check"], text_of(packets, users).encode("latin-1"))
-    *lines, last = said.decode("latin-1").split("\n")[:-1] or [""]
-    if status not in (0, 7):
-        raise Refused(f"eap_login check doesn't take the packets: {last}")
-    kept: dict[str, str] = {}
-    found = ["good"] * len(packets)
-    for line in lines:
-        number, _, finding = line.partition(" ")
-        found[int(number) - 1] = kept.setdefault(finding, finding)
-    return found, last
-
-
 # ---- Replays.
 
 
@@ -157,10 +137,9 @@ def of_a_replay(replay: Replay) -> Ladder:
     passed = [it for it in rows if it.octets is not None and {it.sender, it.receiver} == set(replay.parties[:2])
               and it.kind in ("arrow", "injected")]
     capture = captured(replay, passed)
-    findings, counted = findings_of(capture.packets, capture.users)
-    for row, finding in zip(passed, findings):
+    for row, finding in zip(passed, observed.findings_of(capture.packets, capture.users)):
         row.finding = finding
-    return Ladder(replay.parties, rows, capture, replay, counted)
+    return Ladder(replay.parties, rows, capture, replay)
 
 
 def captured(replay: Replay, passed: list[Row]) -> Capture:
@@ -177,69 +156,19 @@ def captured(replay: Replay, passed: list[Row]) -> Capture:
 
 # ---- Captures.
 
-OF_PEER, OF_SERVER = SECOND + LAST, FIRST + THIRD
-OF_METHODS = {*OF_PEER, *OF_SERVER, "Nak"}
-GOES_ON = OF_METHODS - {*FIRST, "Nak"}
-
-
-def logins_of(octets: Sequence[bytes]) -> Iterator[range]:
-    """The places of each login. One begins with an Identity after an end, or after a message of a method that isn't gone on
-    with; or with a first message of a method after an end of one."""
-    named = {it: packets.read(it).message for it in {*octets}}
-    messages = [named[it] for it in octets]
-    # (whether the next message of a method behind each packet goes on with one)
-    goes_on, is_ahead = bytearray(len(messages)), False
-    for at in range(len(messages) - 1, -1, -1):
-        goes_on[at] = is_ahead
-        if messages[at] in OF_METHODS:
-            is_ahead = messages[at] in GOES_ON
-    begin, has_end, has_method = 0, False, False
-    for at, message in enumerate(messages):
-        if message == "Identity" and (has_end or has_method and not goes_on[at]) or (
-                message in FIRST and has_end and has_method):
-            if at > begin:
-                yield range(begin, at)
-            begin, has_method = at, False
-        has_end = message in ("Success", "Failure")
-        has_method = has_method or message in OF_METHODS
-    if messages:
-        yield range(begin, len(messages))
-
-
-MOST_ALTERED = 4
-
-
-def find_altered(rows: list[Row]) -> None:
-    """A packet with a wrong tag that comes again with a right one was altered on its way: `was` are the octets of the right
-    one. The two have one sender, one Identifier and one length, and differ in few octets."""
-    good: dict[tuple[str, bytes], bytes] = {}
-    for row in reversed(rows):
-        key = row.sender, (row.octets or b"")[:4]
-        if row.word == "tag-good" and row.octets:
-            good[key] = row.octets
-        elif row.word == "tag-bad" and row.octets and len(good.get(key, b"")) == len(row.octets):
-            row.was = good[key]
-            row.was = row.was if len(row.altered) <= MOST_ALTERED else None
-
-
-def rows_of(part: Packets, findings: Sequence[str]) -> list[Row]:
-    """The rows of a login."""
-    rows = []
-    for it, finding in zip(part, findings):
-        sender, receiver = ("server", "peer") if it.is_to_peer else ("peer", "server")
-        row = Row("arrow", str(it.number), "", sender, receiver, title_of(it.octets), octets=it.octets, finding=finding, at=it.at)
-        if it.radius:
-            row.carrier = f"{it.radius.name}, {it.radius.verdict}" if it.radius.verdict else it.radius.name
-            row.exchange = id(it.radius.request or it.radius)
-            row.is_ignored = it.radius.get(frames.ERROR_CAUSE) == frames.IGNORED
-        rows.append(row)
-    find_altered(rows)
-    return rows
+def row_of_packet(it: Packet, finding: str) -> Row:
+    sender, receiver = ("server", "peer") if it.is_to_peer else ("peer", "server")
+    row = Row("arrow", str(it.number), "", sender, receiver, title_of(it.octets), octets=it.octets, finding=finding, at=it.at)
+    if it.radius:
+        row.carrier = f"{it.radius.name}, {it.radius.verdict}" if it.radius.verdict else it.radius.name
+    return row
 
 
 def of_a_capture(capture: Capture) -> Ladder:
     """The parties are the peer and whatever it talks to."""
-    findings, counted = findings_of(capture.packets, capture.users)
-    rows = [row for it in logins_of(capture.packets.octets)
-            for row in rows_of(capture.packets.of([it]), findings[it.start : it.stop])]
-    return Ladder(["peer", "server"], rows, capture, counted=counted)
+    found: dict[int, str] = {}
+    for _, _, its in observed.conversations([capture]):
+        found.update((it.number, it.finding) for it in its)
+    rows = [row_of_packet(it, found.get(it.number, "good")) for it in capture.packets]
+    odd = sum(it.word in ("tag-bad", "malformed") for it in rows)
+    return Ladder(["peer", "server"], rows, capture, counted=f"packets {len(rows)} findings {odd}")

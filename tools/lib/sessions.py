@@ -1,0 +1,112 @@
+"""Which RADIUS packets belong to one login: a Request and its reply, whichever of both is captured first, a Request that comes
+again, what has one State (RFC 2865 section 5.24), and what a proxy passes on."""
+
+from __future__ import annotations
+
+from typing import TYPE_CHECKING, Optional
+
+from lib import frames
+
+if TYPE_CHECKING:
+    from lib.captures import Packets
+
+# How much earlier than its Request a reply may be captured, in seconds, how far back a Request may be for a reply that comes
+# from another address, the pause after which a Request whose State nobody gave begins a login, and how long a proxy may take.
+EARLY, BACK, PAUSE, PASSES = 0.012, 12, 30.0, 5.0
+
+
+class Sessions:
+    """The packets of a file by login, as they are joined."""
+
+    def __init__(self, packets: Packets) -> None:
+        self.packets, self.its = packets, packets.radius
+        self.joined = list(range(len(self.its)))
+        self.requests: dict[object, int] = {}
+        self.replies: dict[object, int] = {}
+        self.same: dict[object, int] = {}
+        self.states: dict[object, int] = {}
+        self.latest: dict[object, int] = {}
+        self.last: dict[object, int] = {}
+        # (those that a proxy passed on, as others before them)
+        self.passed: set[int] = set()
+
+    def root(self, at: int) -> int:
+        while self.joined[at] != at:
+            self.joined[at] = self.joined[self.joined[at]]
+            at = self.joined[at]
+        return at
+
+    def join(self, one: int, other: Optional[int]) -> None:
+        if other is not None:
+            one, other = sorted((self.root(one), self.root(other)))
+            self.joined[other] = one
+
+    def at(self, place: int) -> float:
+        return self.packets.times[place]
+
+    def take(self, at: int) -> None:
+        it = self.its[at]
+        if it.is_request:
+            self.take_request(at, it)
+        else:
+            self.take_reply(at, it)
+        if state := it.get(frames.STATE):
+            client = it.source if it.is_request else it.to
+            self.join(at, self.states.setdefault((client[0], state), at))
+        self.latest[self.client_of(it)] = at
+        kind = it.octets[0], self.packets.octets[at]
+        before, self.last[kind] = self.last.get(kind), at
+        if before is not None and self.its[before].to[0] == it.source[0] != it.to[0] and self.at(at) - self.at(before) < PASSES:
+            self.join(at, before)
+            self.passed.add(at)
+
+    def client_of(self, it: frames.Radius) -> object:
+        asked = it if it.is_request else it.request
+        return (asked.source[0], asked.get(frames.CALLING_STATION) or asked.get(frames.USER_NAME)) if asked else None
+
+    def take_request(self, at: int, it: frames.Radius) -> None:
+        self.requests[it.exchange] = at
+        self.join(at, self.same.setdefault((it.source, it.octets[:20]), at))
+        early = self.replies.pop(it.exchange, None)
+        if early is not None and self.at(at) - self.at(early) < EARLY:
+            self.its[early].request = it
+            self.join(at, early)
+        state = it.get(frames.STATE)
+        if self.packets.octets[at][4:5] != b"\1" and (not state or (it.source[0], state) not in self.states):
+            # (the reply that gave the State isn't here, or gave none)
+            before = self.latest.get(self.client_of(it))
+            self.join(at, before if before is not None and self.at(at) - self.at(before) < PAUSE else None)
+
+    def take_reply(self, at: int, it: frames.Radius) -> None:
+        asked = self.requests.get(it.exchange)
+        if asked is not None:
+            it.request = self.its[asked]
+            self.join(at, asked)
+            return
+        self.replies[it.exchange] = at
+        self.join(at, self.near(at, it))
+
+    def near(self, at: int, it: frames.Radius) -> Optional[int]:
+        """A packet just before a reply without a Request that is of its login: a Request to another address, else what has the
+        Identifier of its EAP packet, if no State says it."""
+        back, identifier = range(at - 1, max(-1, at - BACK), -1), self.packets.octets[at][1:2]
+        def is_like(k: int) -> bool:
+            return self.packets.octets[k][1:2] == identifier != b""
+
+        its = [k for k in back if self.its[k].is_request and self.its[k].source == it.to and self.its[k].octets[1] == it.octets[1]]
+        if not its and not it.get(frames.STATE):
+            its = [k for k in back if self.its[k].is_request and self.its[k].source[0] == it.to[0] and is_like(k)]
+            its += [k for k in back if not self.its[k].is_request and self.its[k].to[0] == it.to[0] and is_like(k)
+                    and self.packets.octets[k][:1] == b"\1"]
+        return its[0] if its else None
+
+
+def of_packets(packets: Packets) -> tuple[list[list[int]], set[int]]:
+    """The places of the packets of each login, and of those that a proxy passed on."""
+    found = Sessions(packets)
+    for at in range(len(packets)):
+        found.take(at)
+    parts: dict[int, list[int]] = {}
+    for at in range(len(packets)):
+        parts.setdefault(found.root(at), []).append(at)
+    return list(parts.values()), found.passed

@@ -1,0 +1,258 @@
+"""The cheapest worlds that explain a conversation. A world says of each frame where it comes from, and of each end what it did, so
+that both ends send what was seen by their tables; it costs the sum of what is out of the ordinary in it. All worlds of the least
+cost are found, and those of one more: what all share is certain, and of what differs one is so."""
+
+from __future__ import annotations
+
+from dataclasses import dataclass
+from typing import Iterator, Optional, Sequence
+
+from lib.captures import Capture
+from lib.machines import ALIKE, CHOICES, FAILS, NOBODY, ORDERED, Chain, Next, Tap, Token, Way, World, token
+from lib.observed import ENDS, Frame
+
+# One more; by how much worlds may cost more that keep a login open; how much more it is searched for before one that begins at once
+# behind it; the worlds of one state and of all
+# that are followed, and by how much they may cost more than the best; frames taken ahead and held back; the cost above which
+# the best worlds alone are followed.
+ONE, CLOSE, ODD, EQUAL, MOST, WORSE, AHEAD, BACK, TOO_MUCH, ALONE = 2, 6, 8, 6, 48, 12, 10, 3, 40, 2
+
+
+@dataclass
+class Found:
+    """A login: its frames, those that are told of by their places, the choices that are certain, groups of alternatives with the cheapest first, whether each world was
+    followed, so that no other alternative costs as little; and the numbers from which and before which its frames are."""
+
+    frames: list[Frame]
+    places: dict[int, Frame]
+    sure: list[Token]
+    groups: list[list[list[Token]]]
+    is_closed: bool
+    first: int = 0
+    next: Optional[int] = None
+
+
+def listed(chain: Chain) -> list[Token]:
+    found: list[Token] = []
+    while chain:
+        chain, last = chain
+        found.append(last)
+    return found[::-1]
+
+
+def put(chain: Chain, tokens: Sequence[Token]) -> Chain:
+    for it in tokens:
+        chain = (chain, it)
+    return chain
+
+
+class Search:
+    """The search through the frames of a conversation. Each login is searched with a limit, which is raised where no world is so
+    cheap, and once more by one for the others; when all worlds have the next one begin at the same frame, it is over."""
+
+    def __init__(self, more: Iterator[Frame], tap: Tap) -> None:
+        self.more, self.tap, self.frames = more, tap, tap.frames
+        self.count = self.oldest = 0
+        self.limit, self.begin, self.base = 0, 0, World()
+        self.worlds, self.turn, self.is_closed = [self.base], 0, True
+
+    def frame(self, place: int) -> Optional[Frame]:
+        while place + AHEAD + ALIKE >= self.count and (it := next(self.more, None)):
+            self.frames[it.place] = it
+            self.count += 1
+        return self.frames.get(place)
+
+    def logins(self) -> Iterator[tuple[int, int, list[World], bool]]:
+        """The first frame of each login, the one behind its last, its worlds, and whether all were followed."""
+        while self.frame(self.turn) is not None:
+            self.worlds = self.kept([new for w in self.worlds for new in self.steps(w)])
+            if not self.worlds:
+                self.again()
+                continue
+            self.turn += 1
+            shared = self.shared()
+            if shared and shared[0].begun > self.begin:
+                yield from self.over(shared)
+        ends = [self.chosen(w, silent(w, self.tap)) for w in self.worlds]
+        if self.turn > self.begin and min(it.cost for it in ends) + ONE > self.limit < TOO_MUCH:
+            self.again()
+            yield from self.logins()
+        elif self.turn > self.begin:
+            yield self.begin, self.turn, ends, self.is_closed
+            self.begin = self.turn
+
+    def again(self) -> None:
+        """Searches the login from its begin with a higher limit."""
+        self.limit += 2 if self.limit < 12 else self.limit // 2
+        self.worlds, self.turn, self.is_closed = [self.base], self.base.turn, True
+
+    def over(self, shared: list[World]) -> Iterator[tuple[int, int, list[World], bool]]:
+        """A login is over where the next begins; where that is itself out of the ordinary, other worlds are looked for before."""
+        at, least = shared[0].begun, min(shared, key=lambda it: it.cost)
+        before = next((it.at for place in range(at - 1, at - 5, -1) if (it := self.frames.get(place)) and it.octets), 0.0)
+        is_odd = least.trail is not None and least.trail[1].place >= at or self.frames[at].at - before < ORDERED
+        if least.cost and least.cost + (ODD if is_odd else ONE) > self.limit < TOO_MUCH:
+            self.again()
+            return
+        if any(self.frames[it].octets for it in range(self.begin, at)):
+            yield self.begin, at, shared, self.is_closed
+        self.base = least._replace(cost=0, trail=None, begins=None, ahead=(), late=(), first=at + 1)
+        self.worlds, self.begin, self.turn, self.limit, self.is_closed = [self.base], at, at + 1, 0, True
+        while self.oldest < at - MOST:
+            del self.frames[self.oldest]
+            self.oldest += 1
+
+    def kept(self, worlds: list[World]) -> list[World]:
+        """The cheapest of each state, and of all; above a limit the best alone."""
+        states: dict[object, list[World]] = {}
+        for w in worlds:
+            key = (w.server[:3], w.peer[:3], w.facts, w.begun, w.forged, w.first, frozenset(w.ahead), w.late)
+            states.setdefault(key, []).append(w)
+        best = min((w.cost for w in worlds), default=0)
+        found = []
+        for its in states.values():
+            its.sort(key=lambda w: w.cost)
+            found += [w for w in its[:EQUAL] if w.cost <= min(its[0].cost + ONE, best + WORSE)]
+        found.sort(key=lambda w: w.cost)
+        most = MOST if self.limit < TOO_MUCH else ALONE
+        self.is_closed = self.is_closed and len(found) <= most
+        return found[:most]
+
+    def shared(self) -> Optional[list[World]]:
+        """The worlds at the first begin of a login, where all have it at the same frame."""
+        firsts: dict[int, World] = {}
+        for w in [it for it in self.worlds if it.cost < self.worlds[0].cost + CLOSE]:
+            chain = w.begins
+            while chain and chain[0]:
+                chain = chain[0]
+            first = chain[1] if chain else None
+            if first is None or first.ahead or first.late or any(it.begun != first.begun for it in firsts.values()):
+                return None
+            firsts[id(first)] = first
+        return list(firsts.values())
+
+    # ---- One frame more.
+
+    def may_cost(self, cost: int) -> bool:
+        return cost <= self.limit or self.limit >= TOO_MUCH
+
+    def ways(self, w: World, it: Frame, *more: Token) -> Iterator[World]:
+        for then, tokens in Next(self.tap, w, it).ways():
+            if self.may_cost(w.cost + sum(t.cost for t in tokens) + sum(t.cost for t in more)):
+                yield self.taken(w, it, (then, [*more, *tokens]))
+
+    def steps(self, w: World) -> Iterator[World]:
+        """A world with one frame more: the next one, or one that was held back; and where the next one is out of the ordinary, it
+        is held back, or one is taken that the capture has behind it."""
+        for at in w.late:
+            yield from self.ways(w, self.frames[at])
+        front = self.frame(w.first)
+        if front is None or w.late and front.at - self.frames[w.late[0]].at > ORDERED:
+            return
+        own = list(self.ways(w, front))
+        yield from own
+        if own and min(it.cost for it in own) == w.cost or not self.may_cost(w.cost + CHOICES["order"].cost):
+            return
+        for at in range(w.first + 2, w.first + 1 + AHEAD):
+            it = self.frame(at)
+            if it is None or abs(it.at - front.at) > ORDERED:
+                break
+            if at not in w.ahead:
+                yield from self.ways(w, it, token("order", at, front.number))
+        behind = self.frame(w.first + 1)
+        if len(w.late) < BACK and behind is not None:
+            late = self.chosen(w, [token("order", behind.place, front.number)])
+            yield from self.steps(passed(late, w.first)._replace(late=(*w.late, w.first)))
+
+    def chosen(self, w: World, tokens: Sequence[Token]) -> World:
+        return w._replace(cost=w.cost + sum(it.cost for it in tokens), trail=put(w.trail, tokens))
+
+    def taken(self, w: World, it: Frame, way: Way) -> World:
+        """The world behind a frame that came so."""
+        then, tokens = way
+        new = self.chosen(then, tokens)._replace(seen=(*w.seen[-23:], it._replace(turn=w.turn)), turn=w.turn + 1)
+        if it.place in w.late:
+            new = new._replace(late=tuple(at for at in w.late if at != it.place))
+        elif it.place == w.first:
+            new = passed(new, it.place)
+        else:
+            new = new._replace(ahead=(*w.ahead, it.place))
+        # (what it costs to begin is told of the login before, if there was one)
+        return new._replace(begins=(w.begins, new)) if new.begun == w.turn != w.begun else new
+
+
+def passed(w: World, at: int) -> World:
+    """A world whose next frame is the one behind this, and behind those taken ahead."""
+    first, ahead = at + 1, w.ahead
+    while first in ahead:
+        ahead, first = tuple(it for it in ahead if it != first), first + 1
+    return w._replace(first=first, ahead=ahead)
+
+
+def silent(w: World, tap: Tap) -> list[Token]:
+    """What it means that nothing is behind a login's last frame."""
+    server, peer = w.server, w.peer
+    last = max(server, peer, key=lambda it: (it.turn, it.place))
+    if tap.is_unsure or tap.cut or server.message in (*ENDS, *FAILS) or server == peer == NOBODY or last.place < 0:
+        return []
+    return [token("no-answer", last.place)]
+
+
+# ---- What worlds say.
+
+
+def grouped(worlds: dict[frozenset[Token], int]) -> tuple[list[Token], list[list[list[Token]]]]:
+    """What all worlds share; and of what differs, what differs apart from the rest: its alternatives, the cheapest first."""
+    best = min(worlds, key=lambda it: (worlds[it], len(it)))
+    groups: list[set[Token]] = []
+    for its in worlds:
+        differs = set(best ^ its)
+        if differs:
+            touched = [it for it in groups if it & differs]
+            groups = [it for it in groups if not it & differs] + [differs.union(*touched)]
+    parted = []
+    for group in groups:
+        costs: dict[frozenset[Token], int] = {}
+        for its, cost in worlds.items():
+            mine = its & group
+            costs[mine] = min(cost, costs.get(mine, cost))
+        ordered = sorted(costs, key=lambda it: (costs[it], len(it), sorted(it)))
+        parted.append([sorted(it, key=lambda t: t.place) for it in ordered])
+    return sorted(best.difference(*groups), key=lambda t: t.place), parted
+
+
+def renamed(its: frozenset[Token], old: str, new: str) -> frozenset[Token]:
+    return frozenset(it._replace(name=new) if it.name == old else it for it in its)
+
+
+def tokens_of(worlds: list[World]) -> dict[frozenset[Token], int]:
+    """The choices of the cheapest worlds and of those of one more, without their costs."""
+    least = min(it.cost for it in worlds)
+    found: dict[frozenset[Token], int] = {}
+    for w in worlds:
+        if w.cost <= least + ONE:
+            its = frozenset(it._replace(cost=0) for it in listed(w.trail) if CHOICES[it.name].sentence)
+            found[its] = min(w.cost, found.get(its, w.cost))
+    # (that both ends have another key than is given is said where nothing says less)
+    return {its: cost for its, cost in found.items() if not (
+        (less := renamed(its, "given-key", "wrong-key")) != its and less in found)}
+
+
+def of_conversation(capture: Capture, more: Iterator[Frame], part: Sequence[int]) -> Iterator[Found]:
+    """What came of each login of a conversation."""
+    its = capture.packets
+    ways = {its.ways[at] for at in part}
+    goes_on = any(its.octets[at][:1] == b"\1" and its.octets[at][4:5] != b"\1" for at in part)
+    cut = [number for number, _, _ in capture.cut]
+    search = Search(more, Tap(ways == {0}, ways == {1} and goes_on, cut, bool(capture.unsure), its[0].at is not None if len(its) else True))
+    before: Optional[Found] = None
+    for begin, end, worlds, is_closed in search.logins():
+        sure, groups = grouped(tokens_of(worlds))
+        told = {it.place for it in sure}.union(it.place for group in groups for its in group for it in its)
+        found = Found([search.frames[it] for it in range(begin, end)], {it: search.frames[it] for it in told}, sure, groups, is_closed)
+        if before:
+            before.next = found.first = found.frames[0].number
+            yield before
+        before = found
+    if before:
+        yield before
