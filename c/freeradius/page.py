@@ -14,7 +14,6 @@ import subprocess
 import servers
 
 HERE = pathlib.Path(__file__).resolve().parent
-PAGE = servers.ROOT / "docs/SERVERS.md"
 # What goes before the commands.
 BEFORE = r"""set -eu
 echo "---- begun"
@@ -44,7 +43,7 @@ cat */radcheck.sql
 
 
 def blocks(language: str) -> list[str]:
-    return re.findall(rf"^```{language}\n(.*?)^```$", PAGE.read_text(), re.M | re.S)
+    return re.findall(rf"^```{language}\n(.*?)^```$", servers.PAGE.read_text(), re.M | re.S)
 
 
 def follow(work: str, source: str) -> tuple[bool, int, str, str]:

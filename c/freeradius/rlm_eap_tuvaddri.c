@@ -8,6 +8,7 @@
 #include <ctype.h>
 #include <sys/random.h>
 #include "rlm_eap.h"
+#include "lines.h"
 #include "tuvaddri.h"
 
 #if KIND == 47
@@ -22,8 +23,10 @@
 #define KEY_SIZES "32 to 64 octets"
 #endif
 
-/* The keys that a store may have of a user: the old one and the new one. */
-enum { KEYS = 2 };
+/* The keys that a store may have of a user: the old one and the new one; and how long
+ * nobody has had a conversation that is given back, far longer than rlm_eap needs to
+ * hand one on. */
+enum { KEYS = 2, MISSED_SECONDS = 3 };
 
 struct settings {
 	char const	*server_id;
@@ -54,21 +57,23 @@ static CONF_PARSER const words[] = {
 	CONF_PARSER_TERMINATOR
 };
 
-/* What a login comes to: each has a word, by which it is counted, and a text. The
- * first one is a success, those from LOST on end without a reply of the module. */
+/* What a login comes to: each has a word, by which it is counted, and a text. By the
+ * first one both ends have proved the key, which the site may still reject; those
+ * from LOST on end without a reply of the module. */
 enum reason {
-	ACCEPTED, WRONG_KEY, NO_KEY, HEX_KEY, UNFIT_KEY, MANY_KEYS, BARRED, OTHER_NAME, NO_STORE, BAD_PACKET, ENDED,
-	NO_METHOD, TOO_MANY, TIMEOUT, GAVE_WAY, STOPPED, REASONS, LOST = TIMEOUT
+	PROVED, WRONG_KEY, NO_KEY, HEX_KEY, UNFIT_KEY, MANY_KEYS, BARRED, REJECTED, OTHER_NAME, NO_STORE, BAD_PACKET,
+	ENDED, NO_METHOD, TOO_MANY, TIMEOUT, GAVE_WAY, STOPPED, REASONS, LOST = TIMEOUT
 };
 
 static struct { char const *word, *text; } const reasons[REASONS] = {
-	[ACCEPTED] = { "accepted", "" },
+	[PROVED] = { "proved", "" },
 	[WRONG_KEY] = { "wrong-key", "BadTag (another key, or a packet altered on its way)" },
 	[NO_KEY] = { "no-key", "the store has no key of the user" },
 	[HEX_KEY] = { "hex-key", "the store's key of the user is hex digits as text: 0x is missing before it" },
 	[UNFIT_KEY] = { "unfit-key", "the store's key of the user hasn't " KEY_SIZES },
 	[MANY_KEYS] = { "many-keys", "the store has over two keys of the user" },
-	[BARRED] = { "barred", "the site rejects the user (Auth-Type := Reject, or a module)" },
+	[BARRED] = { "barred", "Auth-Type is Reject" },
+	[REJECTED] = { "rejected", "a rule or a store of the site rejects the login, or fails" },
 	[OTHER_NAME] = { "other-name", "another name than the identity's" },
 	[NO_STORE] = { "no-store", "the virtual server or its store fails" },
 	[BAD_PACKET] = { "bad-packet", "no message that names the user" },
@@ -79,6 +84,9 @@ static struct { char const *word, *text; } const reasons[REASONS] = {
 	[GAVE_WAY] = { "gave-way", "a newer login took its place" },
 	[STOPPED] = { "stopped", "the server has ended" }
 };
+
+/* (at which rlm_eap forgets a conversation) */
+#define OTHER_TYPE "the Response has another Type than the Request, or the User-Name is another one"
 
 /* How many logins came to each, in all instances of the module. */
 static uint64_t counts[REASONS];
@@ -95,6 +103,16 @@ struct session {
 	bool		goes_on;	/* its first Response has been taken */
 	bool		is_told;	/* the log has what it came to */
 	bool		has_station, is_listed;
+	VALUE_PAIR	*reply;		/* the virtual server's, for an Access-Accept; and */
+	char		*inner;		/* the name inside, by inner_identity: children of the handler */
+};
+
+/* A conversation that has begun by this module, whichever method it goes on by: a
+ * child of its handler. */
+struct place {
+	eap_handler_t	*handler;
+	struct place	*next, *prev;
+	time_t		missed;		/* since when nobody has it; 0 where somebody has */
 };
 
 /* The open logins by their stations, for one_per_station. Who takes rlm_eap's
@@ -102,6 +120,35 @@ struct session {
 static pthread_mutex_t stations_mutex = PTHREAD_MUTEX_INITIALIZER;
 static rbtree_t *stations;
 static int instances;
+
+/* All conversations in a ring, which stations_mutex guards too. */
+static struct place *ring;
+
+static int leave_ring(struct place *it)
+{
+	pthread_mutex_lock(&stations_mutex);
+	if (ring == it) ring = it->next == it ? NULL : it->next;
+	it->prev->next = it->next;
+	it->next->prev = it->prev;
+	pthread_mutex_unlock(&stations_mutex);
+	return 0;
+}
+
+static bool join_ring(eap_handler_t *handler)
+{
+	struct place *it = talloc_zero(handler, struct place);
+
+	if (!it) return false;
+	it->handler = handler;
+	pthread_mutex_lock(&stations_mutex);
+	if (!ring) ring = it->next = it->prev = it;
+	it->next = ring;
+	it->prev = ring->prev;
+	it->prev->next = it->next->prev = it;
+	pthread_mutex_unlock(&stations_mutex);
+	talloc_set_destructor(it, leave_ring);
+	return true;
+}
 
 extern rlm_eap_module_t MODULE;
 
@@ -152,6 +199,11 @@ static int instantiate(CONF_SECTION *cs, void **instance)
 	struct settings *it = talloc_zero(cs, struct settings);
 	char const *fault;
 
+	/* (rlm_eap has its modules looked at no further; FreeRADIUS's structures differ between its versions) */
+	if (fr_check_lib_magic(RADIUSD_MAGIC_NUMBER) < 0) {
+		cf_log_err_cs(cs, "%s: built for FreeRADIUS %s: %s", NAME, RADIUSD_VERSION_STRING, fr_strerror());
+		return -1;
+	}
 	*instance = it;
 	if (!it || cf_section_parse(cs, it, words) < 0) return -1;
 	fault = fault_of(it);
@@ -177,41 +229,17 @@ static int detach(void *instance)
 /* The line of a login, once; and its count. */
 static void tell(struct session *s, enum reason reason, char const *more)
 {
-	char const *outcome = reason == ACCEPTED ? "accepted" : reason >= LOST ? "lost" : "refused";
+	char const *outcome = reason == PROVED ? "proved" : reason >= LOST ? "lost" : "refused";
+	REQUEST *request = s->handler->request;
 
 	if (s->is_told) return;
 	s->is_told = true;
 	__atomic_add_fetch(&counts[reason], 1, __ATOMIC_RELAXED);
-	if (reason == ACCEPTED)
+	if (request) put_outcome(request, "Tuvaddri-Reason", reasons[reason].word);
+	if (reason == PROVED)
 		radlog(L_AUTH, "%s %s user=%s %s %s", NAME, outcome, s->user, s->place, more);
 	else
 		radlog(L_AUTH, "%s %s user=%s %s reason=%s: %s", NAME, outcome, s->user, s->place, reasons[reason].word, more);
-}
-
-/* A text from the network as the log has it: in quotes, by printable ASCII alone,
- * so that nobody writes a line or a field there; at most 253 octets. */
-static char *quoted(TALLOC_CTX *ctx, void const *text, size_t len)
-{
-	uint8_t const *from = text;
-	size_t shown = len < TUV_NAME_MAX ? len : TUV_NAME_MAX;
-	char *made = talloc_array(ctx, char, 4 * shown + sizeof("\"\".."));
-	char *to = made;
-
-	if (!made) return NULL;
-	*to++ = '"';
-	for (size_t i = 0; i < shown; i++) {
-		if (from[i] >= ' ' && from[i] <= '~' && from[i] != '"' && from[i] != '\\') *to++ = from[i];
-		else to += sprintf(to, "\\x%02x", from[i]);
-	}
-	strcpy(to, shown < len ? "\".." : "\"");
-	return made;
-}
-
-static char *quoted_of(TALLOC_CTX *ctx, REQUEST *request, unsigned attribute)
-{
-	VALUE_PAIR *vp = fr_pair_find_by_num(request->packet->vps, attribute, 0, TAG_ANY);
-
-	return vp ? quoted(ctx, vp->vp_strvalue, vp->vp_length) : quoted(ctx, "", 0);
 }
 
 static size_t identity_len(eap_handler_t const *handler)
@@ -223,17 +251,11 @@ static size_t identity_len(eap_handler_t const *handler)
 static bool note(struct session *s, eap_handler_t *handler)
 {
 	REQUEST *request = handler->request;
-	char const *client = request->client && request->client->shortname ? request->client->shortname : "";
-	char *station = quoted_of(handler, request, PW_CALLING_STATION_ID);
-	char *point = quoted_of(handler, request, PW_CALLED_STATION_ID);
-	char *by = quoted(handler, client, strlen(client));
-
 	s->handler = handler;
 	s->user = quoted(handler, handler->identity, identity_len(handler));
 	s->has_station = fr_pair_find_by_num(request->packet->vps, PW_CALLING_STATION_ID, 0, TAG_ANY) != NULL;
-	if (!station || !point || !by || !s->user) return false;
-	s->place = talloc_asprintf(handler, "station=%s ap=%s client=%s", station, point, by);
-	return s->place != NULL;
+	s->place = place_of(handler, request);
+	return s->user && s->place;
 }
 
 /* Takes a login that waits for its station out of rlm_eap's list, whose mutex is
@@ -287,11 +309,38 @@ static eap_handler_t *oldest(rlm_eap_t *eap)
  * where only a sixteenth of max_sessions is left. */
 static eap_handler_t *take_oldest(struct settings const *it, rlm_eap_t *eap)
 {
-	eap_handler_t *first = oldest(eap);
 	bool is_full = rbtree_num_elements(eap->session_tree) >= eap->max_sessions - eap->max_sessions / 16;
+	/* (where rlm_eap would soon refuse all, one of another method gives way too) */
+	eap_handler_t *first = is_full ? eap->session_head : oldest(eap);
 
 	if (!first || (!is_full && time(NULL) - first->timestamp <= (time_t) it->timer_expire)) return NULL;
 	return take_out(eap, first) ? first : NULL;
+}
+
+/* Whether nobody has a conversation, neither rlm_eap's list nor a request. (rlm_eap
+ * takes it out of the list a few steps before a request has it.) */
+static bool is_missed(rlm_eap_t const *eap, struct place const *it)
+{
+	return it->handler->inst_holder == eap && !it->handler->request &&
+		rbtree_finddata(eap->session_tree, it->handler) != it->handler;
+}
+
+/* FreeRADIUS forgets a conversation whose Response has another Type than the Request,
+ * or another User-Name (c/freeradius/UPSTREAM.md). One that has been missed for
+ * MISSED_SECONDS is found here. Each new login looks at the next three. */
+static eap_handler_t *find_forgotten(rlm_eap_t const *eap)
+{
+	eap_handler_t *found = NULL;
+	time_t now = time(NULL);
+
+	pthread_mutex_lock(&stations_mutex);
+	for (int i = 0; ring && !found && i < 3; i++, ring = ring->next) {
+		if (!is_missed(eap, ring)) ring->missed = 0;
+		else if (!ring->missed) ring->missed = now;
+		else if (now - ring->missed >= MISSED_SECONDS) found = ring->handler;
+	}
+	pthread_mutex_unlock(&stations_mutex);
+	return found;
 }
 
 /* Whoever can send identities can leave logins open. So a station's new login ends
@@ -305,6 +354,8 @@ static void make_room(struct settings const *it, struct session *s, rlm_eap_t *e
 	pthread_mutex_lock(&eap->session_mutex);
 	if (it->one_per_station && s->has_station) taken[0] = replace(eap, s);
 	for (int i = 1; i < 3; i++) taken[i] = take_oldest(it, eap);
+	/* (under the mutex: the other method's module may know this one too) */
+	talloc_free(find_forgotten(eap));
 	pthread_mutex_unlock(&eap->session_mutex);
 	for (int i = 0; i < 3; i++) talloc_free(taken[i]);
 }
@@ -325,22 +376,41 @@ static bool goes_on_by_nak(eap_handler_t const *handler)
 	return false;
 }
 
+/* What the site has against a login, in the words of the module that rejects it. */
+static void tell_reject(struct session *s, REQUEST *request)
+{
+	VALUE_PAIR const *type = fr_pair_find_by_num(request->config, PW_AUTH_TYPE, 0, TAG_ANY);
+	VALUE_PAIR const *why = fr_pair_find_by_num(request->packet->vps, PW_MODULE_FAILURE_MESSAGE, 0, TAG_ANY);
+	char const *text = why ? quoted(s->handler, why->vp_strvalue, why->vp_length) : NULL;
+	enum reason reason = type && type->vp_integer == PW_AUTH_TYPE_REJECT ? BARRED : REJECTED;
+
+	tell(s, reason, text ? text : reasons[reason].text);
+}
+
 /* What a login came to that rlm_eap ends by itself: by a Nak (it still has its
- * packets then), after the module's last answer (no place in the list), before the
- * module was asked again (a reject of the site), or with no packet at all. */
+ * packets then), before the module was asked again (by the site, or by no request at
+ * all, where rlm_eap has forgotten it), after the module's last answer (no place in
+ * the list), or with no packet at all. */
+static enum reason end_of(struct session const *s)
+{
+	eap_handler_t const *handler = s->handler;
+	rlm_eap_t const *eap = handler->inst_holder;
+	time_t waited = time(NULL) - handler->timestamp;
+
+	if (handler->eap_ds) return NO_METHOD;
+	if (!eap->session_tree) return STOPPED;
+	if (handler->trips != s->trips) return handler->request ? REJECTED : BAD_PACKET;
+	if (handler->request) return TOO_MANY;
+	return waited > eap->timer_limit || waited > s->timer_expire ? TIMEOUT : GAVE_WAY;
+}
+
 static void tell_end(struct session *s)
 {
-	eap_handler_t *handler = s->handler;
-	rlm_eap_t *eap = handler->inst_holder;
-	time_t waited = time(NULL) - handler->timestamp;
-	enum reason reason;
+	enum reason reason = end_of(s);
 
-	if (handler->eap_ds && goes_on_by_nak(handler)) return;
-	if (handler->eap_ds) reason = NO_METHOD;
-	else if (!eap->session_tree) reason = STOPPED;
-	else if (handler->request) reason = handler->trips == s->trips ? TOO_MANY : BARRED;
-	else reason = waited > eap->timer_limit || waited > s->timer_expire ? TIMEOUT : GAVE_WAY;
-	tell(s, reason, reasons[reason].text);
+	if (reason == NO_METHOD && goes_on_by_nak(s->handler)) return;
+	if (reason == REJECTED) tell_reject(s, s->handler->request);
+	else tell(s, reason, reason == BAD_PACKET ? OTHER_TYPE : reasons[reason].text);
 }
 
 /* The library leaves octets of keys in its block. */
@@ -403,7 +473,7 @@ static int session_init(void *instance, eap_handler_t *handler)
 		free(s);
 		return 0;
 	}
-	if (!note(s, handler)) {
+	if (!note(s, handler) || !join_ring(handler)) {
 		free(s->end.at);
 		free(s);
 		return 0;
@@ -469,7 +539,7 @@ static enum reason ask_for(REQUEST **asked, REQUEST *request, struct settings co
 	type = fr_pair_find_by_num(inner->config, PW_AUTH_TYPE, 0, TAG_ANY);
 	if (code == RLM_MODULE_REJECT || code == RLM_MODULE_USERLOCK) return BARRED;
 	if (type && type->vp_integer == PW_AUTH_TYPE_REJECT) return BARRED;
-	return code == RLM_MODULE_FAIL || code == RLM_MODULE_INVALID ? NO_STORE : ACCEPTED;
+	return code == RLM_MODULE_FAIL || code == RLM_MODULE_INVALID ? NO_STORE : PROVED;
 }
 
 /* Tells the method its user, with a key that the store has. */
@@ -484,7 +554,7 @@ static enum reason put_user(struct session *s, VALUE_PAIR const *vp, char const 
 	*octets = (struct tuv_octets) { key, key_of(vp, key) };
 	answer = octets->len ? tuv_server_method_user(&s->end, &told) : TUV_BAD_KEY;
 	explicit_bzero(key, sizeof(key));
-	if (answer == TUV_BEGUN) return ACCEPTED;
+	if (answer == TUV_BEGUN) return PROVED;
 	s->text = tuv_refusal_word(answer);
 	return answer == TUV_BAD_KEY ? UNFIT_KEY : BAD_PACKET;
 }
@@ -495,7 +565,7 @@ static enum reason hear(eap_handler_t *handler, struct session *s, struct tuv_me
 	eap_packet_t const *response = handler->eap_ds->response;
 
 	*turn = tuv_server_method_handle(&s->end, response->packet, response->length, response->id + 1);
-	if (!turn->discards) return ACCEPTED;
+	if (!turn->discards) return PROVED;
 	s->text = tuv_cause_word(turn->cause);
 	return turn->cause == TUV_CAUSE_BAD_TAG ? WRONG_KEY : BAD_PACKET;
 }
@@ -516,8 +586,8 @@ static enum reason try_keys(eap_handler_t *handler, struct session *s, struct tu
 	for (s->key = 1; s->key <= s->keys; s->key++) {
 		enum reason reason = put_user(s, fr_cursor_next_by_da(&cursor, attribute, TAG_ANY), name, len);
 
-		if (reason == ACCEPTED) reason = hear(handler, s, turn);
-		if (reason == ACCEPTED || reason == BAD_PACKET) return reason;
+		if (reason == PROVED) reason = hear(handler, s, turn);
+		if (reason == PROVED || reason == BAD_PACKET) return reason;
 		if (first == NO_KEY || first == WRONG_KEY) first = reason;
 	}
 	return first;
@@ -533,7 +603,7 @@ static enum reason hear_first(eap_handler_t *handler, struct settings const *it,
 	REQUEST *request = handler->request, *inner = NULL;
 	char name[TUV_NAME_MAX];
 	size_t len = tuv_response_name(response->packet, response->length, (uint8_t *) name);
-	enum reason reason = ACCEPTED;
+	enum reason reason = PROVED;
 
 	s->text = reasons[BAD_PACKET].text;
 	if (!len) return BAD_PACKET;
@@ -545,8 +615,10 @@ static enum reason hear_first(eap_handler_t *handler, struct settings const *it,
 		return OTHER_NAME;
 	}
 	if (it->inner_identity || it->virtual_server) reason = ask_for(&inner, request, it, name, len);
-	if (reason == ACCEPTED)
+	if (reason == PROVED)
 		reason = try_keys(handler, s, turn, inner ? &inner->config : &request->config, it->key, name, len);
+	if (reason == PROVED && inner) s->reply = fr_pair_list_copy(handler, inner->reply->vps);
+	if (reason == PROVED && it->inner_identity) s->inner = talloc_strndup(handler, name, len);
 	talloc_free(inner);
 	return reason;
 }
@@ -568,6 +640,19 @@ static int ask_again(eap_handler_t *handler, struct settings const *it, struct s
 	return put_request(handler, s);
 }
 
+/* The suite is 0 for EAP-PSK. */
+static void tell_proved(struct session *s, uint8_t suite)
+{
+	char number[12], how[40];
+
+	snprintf(number, sizeof(number), "%i", s->key);
+	put_outcome(s->handler->request, "Tuvaddri-Key-Number", number);
+	snprintf(number, sizeof(number), "%i", suite);
+	put_outcome(s->handler->request, "Tuvaddri-Suite", number);
+	snprintf(how, sizeof(how), "suite=%c key=%i/%i", suite ? '0' + suite : '-', s->key, s->keys);
+	tell(s, PROVED, how);
+}
+
 /* RFC 2548 section 2.4 for the link keys, which FreeRADIUS seals; its stock site
  * copies EAP-Session-Id to EAP-Key-Name (RFC 4072) where that was asked for. */
 static int give_keys(eap_handler_t *handler, struct settings const *it, struct session *s)
@@ -575,7 +660,6 @@ static int give_keys(eap_handler_t *handler, struct settings const *it, struct s
 	REQUEST *request = handler->request;
 	struct tuv_report report = { .size = sizeof(report) };
 	uint8_t id[TUV_SESSION_ID_MAX];
-	char how[40];
 	size_t len = it->as_wpa ? tuv_end_session_id_wpa(&s->end, id) : tuv_end_session_id(&s->end, id);
 
 	if (!tuv_end_report(&s->end, &report)) return 0;
@@ -585,8 +669,10 @@ static int give_keys(eap_handler_t *handler, struct settings const *it, struct s
 	eap_add_reply(request, "EAP-MSK", report.msk, sizeof(report.msk));
 	eap_add_reply(request, "EAP-EMSK", report.emsk, sizeof(report.emsk));
 	eap_add_reply(request, "EAP-Session-Id", id, len);
-	snprintf(how, sizeof(how), "suite=%c key=%i/%i", report.suite ? '0' + report.suite : '-', s->key, s->keys);
-	tell(s, ACCEPTED, how);
+	/* (as EAP-TTLS and PEAP by use_tunneled_reply; the site hands session-state on) */
+	fr_pair_list_mcopy_by_num(request->reply, &request->reply->vps, &s->reply, 0, 0, TAG_ANY);
+	if (s->inner) put_outcome(request, "User-Name", s->inner);
+	tell_proved(s, report.suite);
 	explicit_bzero(&report, sizeof(report));
 	return 1;
 }
@@ -597,7 +683,7 @@ static int take(eap_handler_t *handler, struct settings const *it, struct sessio
 	struct tuv_method_turn turn;
 	enum reason reason = s->goes_on ? hear(handler, s, &turn) : hear_first(handler, it, s, &turn);
 
-	if (reason != ACCEPTED) return ask_again(handler, it, s, reason);
+	if (reason != PROVED) return ask_again(handler, it, s, reason);
 	s->goes_on = true;
 	if (turn.sends) return put_request(handler, s);
 	if (turn.state == TUV_METHOD_DONE && turn.decision == TUV_DECISION_UNCOND_SUCC) return give_keys(handler, it, s);

@@ -6,7 +6,7 @@ import pathlib
 import re
 import shutil
 import sys
-from typing import NamedTuple, Sequence
+from typing import Mapping, NamedTuple, Sequence
 
 HERE = pathlib.Path(__file__).resolve().parent
 ROOT = HERE.parent.parent
@@ -17,7 +17,8 @@ import ways  # noqa: E402
 from programs import answer  # noqa: E402
 
 SECRET, HOME_SECRET = "testing123", "homesecret"
-PORT, HOME_PORTS = 1812, (1813, 1814)
+PORT, HOMES = 1812, ("127.0.0.2", "127.0.0.3")
+PAGE = ROOT / "docs/SERVERS.md"
 USERS = 1000
 
 
@@ -40,13 +41,14 @@ PASSWORDS = re.findall('Password := "(a [^"]*)"', PEOPLE)
 
 def write_users(work: str) -> None:
     """The users of all stores: those above, and those of load."""
-    pathlib.Path(work, "users").write_text(PEOPLE + keys_of(work, "freeradius"))
+    pathlib.Path(work, "users").write_text(PEOPLE.replace("; ", "\n\t") + keys_of(work, "freeradius"))
     pathlib.Path(work, "users.db").unlink(missing_ok=True)
     rows = "BEGIN;\n" + keys_of(work, "sql")
     for user, attributes in re.findall("(.*)\t(.*)", PEOPLE):
-        for name, operator, value in re.findall('([A-Z][A-Za-z-]+) (..) ("[^"]*"|[^,]*)', attributes):
-            told = (user, name, operator, value.strip('"'))
-            rows += f"INSERT INTO radcheck (username, attribute, op, value) VALUES {told};\n"
+        for table, part in zip(("radcheck", "radreply"), attributes.split("; ")):
+            for name, operator, value in re.findall('([A-Z][A-Za-z-]+) (:=|[+]=|=) ("[^"]*"|[^,]*)', part):
+                told = (user, name, operator, value.strip('"'))
+                rows += f"INSERT INTO {table} (username, attribute, op, value) VALUES {told};\n"
     add_rows(work, pathlib.Path("/etc/freeradius/3.0/mods-config/sql/main/sqlite/schema.sql").read_text())
     add_rows(work, f"{rows}COMMIT;\n")
     know(PEOPLE + rows)
@@ -80,7 +82,7 @@ class Server(programs.Process):
 
     def lines(self) -> list[str]:
         """What the modules have logged of logins."""
-        return re.findall(r"^.{24} : Auth: (EAP-G?PSK .*)", self.text(), re.M)
+        return re.findall(r"^.{24} : Auth: (EAP.*)", self.text(), re.M)
 
     def refused(self, reason: str) -> bool:
         """Whether the last login was refused for this reason."""
@@ -119,27 +121,108 @@ def keys_in(text: str) -> list[str]:
     return found
 
 
-# What one server can differ in from another, by radiusd.conf; window is in seconds.
-WORDS = {"first": "gpsk", "threads": "4", "port": str(PORT), "secret": SECRET, "timer": "60", "sessions": "65536", "window": "20"}
+RADDB = pathlib.Path("/etc/freeradius/3.0")
+# What a server's site has in `authorize` where it isn't that of docs/SERVERS.md: its store is asked at each packet, also at
+# the identity; or it hands all stations on to two servers.
+AUTHORIZE = {
+    "early": "files\n\t\teap",
+    "sql": "sql\n\t\teap",
+    "pool": """update control {
+			&Proxy-To-Realm := "both"
+			&Load-Balance-Key := "%{Calling-Station-Id}"
+		}""",
+}
+# Rules in `post-auth`.
+RULES = {"": "", "old-key": "if (&session-state:Tuvaddri-Key-Number == 1) {\n\t\t\treject\n\t\t}"}
+# What one server can differ in from another beside its site; window is in seconds.
+WORDS = {"first": "gpsk", "threads": "", "at": "", "rule": "", "secret": SECRET, "timer": "60", "sessions": "65536", "window": "20"}
 
 
 def freeradius(
-    work: str, words: str = "files", before: Sequence[str] = (), seconds: float = 120, name: str = "server", more: str = ""
+    work: str, words: str = "file", before: Sequence[str] = (), seconds: float = 120, name: str = "server", more: str = ""
 ) -> Server:
-    """FreeRADIUS in a folder of this name: the words are its site, what it differs in, and settings of both methods; `before`
-    stands before its program's words, `more` behind its configuration."""
-    folder = anew(work, name)
+    """FreeRADIUS by docs/SERVERS.md, with a copy of Debian's configuration in a folder of this name. The words are a site, what
+    it differs in, and settings of both methods; `before` stands before its program's words, `more` is another virtual server.
+    A site is that of the page, over a `file` or `sqlite`; one of AUTHORIZE; that of the page before another server (`proxy`);
+    or the `stock` one of Debian."""
+    folder = pathlib.Path(work, name)
+    shutil.rmtree(folder, ignore_errors=True)
+    shutil.copytree(RADDB, folder, symlinks=True)
+    programs.run(f"{HERE}/enable", work, "srv", str(folder))
     site, *given = words.split()
     settings = dict(it.split("=") for it in given)
     told = {it: settings.pop(it, word) for it, word in WORDS.items()}
-    # (the store is where the virtual server "inner" looks a name up)
-    told.update(site=site, store="sql" if site in ("sql", "once") else "files", modules=modules(settings))
-    told.update(work=work, folder=str(folder), more=more)
-    conf = re.sub("@([a-z]+)", lambda it: told[it[1]], (HERE / "radiusd.conf").read_text())
-    (folder / "radiusd.conf").write_text(conf)
-    (folder / "dictionary").write_text(f"$INCLUDE {HERE}/dictionary\n")
-    ask = [*before, "freeradius", "-d", str(folder), "-f", "-l", "stdout"]
-    return Searched(str(folder), "server", ask, "Ready to process requests", seconds)
+    if site not in ("file", "sqlite", "proxy"):
+        settings.setdefault("virtual_server", "")
+    put_server(work, folder, told)
+    put_site(work, folder, site, told)
+    put_settings(folder, settings)
+    (folder / "sites-enabled/more").write_text(f"server broken {{\nauthorize {{\nfail\n}}\n}}\n{more}")
+    return Searched(str(folder), "server", [*before, "freeradius", "-d", str(folder), "-f", "-l", "stdout"], READY, seconds)
+
+
+READY = "Ready to process requests"
+
+
+def edit(file: pathlib.Path, *edits: tuple[str, str]) -> None:
+    """Replaces what these patterns find, each at least once."""
+    text = file.read_text()
+    for pattern, by in edits:
+        text, count = re.subn(pattern, lambda _: by, text, flags=re.M)
+        if not count:
+            raise ends.Failed(f"{file} has no {pattern}")
+    file.write_text(text)
+
+
+def put_server(work: str, folder: pathlib.Path, told: Mapping[str, str]) -> None:
+    """What isn't the site's: folders, who runs it, no second before a reject, and what the words say."""
+    folders = [(f"^{it} = .*", f"{it} = {folder}") for it in ("logdir", "raddbdir", "run_dir")]
+    edit(folder / "radiusd.conf", *folders, ("^libdir = ", f"libdir = {work}:"), ("^\t(user|group) = .*", ""), ("reject_delay = 1", "reject_delay = 0"))
+    if told["threads"]:
+        edit(folder / "radiusd.conf", ("^\t(start_servers|max_servers) = .*", ""), ("^thread pool {", THREADS.replace("COUNT", told["threads"])))
+    edit(folder / "clients.conf", ("testing123", told["secret"]))
+    eap = f'default_eap_type = {told["first"]}\n\ttimer_expire = {told["timer"]}'
+    edit(folder / "mods-available/tuvaddri-eap", ("default_eap_type = gpsk", eap), ("65536", told["sessions"]))
+
+
+THREADS = "thread pool {\n\tstart_servers = COUNT\n\tmax_servers = COUNT"
+
+
+def put_site(work: str, folder: pathlib.Path, site: str, told: Mapping[str, str]) -> None:
+    file = folder / "sites-enabled/tuvaddri"
+    if site in AUTHORIZE:
+        edit(file, ("(?<=^\tauthorize {)\n\t\tfilter_username[^}]*}", f"\n\t\t{AUTHORIZE[site]}"))
+    if told["rule"]:
+        edit(file, ("^\tpost-auth {", f'\tpost-auth {{\n\t\t{RULES[told["rule"]]}'))
+    if site in ("proxy", "pool"):
+        text = re.sub("@(window|pool)", lambda it: {**told, "pool": pool()}[it[1]], (HERE / "proxy.conf").read_text())
+        (folder / "proxy.conf").write_text(text)
+    if site == "stock":
+        file.unlink()
+        file = folder / "sites-enabled/default"
+        file.symlink_to("../sites-available/default")
+    if told["at"]:
+        edit(file, ("ipaddr = [*]", f'ipaddr = {told["at"]}'), ("^\tlisten {[^}]*ipv6addr[^}]*}", ""))
+    if site in ("sqlite", "sql"):
+        edit(folder / "mods-available/tuvaddri-sql", ("/var/lib/freeradius", work))
+        (folder / "mods-enabled/sql").symlink_to("../mods-available/tuvaddri-sql")
+    else:
+        shutil.copy(f"{work}/users", folder / "mods-config/files/authorize")
+
+
+def pool() -> str:
+    """The pool of docs/SERVERS.md."""
+    blocks: list[str] = re.findall("^```conf\n(.*?)^```$", PAGE.read_text(), re.M | re.S)
+    return blocks[0]
+
+
+def put_settings(folder: pathlib.Path, settings: Mapping[str, str]) -> None:
+    """Settings of both methods; a word without a value is left out."""
+    for file in (folder / "mods-available/tuvaddri", folder / "mods-config/tuvaddri/common"):
+        for word in settings:
+            file.write_text(re.sub(f"^#?\t?{word} = .*", "", file.read_text(), flags=re.M))
+    lines = "".join(f'\n\t{word} = "{value}"' for word, value in settings.items() if value)
+    edit(folder / "mods-available/tuvaddri", ("(?<=psk {)$", lines))
 
 
 def anew(work: str, name: str) -> pathlib.Path:
@@ -148,18 +231,6 @@ def anew(work: str, name: str) -> pathlib.Path:
     shutil.rmtree(folder, ignore_errors=True)
     folder.mkdir()
     return folder
-
-
-def modules(settings: dict[str, str]) -> str:
-    """Both sub-modules with the settings; where there are none, by the commented file as it stands."""
-    if not settings:
-        return f"$INCLUDE {HERE}/tuvaddri"
-    made = ""
-    for method in ("GPSK", "PSK"):
-        words = {"server_id": "srv", "key_attribute": f"Tuvaddri-{method}-Key", **settings}
-        lines = (f'{name} = "{value}"' for name, value in words.items() if value)
-        made += "\n".join([f"{method.lower()} {{", *lines, "}", ""])
-    return made
 
 
 def hostapd(work: str, method: str, before: Sequence[str] = ()) -> Server:
@@ -180,8 +251,8 @@ class Station(NamedTuple):
 
 
 # A name with a line of a log in it, and how the log has it.
-FORGED = 'x"\nSun Nov 29 21:36:05 2026 : Auth: EAP-GPSK accepted user="root"\x1b\\\xe9'
-SHOWN = r"x\x22\x0aSun Nov 29 21:36:05 2026 : Auth: EAP-GPSK accepted user=\x22root\x22\x1b\x5c\xe9"
+FORGED = 'x"\nSun Nov 29 21:36:05 2026 : Auth: EAP-GPSK proved user="root"\x1b\\\xe9'
+SHOWN = r"x\x22\x0aSun Nov 29 21:36:05 2026 : Auth: EAP-GPSK proved user=\x22root\x22\x1b\x5c\xe9"
 
 
 def station(work: str, words: str) -> Station:
