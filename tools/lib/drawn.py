@@ -77,8 +77,8 @@ class Draw(random.Random):
         return "".join(self.choices(string.ascii_lowercase, k=self.randint(1, 12))) + "7"
 
     def some(self, items: Sequence[str]) -> str:
-        """Two items in some order, or one of them."""
-        return " ".join(self.sample(items, 1 + (not self.is_one_of(4))))
+        """Two items in some order, or now and then one of them."""
+        return " ".join(self.sample(items, 1 + (not self.is_one_of(6))))
 
     def nonces(self) -> list[bytes]:
         """Six, of which one often has the first 8 or 16 octets of another, or all of them."""
