@@ -166,7 +166,8 @@ static void try_settings(size_t size, size_t at, uint8_t octet)
 static void try_border(void)
 {
 	static const size_t sizes[] = { 0, 1, 7, 8, 9, 72, 78, 79, 80, 81, 88, 96, 4088, 4095,
-					4096, 4097, UINT32_MAX, SIZE_MAX };
+					4096, 4097, 65536 + 80, UINT32_MAX, UINT32_MAX + (size_t) 81,
+					SIZE_MAX };
 	static const size_t places[] = { 8, 40, 72, 77, 79, 80, 81, 87, 88, 4087, 4094, 4095 };
 	size_t i, j;
 

@@ -4,6 +4,7 @@ readers are proved. READERS_SEED names another number to draw from, READERS_COUN
 from __future__ import annotations
 
 import hashlib
+import io
 import os
 import re
 import sys
@@ -14,7 +15,7 @@ from typing import Iterator, Optional
 from cases.fields import parts_of
 from cases.lib import wire
 from cases.lib.small import Run, holds
-from lib import captures, frames
+from lib import captures, frames, inputs, ladder, macs, packets, replays
 from lib.common import answer
 
 sys.path.append("live")
@@ -77,7 +78,8 @@ def disturbed(draw: Random, kept: list[bytes], count: int) -> Iterator[bytes]:
         elif way == 2:
             packet = packet[: draw.randrange(len(packet) + 1)]
         elif way == 3:
-            packet += draw.randbytes(draw.randrange(5))
+            packet += draw.randbytes(draw.choice([1, 2, 4, 16]))
+            packet = packet[:2] + len(packet).to_bytes(2, "big") + packet[4:] if draw.randrange(2) else packet
         elif way == 4:
             size = 1500 if draw.randrange(8) == 0 else 4 + draw.randrange(60)
             kind = draw.choice([1, 2, 3, 47, 51, draw.randrange(253)])
@@ -115,10 +117,10 @@ def case_bulk(_: Run) -> Iterator[Optional[str]]:
 def case_packets(run: Run) -> Iterator[Optional[str]]:
     """Code, Identifier, Type and message are those of `decode`, the fields are the packet, and something is wrong with it exactly
     where `decode` says so."""
-    packets = packets_drawn()
-    found = list(parts_of(run(["decode-fields"], "".join(f"{it.hex() or '-'}\n" for it in packets).encode())[1]))
-    yield holds(len(found) == len(packets) > COUNT // 2, f"{len(found)} packets are told of {len(packets)}")
-    for packet, (line, fields, is_wrong) in zip(packets, found):
+    drawn = packets_drawn()
+    found = list(parts_of(run(["decode-fields"], "".join(f"{it.hex() or '-'}\n" for it in drawn).encode())[1]))
+    yield holds(len(found) == len(drawn) > COUNT // 2, f"{len(found)} packets are told of {len(drawn)}")
+    for packet, (line, fields, is_wrong) in zip(drawn, found):
         said = re.fullmatch(r"\d+ (?:malformed \w+|(\w+) (\d+) (?:type (\d+) )?length (\d+) padding (\d+)(.*))", line)
         read = dict(fields)
         if not said or not said[1]:
@@ -181,6 +183,53 @@ def radius_around(draw: Random, packet: bytes) -> bytes:
     return bytes([1, 7]) + (20 + len(body)).to_bytes(2, "big") + draw.randbytes(16) + body + draw.randbytes(draw.randrange(3))
 
 
+# ---- What no word of the program reads.
+
+
+def case_logins(_: Run) -> Iterator[Optional[str]]:
+    """A login begins with an Identity behind an end, be that a Success or a Failure."""
+    good, refused = wire.Login(), [wire.Login().asked, wire.Login().named, wire.eap(4, 1)]
+    for login, wanted in (([*good.whole, *refused], [7, 3]), ([*refused, *refused], [3, 3]), ([*refused, *good.whole], [3, 7]),
+                            ([*good.whole[:4], *good.whole], [4, 7])):
+        found = [len(it) for it in ladder.logins_of(login)]
+        yield holds(found == wanted, f"logins of {found} packets, and not of {wanted}")
+
+
+def case_stations(_: Run) -> Iterator[Optional[str]]:
+    """The station is who sends EAPOL-Start and Responses, or whom the RADIUS client calls so."""
+    good = wire.Login()
+    for items in ([wire.START] * 3 + [good.asked], good.whole):
+        found = captures.of_file(io.BytesIO(wire.pcap(wire.frames_of(items))))[0]
+        yield holds([it.station for it in found] == [wire.STATION.hex("-")], f"other stations: {[it.station for it in found]}")
+    called = captures.of_pcap(wire.pcap(wire.frames_of(wire.by_radius(good.whole[1:]))))
+    yield holds([it.station for it in called] == [wire.STATION.hex("-")], f"other stations of RADIUS: {[it.station for it in called]}")
+
+
+def case_users(_: Run) -> Iterator[Optional[str]]:
+    """A key that stands alone is that of the first 16 users whom the packets name."""
+    capture = captures.Capture(captures.Packets())
+    for at in range(20):
+        capture.packets.append(at + 1, False, wire.Login(user=b"user%d" % at).gpsk2, captures.NONE)
+    inputs.give_users(capture, [], KEY)
+    yield holds(capture.users == [(f"user{at}", "51", KEY) for at in range(16)], f"other users: {len(capture.users)}")
+
+
+def case_macs(_: Run) -> Iterator[Optional[str]]:
+    """Of a wrong MAC of suite 2 the one received is told, and the one that HMAC-SHA256 gives under the key."""
+    good, bad = wire.Login(), wire.Login(psk=wire.OTHER_KEY)
+    for octets, right, before in ((bad.gpsk2, good.gpsk2, []), (bad.gpsk3, good.gpsk3, [packets.read(good.gpsk2)])):
+        told = macs.told(octets, packets.read(octets), before, KEY)
+        wanted = f"received {octets[-32:].hex()}, computed {right[-32:].hex()} "
+        yield holds(told.startswith(wanted), f"another MAC is told: {told}")
+
+
+def case_ends(_: Run) -> Iterator[Optional[str]]:
+    """Of which end a text is, is said by any of its settings."""
+    for keyword in ("user", "first-id", "max-retrans", "server-name"):
+        yield holds(replays.end_of([["eap-end", "1"], [keyword, "x"]]) == "server", f"{keyword} is taken for the peer's")
+    yield holds(replays.end_of([["peer-name", "x"]]) == "peer", "peer-name is taken for the server's")
+
+
 # ---- What live/ writes.
 
 
@@ -219,6 +268,9 @@ def case_link_keys(_: Run) -> Iterator[Optional[str]]:
         yield holds(salts[0] != salts[1] and all(it[0] & 0x80 for it in salts), f"other salts: {salts}")
         opened = [opened_by_md5(secret, asked + it[8:10], it[10:]) for it in parts]
         yield holds(opened == [b"\x20" + msk[:32] + bytes(15), b"\x20" + msk[32:] + bytes(15)], "another key is sealed")
+    for plain in (b"\x0f" + bytes(14), b"\x10" + bytes(15), b""):
+        sealed = radius.combined(b"secret", b"front", plain, False)
+        yield holds(radius.opened(b"secret", b"front", sealed) == b"", f"{plain.hex()} is opened, and holds no key")
 
 
 def opened_by_md5(secret: bytes, front: bytes, sealed: bytes) -> bytes:

@@ -99,6 +99,8 @@ def files() -> Iterator[tuple[str, bytes, str, str]]:
         REFUSED + ", interfaces"), key
     yield "two interfaces", wire.pcapng(at_two([*WRONG])), REFUSED + ", interfaces", key
     yield "one of two interfaces", wire.pcapng([(1, *it) for it in wrong]), REFUSED, key
+    again = [(0.001 * at, frame) for at, (_, frame) in enumerate(framed(*BAD.front, BAD.gpsk2, BAD.gpsk2, FAILURE))]
+    yield "one of two interfaces, a packet again", wire.pcapng([(1, *it) for it in again]), REFUSED, key
     yield "snoop", wire.snoop(wrong), REFUSED, key
     for has_qos in (False, True):
         yield f"monitor mode, QoS {has_qos}", wire.pcap([(at, wire.in_air(it, has_qos)) for at, it in wrong], link=127), REFUSED, key
@@ -115,6 +117,8 @@ def files() -> Iterator[tuple[str, bytes, str, str]]:
     yield "RADIUS at the earlier port", wire.pcap(framed(*wire.by_radius(WRONG[1:], port=1645))), REFUSED, key
     whole = [(head, ip[:6] + b"\x40\0" + ip[8:]) for head, ip in wire.by_radius(WRONG[1:])]
     yield "RADIUS in packets that no router may cut", wire.pcap(framed(*whole)), REFUSED, key
+    longer = [(head, b"\x46\0" + struct.pack(">H", len(ip) + 4) + ip[4:20] + b"\1\1\1\0" + ip[20:]) for head, ip in wire.by_radius(WRONG[1:])]
+    yield "RADIUS, IP with options", wire.pcap(framed(*longer)), REFUSED, key
     yield "RADIUS by IPv6", wire.pcap(framed(*map(wire.by_ipv6, wire.by_radius(WRONG[1:])))), REFUSED, key
     long = "a" * 200
     yield "RADIUS, packets in two attributes", wire.pcap(framed(*wire.by_radius(Login(user=long.encode()).whole[1:]))), "good", (
