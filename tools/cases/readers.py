@@ -15,7 +15,7 @@ from typing import Iterator, Optional
 from cases.fields import parts_of
 from cases.lib import wire
 from cases.lib.small import Run, holds
-from lib import captures, frames, inputs, ladder, macs, packets, replays
+from lib import captures, frames, inputs, ladder, macs, packets, refusals, replays
 from lib.common import answer
 
 sys.path.append("live")
@@ -221,6 +221,49 @@ def case_macs(_: Run) -> Iterator[Optional[str]]:
         told = macs.told(octets, packets.read(octets), before, KEY)
         wanted = f"received {octets[-32:].hex()}, computed {right[-32:].hex()} "
         yield holds(told.startswith(wanted), f"another MAC is told: {told}")
+
+
+def case_right_macs(_: Run) -> Iterator[Optional[str]]:
+    """Nothing is told of a MAC that is right: those of both methods, as the program makes them."""
+    for name, key in (("gpsk-login", KEY), ("gpsk-suite2", KEY), ("psk-login", KEY[:32])):
+        sent = sent_in(Path(f"examples/{name}.names").read_text().splitlines())
+        before = [packets.read(it) for it in sent]
+        told = [macs.told(octets, message, before[:at], key) for at, (octets, message) in enumerate(zip(sent, before))]
+        yield holds(not any(told), f"{name}: a right MAC is told of: {told}")
+
+
+def case_scenarios(_: Run) -> Iterator[Optional[str]]:
+    """What comes of a packet that is altered or cut, and the users and packets of the capture of a scenario, or of a text."""
+    events = ["deliver 1", "deliver 2", "deliver 3", "alter 4 10 3", "cut 4 7", "end"]
+    replay = replays.of_scenario("\n".join([Path("cases/settings").read_text().strip(), *events, ""]).encode())
+    whole, altered, cut = (replay.events[at] for at in (3, 4, 5))
+    sent = whole.sent[0].octets or b""
+    yield holds(altered.octets == sent[:10] + bytes([sent[10] ^ 3]) + sent[11:], "another octet is altered")
+    yield holds(cut.octets == sent[:7], "a packet is cut elsewhere")
+    users = ladder.of_a_replay(replay).capture.users
+    yield holds(users == [("alice", "51", KEY), ("alice", "47", KEY[:32])], f"other users: {users}")
+    text = Path("examples/login.capture").read_text()
+    again = captures.of_capture(text.encode()).text()
+    yield holds([it for it in again.splitlines() if it[0] in "<>u"] == [it for it in text.splitlines() if it[0] in "<>u"], "another text")
+
+
+def case_frames(_: Run) -> Iterator[Optional[str]]:
+    """To whom and from whom a frame of IEEE 802.11 goes (table 9-30); the times of a file, in micro- and nanoseconds."""
+    one, two, three = (bytes([it]) * 6 for it in (2, 4, 6))
+    for flags, wanted in ((0, (one, two)), (1, (three, two)), (2, (one, three))):
+        frame = bytes([8, flags, 0, 0]) + one + two + three + bytes(2) + bytes.fromhex("aaaa03000000888e") + bytes(8)
+        yield holds(frames.of_wifi(frame)[:2] == wanted, f"other addresses of the flags {flags}")
+    for magic in (0xA1B2C3D4, 0xA1B23C4D):
+        for order in "<>":
+            file = io.BytesIO(wire.pcap([(100.25, wire.framed(wire.START))], magic=magic, order=order))
+            yield holds([it.at for it in frames.of_file(file)[1]] == [100.25], f"other times: {magic:x} {order}")
+
+
+def case_words(_: Run) -> Iterator[Optional[str]]:
+    """A mark of the order of octets before a text, which editors write, and hex as other tools write it."""
+    yield holds(inputs.form_of(b"\xef\xbb\xbfeap-scenario 1\n") == "replay", "a mark before a scenario isn't passed over")
+    for word, told in (("0x00", "begins with 0x"), ("0X00", "begins with 0x"), ("00:01", "colons"), ("000", "3 digits"), ("0001", "")):
+        yield holds(refusals.is_of_hex(word) == told or told and told in refusals.is_of_hex(word), f"{word}: {refusals.is_of_hex(word)}")
 
 
 def case_ends(_: Run) -> Iterator[Optional[str]]:
