@@ -55,7 +55,7 @@ def case_tries(run: Run) -> Iterator[Optional[str]]:
         for kind in ("by_name", "by_limit", "is_bad", "is_untried", "is_proved"):
             small.write(f"wrong/small/double__{kind}.edit", small.texts[EDIT])
         yield tells(1, "wrong", "wrong: 1 passed, 5 failed")
-        for it in ("dev/wrong", *(f"tools/lib/{it}.py" for it in ("common", "crates", "promises", "rattle", "sources"))):
+        for it in ("dev/wrong", "cases/settings", *map(str, Path("tools/lib").glob("*.py"))):
             small.write(it, Path(it).read_text())
         working = subprocess.Popen([sys.executable, "-B", small.root / "dev/wrong"], env={**os.environ, "TMPDIR": rooms, "SLEEPS": "yes"},
                                    stdin=subprocess.DEVNULL, stdout=subprocess.DEVNULL, stderr=subprocess.DEVNULL)

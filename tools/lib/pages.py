@@ -189,13 +189,13 @@ def whole_commands(lines: List[str]) -> Iterator[Tuple[str, str]]:
             yield command.strip(), comment.strip()
 
 
-def run(command: str, folder: str) -> Tuple[object, str, str]:
+def run(command: str, folder: str, seconds: int = SECONDS) -> Tuple[object, str, str]:
     """What a command ends with, its output and its errors; one that takes too long is ended with all that it started."""
     names = {**os.environ, "CLAIMS": "run"}
     with subprocess.Popen(["sh", "-c", command], cwd=folder, env=names, stdin=subprocess.DEVNULL, stdout=subprocess.PIPE,
                           stderr=subprocess.PIPE, text=True, start_new_session=True) as process:
         try:
-            output, error = process.communicate(timeout=SECONDS)
+            output, error = process.communicate(timeout=seconds)
         except subprocess.TimeoutExpired:
             os.killpg(process.pid, signal.SIGKILL)
             return "no status in time", "", ""

@@ -17,7 +17,7 @@ from lib import pages
 from lib.common import ROOT, Refused, grouped, said_by
 
 LIST = "wrong/scripts.lines"
-SHARE = 3
+SHARE, SECONDS = 3, 1200
 # Who is stopped begins no more tries.
 stopped = threading.Event()
 
@@ -82,7 +82,7 @@ def program() -> str:
 def sees(seer: str, folder: Path) -> bool:
     """Whether a command fails there."""
     (folder / "out/tmp").mkdir(parents=True, exist_ok=True)
-    return pages.run(f"EAP_LOGIN={shlex.quote(program())} TMPDIR=$PWD/out/tmp {seer}", str(folder))[0] != 0
+    return pages.run(f"EAP_LOGIN={shlex.quote(program())} TMPDIR=$PWD/out/tmp {seer}", str(folder), SECONDS)[0] != 0
 
 
 def unseen_by(seer: str, lines: list[Wrong]) -> Iterator[str]:
