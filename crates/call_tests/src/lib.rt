@@ -11,6 +11,8 @@ mod messages;
 #[cfg(test)]
 mod names;
 #[cfg(test)]
+mod own_methods;
+#[cfg(test)]
 mod plain_calls;
 #[cfg(test)]
 mod reads;
@@ -18,5 +20,7 @@ mod reads;
 mod reflections;
 #[cfg(test)]
 mod runs;
+#[cfg(test)]
+mod values;
 #[cfg(test)]
 mod worlds;

@@ -8,8 +8,8 @@ ghost use Rattle.world_commands.specs.Replay.{HasBoth};
 
 use crate::messages::is_written_again;
 use eap_base::{Event, Mode, Octets, Packet, Party, PeerSetup, ServerSetup, Setup};
-use eap_method::{Methods, PeerMethod, Report, ServerMethod};
-use eap_packet::State;
+use eap_method::{Methods, NoRecords, Outcome, PeerMethod, Report, ServerMethod, Tags};
+use eap_packet::{Cause, State};
 use eap_world::{Named, TagsVerdict, Verdict, World};
 use end_pipe::{EndInput, EndItem, EndReader, PeerPipe, ServerPipe};
 use gpsk_ends::{GpskPeer, GpskServer};
@@ -43,14 +43,14 @@ user alice 47 000102030405060708090a0b0c0d0e0f allowed
 
 /// A login: the server's methods and suites, and the lengths of the packets that are sent.
 #[derive(Clone, Copy)]
-struct Login {
-    methods: &'static str,
+pub(crate) struct Login {
+    pub(crate) methods: &'static str,
     suites: &'static str,
     lengths: &'static [u8],
 }
 
 /// By EAP-GPSK with suite 1, with suite 2, and by EAP-PSK.
-const LOGINS: [Login; 3] = [
+pub(crate) const LOGINS: [Login; 3] = [
     Login {
         methods: "server-methods 51 47",
         suites: "server-suites 1 2",
@@ -176,12 +176,22 @@ fn are_equal(peer: &Option<Report>, server: &Option<Report>) -> bool {
 
 /// A way in which the packets of both ends are carried.
 #[derive(Clone, Copy, PartialEq, Eq, Debug)]
-enum Way {
+pub(crate) enum Way {
     World,
     Machines,
+    InPlace,
     Through,
     Pipes,
 }
+
+/// Each of them.
+pub(crate) const WAYS: [Way; 5] = [
+    Way::World,
+    Way::Machines,
+    Way::InPlace,
+    Way::Through,
+    Way::Pipes,
+];
 
 /// Takes up the report that an end first has.
 fn note_report(peer: &mut Option<Report>, server: &mut Option<Report>, named: Named) {
@@ -280,7 +290,59 @@ fn between_machines<P: PeerMethod, S: ServerMethod>(
     let last = peer.deliver(request.as_slice());
     let is_over = (peer.state() == State::Success) & (server.state() == State::Success);
     let is_quiet = last.sent.is_none() & last.cause.is_none();
-    is_over & is_quiet & are_equal(&peer.report(), &server.report()) & sent.is(login.lengths, false)
+    let has_won = matches!(last.outcome(peer.report()), Outcome::Success(_));
+    let is_refused = match peer.deliver(request.as_slice()).outcome(peer.report()) {
+        Outcome::Discarded(cause) => cause == Cause::Ended,
+        _ => false,
+    };
+    is_over
+        & is_quiet
+        & has_won
+        & is_refused
+        & !server.wants_timer()
+        & are_equal(&peer.report(), &server.report())
+        & sent.is(login.lengths, false)
+}
+
+/// Between the peer and the stand-alone server, with no room for the records of tags.
+fn in_place<P: PeerMethod, S: ServerMethod>(
+    setup: Setup,
+    methods: Methods<P, S>,
+    login: Login,
+) -> bool {
+    let takes = PeerMachine::takes(&setup.peer, methods.peer.as_slice())
+        && ServerMachine::takes(&setup.server, setup.max_retrans, methods.server.as_slice());
+    if !takes {
+        return false;
+    }
+    let mut peer = PeerMachine::new(setup.peer, methods.peer);
+    let mut server = ServerMachine::new(
+        setup.server,
+        setup.first_id,
+        setup.max_retrans,
+        methods.server,
+    );
+    if server.started() || server.is_backend() {
+        return false;
+    }
+    let mut sent = Sent::new();
+    let mut tags: Tags<NoRecords> = Tags::new();
+    let mut request = Packet::new();
+    let mut response = Packet::new();
+    server.start_step(&mut request);
+    sent.note(Some(request.copy()));
+    for _ in 0..3 {
+        peer.deliver_step(request.as_slice(), &mut response, &mut tags);
+        sent.note(Some(response.copy()));
+        if !server.ready() {
+            return false;
+        }
+        server.deliver_step(response.as_slice(), &mut request, &mut tags);
+        sent.note(Some(request.copy()));
+    }
+    peer.deliver_step(request.as_slice(), &mut response, &mut tags);
+    let is_over = (peer.state() == State::Success) & (server.state() == State::Success);
+    is_over & are_equal(&peer.report(), &server.report()) & sent.is(login.lengths, false)
 }
 
 /// Between the peer and the backend, through the pass-through.
@@ -360,21 +422,34 @@ fn goes(alloc: Global, way: Way, login: Login) -> Result<bool, AllocError> {
     let gpsk_server: Box<dyn ServerMethod> = Box::new(alloc, GpskServer::new())?;
     let psk_server: Box<dyn ServerMethod> = Box::new(alloc, PskServer::new())?;
     let methods = methods_of(alloc, gpsk_peer, psk_peer, gpsk_server, psk_server)?;
+    Ok(by_way(alloc, way, methods, login))
+}
+
+/// True if a login by this way goes as it must, over these objects.
+pub(crate) fn by_way<P: PeerMethod, S: ServerMethod>(
+    alloc: Global,
+    way: Way,
+    methods: Methods<P, S>,
+    login: Login,
+) -> bool
+    requires { HasBoth P.peer_shown S.server_shown methods }
+{
     let Some(setup) = settings_of(login) else {
-        return Ok(false);
+        return false;
     };
-    Ok(match way {
+    match way {
         Way::World => in_world(alloc, setup, methods, login),
         Way::Machines => between_machines(setup, methods, login),
+        Way::InPlace => in_place(setup, methods, login),
         Way::Through => through_pass(setup, methods, login),
         Way::Pipes => between_pipes(methods, login),
-    })
+    }
 }
 
 #[test]
 fn ends_agree_in_every_way(rt: HostRuntime) -> Result<(), Fail> {
     for login in LOGINS {
-        for way in [Way::World, Way::Machines, Way::Through, Way::Pipes] {
+        for way in WAYS {
             assert!(rt; goes(rt.alloc(), way, login)?, "{way:?} {}", login.methods);
         }
     }

@@ -4,7 +4,7 @@ use eap_packet::Cause;
 use octet_lists::Identity;
 
 /// The finding of a captured packet.
-#[derive(Drop)]
+#[derive(Drop, Debug)]
 pub enum Finding {
     /// There is no tag to judge, or none that a shared key makes: the packet is well formed.
     Good,

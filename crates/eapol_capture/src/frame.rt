@@ -6,7 +6,7 @@ ghost use Rattle.eapol_capture.specs.Frames.{contents_of, finding_value, whole_v
 use octet_lists::{Injected, Octets, array_of};
 
 /// What a frame carries.
-#[derive(Clone, Copy)]
+#[derive(Clone, Copy, Debug)]
 pub enum FrameContents<'a> {
     /// No EAP packet.
     Other,
@@ -17,7 +17,7 @@ pub enum FrameContents<'a> {
 }
 
 /// What a frame carries, with its octets.
-#[derive(Drop)]
+#[derive(Drop, Debug)]
 pub enum FrameFinding {
     /// No EAP packet.
     Other,

@@ -10,7 +10,7 @@ use octet_lists::Octets;
 use std::marker::Model;
 
 /// What `PcapReader::next_record` met.
-#[derive(Clone, Copy, PartialEq, Eq)]
+#[derive(Clone, Copy, PartialEq, Eq, Debug)]
 pub enum NextRecord {
     /// A record, whose frame `frame()` now gives.
     Record,
