@@ -1,10 +1,10 @@
 -- What holds of the methods that there are, one by one.
 use Rattle.std.proofs.Common.{◌≡◌, ℕ, ◌≤◌, List, [], ◌∷◌, length, Bool, true, false, refl, sym, ◌∙◌, arith}
-use Rattle.std.specs.Prelude.{IsTrue, ◌&&◌, ◌||◌, ◌==◌, if◌then◌else◌, nat_le, IfSome}
+use Rattle.std.specs.Prelude.{IsTrue, ◌==◌, if◌then◌else◌, IfSome}
 use Rattle.std.specs.List.{list_all}
 use Rattle.std.proofs.lemmas.Bool.{and_parts}
 use Rattle.std.proofs.lemmas.List.Folds.{list_all-append}
-use Rattle.octet_lists.specs.Among.{psk_kind, gpsk_kind, is_kind}
+use Rattle.octet_lists.specs.Among.{psk_kind, gpsk_kind}
 use Rattle.login_setup.specs.Setup.{is_valid_for}
 use Rattle.end_objects.specs.Settings.{SettingsValue, kind_if, keyed_kinds, key_for, key_or_none}
 
