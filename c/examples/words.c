@@ -1,6 +1,7 @@
 /* words
  *
  * Writes what the library is, and each number that has a word, with its word. */
+#include <inttypes.h>
 #include <stdio.h>
 #include "tuvaddri.h"
 
@@ -20,7 +21,7 @@ int main(void)
 	char text[TUV_TEXT_MAX];
 
 	tuv_turn_text(turn, text);
-	printf("%s\nversion %u\nturn %s\n", tuv_ident, tuv_version(), text);
+	printf("%s\nversion %" PRIu32 "\nturn %s\n", tuv_ident, tuv_version(), text);
 	write_words("cause", tuv_cause_word);
 	write_words("state", tuv_state_word);
 	write_words("answer", tuv_refusal_word);
