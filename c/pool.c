@@ -1,7 +1,7 @@
-/* A heap in an array, for a program without malloc: linked before the archive it
- * takes the place of heap.c.  TUV_POOL is the array's size: tuv_end_size() and some
- * more for each end (README.md).  First fit; blocks that are given back join their
- * neighbours.  One thread. */
+/* A heap in an array, for a program without malloc: heap.c's place where there is
+ * no system, with TUV_POOL octets; a program compiles it itself for another size
+ * (tuv_end_size() and some more for each end).  First fit; blocks that are given
+ * back join their neighbours.  One thread. */
 #include <stdbool.h>
 #include <stddef.h>
 #include <stdint.h>
@@ -74,7 +74,7 @@ struct block rattle_alloc(size_t size, size_t align)
 
 	if (size > TUV_POOL || align > 8 || !tuv_processor_serves())
 		return none();
-	whole = (uint32_t) (size + 7) / 8 * 8 + sizeof(struct head);
+	whole = (uint32_t) ((size + 7) / 8 * 8 + sizeof(struct head));
 	if (!it->size)
 		it->size = TUV_POOL / 8 * 8;
 	for (; it < END; it = next(it)) {

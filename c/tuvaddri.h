@@ -91,9 +91,9 @@ struct tuv_settings {
  * it was.  If several reasons apply, the lowest number is the answer. */
 enum {
 	TUV_BEGUN = 0,
-	TUV_OTHER_SIZE = 1,	/* `size` is below that of the first struct (80; 44 where a
-				 * pointer has 32 bits), or over 4,096; or behind the struct that the library knows
-				 * an octet isn't 0 */
+	TUV_OTHER_SIZE = 1,	/* `size` is below that of the first struct (80; 44 where
+				 * a pointer has 4 octets), or over 4,096; or behind the
+				 * struct that the library knows an octet isn't 0 */
 	TUV_NO_METHOD = 2,	/* `methods` has another number, one twice, or a 0
 				 * before one; or a peer has neither key nor method */
 	TUV_NO_SUITE = 3,	/* `suites` has another number, one twice, or a 0

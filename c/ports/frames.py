@@ -1,5 +1,5 @@
 """How deep the calls of the library go into the stack at most: by the frames that the compilers tell (-fstack-usage), along
-all calls that the objects name (there are none by address). What functions of the C library take isn't known here: ROOM is left for them.
+all calls that the objects name (there are none by address). ROOM is left for the functions of the C library.
 """
 
 import os
@@ -89,4 +89,5 @@ def bounds(parts, renamed):
             calls[known(name)] = {known(it) for it in named}
     if not frames or not any(calls.values()):
         raise Unbounded("no frames or no calls are known")
-    return {name: octets for name, octets in deepest(frames, calls).items() if name.startswith("tuv_") and name != "tuv_clear_stack"}
+    found = deepest(frames, calls)
+    return {name: found[name] for name in found if name.startswith("tuv_") and name != "tuv_clear_stack"}

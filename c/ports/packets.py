@@ -22,7 +22,8 @@ def login(program, number, method, suite, key_length):
         print(f"static const uint8_t packet_{number}_{n}[] = {octets(it)};")
     listed = ", ".join(f"{{ {len(it)}, packet_{number}_{n} }}" for n, it in enumerate(packets))
     msk = bytes.fromhex(re.search(r"^msk (\w+)$", said, re.M)[1])
-    return f"{{ {method}, {suite}, {octets(key)}, {{ {octets(NONCES[0])}, {octets(NONCES[1])} }}, {octets(msk)}, {{ {listed} }} }}"
+    nonces = f"{{ {octets(NONCES[0])}, {octets(NONCES[1])} }}"
+    return f"{{ {method}, {suite}, {octets(key)}, {nonces}, {octets(msk)}, {{ {listed} }} }}"
 
 
 rows = [login(sys.argv[1], number, *way) for number, way in enumerate(WAYS)]

@@ -56,7 +56,8 @@ for name, triple, cpu, form in (
     ("thumbv7em-none-eabi", "thumbv7em", "cortex-m4", "memory"),
     ("thumbv7em-none-eabi-cached", "thumbv7em", "cortex-m7", "words"),
 ):
-    PORTS[name] = Port(f"{triple}-none-unknown-eabi", ARM, 4, (f"-mcpu={cpu}", "-mthumb", "-mfloat-abi=soft"), form, "arm-none-eabi-gcc", False)
+    words = (f"-mcpu={cpu}", "-mthumb", "-mfloat-abi=soft")
+    PORTS[name] = Port(f"{triple}-none-unknown-eabi", ARM, 4, words, form, "arm-none-eabi-gcc", False)
 SHUFFLE = "@llvm.x86.ssse3.pshuf.b.128"
 SIZES = {"i1": 1, "i8": 1, "i16": 2, "i32": 4, "i64": 8}
 # What would depend on a pointer's size, or isn't known to keep its place.

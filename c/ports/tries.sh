@@ -16,7 +16,6 @@ ports() {
     for it in thumbv6m thumbv7m thumbv7em; do port "$it-none-eabi" arm "$arm -Wl,--no-warn-mismatch"; done
     port thumbv7em-none-eabi-cached arm "$arm -Wl,--no-warn-mismatch"
     riscv32
-    try "a level whose frames are too deep" refuse_level
 }
 
 lacks() {
@@ -28,7 +27,7 @@ lacks() {
 
 port() {
     target=$1 runner=$(emulator "$2") compiler=$3 static=-static told=" by $1"
-    place=$work/$target
+    place=$work/$target emulated=$runner
     lacks "$runner" "${compiler%% *}" && return
     mkdir -p "$place"
     try "the library for $target" build_port
@@ -60,7 +59,7 @@ secrets_of_port() {
 }
 
 one_way() {
-    compile ways "$here/ports/ways.c" ${2-} "$place/libtuvaddri.a" && python3 -B "$here/ports/ways.py" "$1" "$runner" "$place/ways"
+    compile ways "$here/ports/ways.c" ${2-} "$place/libtuvaddri.a" && python3 -B "$here/ports/ways.py" "$1" "$emulated" "$place/ways"
 }
 
 # 32-bit RISC-V, for which Debian has no C library of Linux: picolibc's, by a start of our own.
@@ -69,7 +68,11 @@ riscv32() {
     place=$work/$target compiler=$(cross_of "$target")
     lacks "$runner" "${compiler%% *}" && return
     mkdir -p "$place"
-    started="-nostartfiles $here/ports/start_riscv32.S --oslib=semihost" machine=$runner
+    started="-nostartfiles $here/ports/start_riscv32.S --oslib=semihost"
+    # (qemu writes what comes by semihosting to its standard error)
+    printf '#!/bin/sh\nexec %s "$@" 2>&1\n' "$runner" >"$work/riscv32-run"
+    chmod +x "$work/riscv32-run"
+    emulated=$runner runner=$work/riscv32-run machine=$work/riscv32-run
     compiler="$compiler -ffunction-sections -Wl,--gc-sections $board"
     try "the library for $target" build_port
     pool="$started -DTUV_POOL=65536 $here/pool.c"
@@ -105,9 +108,13 @@ cortex() {
     started="--crt0=semihost --oslib=semihost"
     machine="qemu-system-arm -M mps2-an386 -nographic -monitor none -serial none -semihosting-config enable=on,target=native -kernel"
     lacks "${compiler%% *}" qemu-system-arm && return
-    [ -e "$(${compiler%% *} -print-file-name=picolibc.specs)" ] || { pass_over "a board$told, since picolibc is not here" && return; }
+    if [ ! -e "$(${compiler%% *} -print-file-name=picolibc.specs)" ]; then
+        pass_over "a board$told, since picolibc is not here"
+        return
+    fi
     compiler="$compiler -ffunction-sections -fdata-sections -Wl,--gc-sections $board"
     boards
+    [ "$target" != thumbv7em-none-eabi ] || try "a level whose frames are too deep" refuse_level
 }
 
 compile_for_board() {

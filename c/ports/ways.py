@@ -19,7 +19,12 @@ import sys
 KINDS = ("login", "barred", "unknown", "other-key")
 # By method and suite, the tags: the number of the packet from 1, their places from its end, and the name.
 TAGS = {
-    ("47", "0"): ((4, range(5, 21), "MAC_P"), (5, range(21, 37), "MAC_S"), (5, range(1, 17), "tag of PCHANNEL_S"), (6, range(1, 17), "tag of PCHANNEL_P")),
+    ("47", "0"): (
+        (4, range(5, 21), "MAC_P"),
+        (5, range(21, 37), "MAC_S"),
+        (5, range(1, 17), "tag of PCHANNEL_S"),
+        (6, range(1, 17), "tag of PCHANNEL_P"),
+    ),
     ("51", "1"): ((4, range(16), "MAC of GPSK-2"), (5, range(16), "MAC of GPSK-3"), (6, range(16), "MAC of GPSK-4")),
     ("51", "2"): ((4, range(32), "MAC of GPSK-2"), (5, range(32), "MAC of GPSK-3"), (6, range(32), "MAC of GPSK-4")),
 }
