@@ -66,7 +66,7 @@ def cases_in(place: str, text: str) -> dict[Key, str]:
     """The cases of a file of texts, and the functions of one in Python or shell."""
     head = {"cases": r"^(?=case )", "lines": r"^(?=by )"}.get(place.rpartition(".")[2], r"^(?=def |class |\w+\(\) \{)")
     first, *others = re.split(head, text, flags=re.M)
-    return {("case", place): first, **{("case", f"{place}: {it.partition(chr(10))[0][:60]}"): it for it in others}}
+    return {("case", place): first, **{("case", f"{place}: {it.partition(chr(10))[0]}"): it for it in others}}
 
 
 def sentences(text: str) -> Iterator[str]:
