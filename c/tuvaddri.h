@@ -445,8 +445,8 @@ struct tuv_method_turn tuv_server_method_handle(struct tuv_end *end,
  * from the first call to the clear, or clear that stack too. */
 void tuv_clear_stack_of(size_t octets);
 
-/* The same of TUV_STACK_MAX octets: for the function that made the calls, or one it
- * was called by whose frame and all between are at most 2,000 octets. */
+/* The same of TUV_STACK_MAX octets: for the function that made the calls, or one above
+ * it, if the frames of both and of all between have at most 2,000 octets. */
 void tuv_clear_stack(void);
 
 /* Whether the processor has what the library was built for (README.md). */
