@@ -35,17 +35,17 @@ use Rattle.pass_through.proofs.PassRows.{pass_answers_are_rows}
 use Rattle.end_objects.specs.Objects.{peer_object_shown, server_object_shown}
 use Rattle.end_objects.specs.declared.objects.PeerObject.{PeerObject}
 use Rattle.end_objects.specs.declared.objects.ServerObject.{ServerObject}
-use Rattle.tuvaddri_c.specs.Standing.{peer_stands, server_stands, pass_stands}
+use Rattle.tuvaddri_c.specs.Settled.{peer_settled, server_settled, pass_settled}
 
 -- the peer stands in such a state; the server does; the pass-through does
 abbrev Peer : PeerNow → Type 0
-Peer now = peer_stands now.vars.state ≡ true
+Peer now = peer_settled now.vars.state ≡ true
 
 abbrev Server : ServerNow → Type 0
-Server now = server_stands now.vars.state ≡ true
+Server now = server_settled now.vars.state ≡ true
 
 abbrev Pass : PassVariables → Type 0
-Pass vars = pass_stands vars.state ≡ true
+Pass vars = pass_settled vars.state ≡ true
 
 peer_row : (now : PeerNow) (input : peer_inputs.PeerInput) (out : PeerAnswer) → peer_rows.PeerRow now input out → Peer now → Peer out.after
 unfolding peer.peer_restart
@@ -80,7 +80,7 @@ peer_delivery now octets _ (peer_deliveries.expresses id kind body _ _) stands =
 
 peer_idles : (now : PeerNow) → Peer (peer.peer_idle now).after
 unfolding peer.peer_idle
-peer_idles now = cond_both (peer.is_uncond now.vars.decision) _ _ (λ (s : State). peer_stands s ≡ true) (λ _. refl) (λ _. refl)
+peer_idles now = cond_both (peer.is_uncond now.vars.decision) _ _ (λ (s : State). peer_settled s ≡ true) (λ _. refl) (λ _. refl)
 
 peer_accepts : (now : PeerNow) → Peer now → Peer (peer.peer_alt_accept now).after
 unfolding peer.peer_alt_accept
@@ -91,7 +91,7 @@ peer_accepts now stands =
 
 -- what a call of a machine leaves stands so, if its row does
 module _ (row : PeerAnswer) (step : Step) (after : PeerValue PeerObject) (is : row ≡ peer.answer step (peer.now_of peer_object_shown after)) where
-  peer_at : Peer row.after → peer_stands after.vars.state ≡ true
+  peer_at : Peer row.after → peer_settled after.vars.state ≡ true
   peer_at stands = subst (λ (out : PeerAnswer). Peer out.after) is stands
 
 module _ (m after : PeerValue PeerObject) (step : Step) where
@@ -101,37 +101,37 @@ module _ (m after : PeerValue PeerObject) (step : Step) where
   abbrev peer_then : PeerAnswer
   peer_then = peer.answer step (peer.now_of peer_object_shown after)
 
-  pub peer_delivered : (octets : List ℕ) → peer_reading.peer_receives peer_now octets ≡ peer_then → peer_stands m.vars.state ≡ true → peer_stands after.vars.state ≡ true
+  pub peer_delivered : (octets : List ℕ) → peer_reading.peer_receives peer_now octets ≡ peer_then → peer_settled m.vars.state ≡ true → peer_settled after.vars.state ≡ true
   peer_delivered octets is stands = peer_at _ step after is (peer_delivery peer_now octets _ (peer_receives_so peer_now octets) stands)
 
-  pub peer_idled : peer.peer_idle peer_now ≡ peer_then → peer_stands after.vars.state ≡ true
+  pub peer_idled : peer.peer_idle peer_now ≡ peer_then → peer_settled after.vars.state ≡ true
   peer_idled is = peer_at _ step after is (peer_idles peer_now)
 
-  pub peer_accepted : peer.peer_alt_accept peer_now ≡ peer_then → peer_stands m.vars.state ≡ true → peer_stands after.vars.state ≡ true
+  pub peer_accepted : peer.peer_alt_accept peer_now ≡ peer_then → peer_settled m.vars.state ≡ true → peer_settled after.vars.state ≡ true
   peer_accepted is stands = peer_at _ step after is (peer_accepts peer_now stands)
 
-  pub peer_rejected : peer.peer_alt_reject peer_now ≡ peer_then → peer_stands after.vars.state ≡ true
+  pub peer_rejected : peer.peer_alt_reject peer_now ≡ peer_then → peer_settled after.vars.state ≡ true
   unfolding peer.peer_alt_reject
   peer_rejected is = peer_at _ step after is refl
 
-  pub peer_restarted : (nonce : List ℕ) → peer.peer_restart peer_now nonce ≡ peer_then → peer_stands after.vars.state ≡ true
+  pub peer_restarted : (nonce : List ℕ) → peer.peer_restart peer_now nonce ≡ peer_then → peer_settled after.vars.state ≡ true
   unfolding peer.peer_restart
   peer_restarted nonce is = peer_at _ step after is refl
 
-pub peer_begun : (setup : PeerSetup) (m : PeerValue PeerObject) → peer.now_of peer_object_shown m ≡ peer.initial_peer setup → peer_stands m.vars.state ≡ true
-peer_begun setup m is = subst Peer (sym is) refl
+pub peer_created : (setup : PeerSetup) (m : PeerValue PeerObject) → peer.now_of peer_object_shown m ≡ peer.initial_peer setup → peer_settled m.vars.state ≡ true
+peer_created setup m is = subst Peer (sym is) refl
 
 selected : (now : ServerNow) (id kind : ℕ) (body : List ℕ) (entered : List State) (vars : ServerVariables) (desired : Option (List ℕ))
-    → server_rows.Selects now id kind body entered vars desired → Server now → server_stands vars.state ≡ true
+    → server_rows.Selects now id kind body entered vars desired → Server now → server_settled vars.state ≡ true
 selected now id kind body _ _ _ (server_rows.after_identity _ _ _ _) stands = stands
 selected now id kind body _ _ _ (server_rows.after_nak _ _ _ _) stands = stands
 selected now id kind body _ _ _ (server_rows.first_identity _ _) stands = refl
 selected now id kind body _ _ _ (server_rows.first_nak _ _) stands = refl
 selected now id kind body _ _ _ (server_rows.first_other _ _ _) stands = refl
 
-server_begins : (now : ServerNow) (nonce : List ℕ) → Server (server.server_restart now nonce).after
+server_initial : (now : ServerNow) (nonce : List ℕ) → Server (server.server_restart now nonce).after
 unfolding server.server_restart server.server_start
-server_begins now nonce = cond_both (server.is_backend now.vars) _ _ (λ (out : ServerAnswer). Server out.after) (λ _. refl) (λ _. refl)
+server_initial now nonce = cond_both (server.is_backend now.vars) _ _ (λ (out : ServerAnswer). Server out.after) (λ _. refl) (λ _. refl)
 
 server_row : (now : ServerNow) (input : server_inputs.ServerInput) (out : ServerAnswer) → server_rows.ServerRow now input out → Server now → Server out.after
 server_row now _ _ (server_rows.ended _ _) stands = stands
@@ -139,7 +139,7 @@ server_row now _ _ (server_rows.rests _) stands = stands
 server_row now _ _ (server_rows.goes_on _) stands = stands
 server_row now _ _ (server_rows.drops _ _ _ _ _) stands = stands
 server_row now _ _ (server_rows.starts _) stands = refl
-server_row now _ _ (server_rows.begins nonce) stands = server_begins now nonce
+server_row now _ _ (server_rows.begins nonce) stands = server_initial now nonce
 server_row now _ _ (server_rows.resends _ _) stands = stands
 server_row now _ _ (server_rows.times_out _ _) stands = refl
 server_row now _ _ (server_rows.proposes _ id kind body entered vars desired _ _ _ _ selects _) stands = selected now id kind body entered vars desired selects stands
@@ -171,7 +171,7 @@ server_times_out now stands =
     cond_both (nat_le (now.vars.retrans_count + 1) now.vars.max_retrans) _ _ (λ (out : ServerAnswer). Server out.after) (λ _. stands) (λ _. refl)
 
 module _ (row : ServerAnswer) (step : Step) (after : ServerValue ServerObject) (is : row ≡ server.answer step (server.now_of server_object_shown after)) where
-  server_at : Server row.after → server_stands after.vars.state ≡ true
+  server_at : Server row.after → server_settled after.vars.state ≡ true
   server_at stands = subst (λ (out : ServerAnswer). Server out.after) is stands
 
 module _ (m after : ServerValue ServerObject) (step : Step) where
@@ -181,28 +181,28 @@ module _ (m after : ServerValue ServerObject) (step : Step) where
   abbrev server_then : ServerAnswer
   server_then = server.answer step (server.now_of server_object_shown after)
 
-  pub server_delivered : (octets : List ℕ) → server_reading.server_receives server_now octets ≡ server_then → server_stands m.vars.state ≡ true → server_stands after.vars.state ≡ true
+  pub server_delivered : (octets : List ℕ) → server_reading.server_receives server_now octets ≡ server_then → server_settled m.vars.state ≡ true → server_settled after.vars.state ≡ true
   server_delivered octets is stands = server_at _ step after is (server_delivery server_now octets _ (server_receives_so server_now octets) stands)
 
-  pub server_started : server.server_start server_now ≡ server_then → server_stands after.vars.state ≡ true
+  pub server_started : server.server_start server_now ≡ server_then → server_settled after.vars.state ≡ true
   unfolding server.server_start
   server_started is = server_at _ step after is refl
 
-  pub server_timed_out : server.server_timeout server_now ≡ server_then → server_stands m.vars.state ≡ true → server_stands after.vars.state ≡ true
+  pub server_timed_out : server.server_timeout server_now ≡ server_then → server_settled m.vars.state ≡ true → server_settled after.vars.state ≡ true
   server_timed_out is stands = server_at _ step after is (server_times_out server_now stands)
 
-  pub server_restarted : (nonce : List ℕ) → server.server_restart server_now nonce ≡ server_then → server_stands after.vars.state ≡ true
-  server_restarted nonce is = server_at _ step after is (server_begins server_now nonce)
+  pub server_restarted : (nonce : List ℕ) → server.server_restart server_now nonce ≡ server_then → server_settled after.vars.state ≡ true
+  server_restarted nonce is = server_at _ step after is (server_initial server_now nonce)
 
-pub server_begun : (m after : ServerValue ServerObject) (nonce : List ℕ) → server.made_again (server.now_of server_object_shown m) nonce ≡ server.now_of server_object_shown after
-    → server_stands after.vars.state ≡ true
-server_begun m after nonce is = subst Server is refl
+pub server_created : (m after : ServerValue ServerObject) (nonce : List ℕ) → server.made_again (server.now_of server_object_shown m) nonce ≡ server.now_of server_object_shown after
+    → server_settled after.vars.state ≡ true
+server_created m after nonce is = subst Server is refl
 
-waits_again : (s entered back over : State) → pass_rows.TimerRuns s entered back over → pass_stands back ≡ true
+waits_again : (s entered back over : State) → pass_rows.TimerRuns s entered back over → pass_settled back ≡ true
 waits_again _ _ _ _ (pass_rows.of_idle _) = refl
 waits_again _ _ _ _ (pass_rows.of_idle2 _) = refl
 
-is_over_then : (s entered back over : State) → pass_rows.TimerRuns s entered back over → pass_stands over ≡ true
+is_over_then : (s entered back over : State) → pass_rows.TimerRuns s entered back over → pass_settled over ≡ true
 is_over_then _ _ _ _ (pass_rows.of_idle _) = refl
 is_over_then _ _ _ _ (pass_rows.of_idle2 _) = refl
 

@@ -19,7 +19,7 @@ pub mod Psk
 -- What is reported of a method that succeeded.
 pub mod Reports
 -- The block of a session that has just been made.
-pub mod Making
+pub mod Place
 -- What a call writes into a buffer of the program's.
 pub mod Capacities
 -- What an end has sent.
@@ -27,7 +27,7 @@ pub mod Sent
 -- The Session-Id of a login.
 pub mod SessionId
 -- The states in which an end stands between two calls.
-pub mod Standing
+pub mod Settled
 -- The result of a call, as numbers.
 pub mod Turns
 -- A server's one user, given while it runs.

@@ -6,12 +6,12 @@ use Rattle.tuvaddri_c.specs.declared.session.End.{End}
 use Rattle.tuvaddri_c.specs.declared.session.End.TheVariants as ends
 
 -- a peer waits for a packet, or has ended
-abbrev pub peer_stands : State → Bool
-peer_stands s = elim s [ state.Idle ↦ true | state.Success ↦ true | state.Failure ↦ true | _ ↦ false ]
+abbrev pub peer_settled : State → Bool
+peer_settled s = elim s [ state.Idle ↦ true | state.Success ↦ true | state.Failure ↦ true | _ ↦ false ]
 
 -- a server has not started, waits for a Response, or has ended
-abbrev pub server_stands : State → Bool
-server_stands s = elim s [
+abbrev pub server_settled : State → Bool
+server_settled s = elim s [
   | state.Initialize ↦ true
   | state.Idle ↦ true
   | state.Success ↦ true
@@ -21,8 +21,8 @@ server_stands s = elim s [
 ]
 
 -- a pass-through has not started, waits for the peer or for the backend, or has ended
-abbrev pub pass_stands : State → Bool
-pass_stands s = elim s [
+abbrev pub pass_settled : State → Bool
+pass_settled s = elim s [
   | state.Initialize ↦ true
   | state.Idle ↦ true
   | state.TimeoutFailure ↦ true
@@ -35,11 +35,11 @@ pass_stands s = elim s [
 ]
 
 -- an end stands in such a state; a closed end and a method alone have none
-abbrev pub stands : End → Bool
-stands e = elim e [
-  | ends.Peer m ↦ peer_stands m.vars.state
-  | ends.Server m ↦ server_stands m.vars.state
-  | ends.Backend m ↦ server_stands m.vars.state
-  | ends.Pass m ↦ pass_stands m.state
+abbrev pub is_settled : End → Bool
+is_settled e = elim e [
+  | ends.Peer m ↦ peer_settled m.vars.state
+  | ends.Server m ↦ server_settled m.vars.state
+  | ends.Backend m ↦ server_settled m.vars.state
+  | ends.Pass m ↦ pass_settled m.state
   | _ ↦ true
 ]

@@ -9,7 +9,7 @@ ghost use Rattle.server_machine.specs.ServerTable.{is_ready};
 ghost use Rattle.server_machine.specs.ServerTable as server;
 ghost use Rattle.end_objects.specs.Objects.{peer_object_shown, server_object_shown};
 ghost use Rattle.tuvaddri_c.specs.Ends.{IfPeer, AsPeer, IfServer, AsServer, IfBackend, AsBackend, is_peer, receives_responses, receives_octets, can_restart};
-ghost use Rattle.tuvaddri_c.specs.Standing.{stands};
+ghost use Rattle.tuvaddri_c.specs.Settled.{is_settled};
 ghost use Rattle.tuvaddri_c.specs.Turns.{PeerDoes, ServerDoes, IsMisplaced};
 
 use crate::handle::TuvEnd;
@@ -26,7 +26,7 @@ fn deliver_to_peer(session: &mut Session, octets: &[u8]) -> TuvTurn
         PeerDoes (peer_receives (peer.now_of peer_object_shown m) octets.now) session.old.sent result session.new.sent n)) }
     ensures misplaced { is_peer session.old.end ≡ false → IsMisplaced session.old result session.new }
     ensures objects { can_restart session.old.end ≡ true → can_restart session.new.end ≡ true }
-    ensures stands { stands session.old.end ≡ true → stands session.new.end ≡ true }
+    ensures settled { is_settled session.old.end ≡ true → is_settled session.new.end ≡ true }
 {
     match &mut session.end {
         End::Peer(machine) => {
@@ -49,7 +49,7 @@ fn deliver_to_server(session: &mut Session, octets: &[u8]) -> TuvTurn
         ServerDoes (server_receives (server.now_of server_object_shown m) octets.now) session.old.sent result session.new.sent n)) }
     ensures misplaced { receives_responses session.old.end ≡ false → IsMisplaced session.old result session.new }
     ensures objects { can_restart session.old.end ≡ true → can_restart session.new.end ≡ true }
-    ensures stands { stands session.old.end ≡ true → stands session.new.end ≡ true }
+    ensures settled { is_settled session.old.end ≡ true → is_settled session.new.end ≡ true }
 {
     let mut packet = Packet::new();
     let mut tags: Tags<NoRecords> = Tags::new();
@@ -73,7 +73,7 @@ pub extern "C" fn tuv_peer_deliver(end: &mut TuvEnd, octets: &[u8]) -> TuvTurn
         PeerDoes (peer_receives (peer.now_of peer_object_shown m) octets.now) end.old.value.sent result end.new.value.sent n)) }
     ensures misplaced { is_peer end.old.value.end ≡ false → IsMisplaced end.old.value result end.new.value }
     ensures objects { can_restart end.old.value.end ≡ true → can_restart end.new.value.end ≡ true }
-    ensures stands { stands end.old.value.end ≡ true → stands end.new.value.end ≡ true }
+    ensures settled { is_settled end.old.value.end ≡ true → is_settled end.new.value.end ≡ true }
 {
     deliver_to_peer(end.session(), octets)
 }
@@ -87,7 +87,7 @@ pub extern "C" fn tuv_server_deliver(end: &mut TuvEnd, octets: &[u8]) -> TuvTurn
         ServerDoes (server_receives (server.now_of server_object_shown m) octets.now) end.old.value.sent result end.new.value.sent n)) }
     ensures misplaced { receives_responses end.old.value.end ≡ false → IsMisplaced end.old.value result end.new.value }
     ensures objects { can_restart end.old.value.end ≡ true → can_restart end.new.value.end ≡ true }
-    ensures stands { stands end.old.value.end ≡ true → stands end.new.value.end ≡ true }
+    ensures settled { is_settled end.old.value.end ≡ true → is_settled end.new.value.end ≡ true }
 {
     deliver_to_server(end.session(), octets)
 }
@@ -103,7 +103,7 @@ pub extern "C" fn tuv_end_deliver(end: &mut TuvEnd, octets: &[u8]) -> TuvTurn
         ServerDoes (server_receives (server.now_of server_object_shown m) octets.now) end.old.value.sent result end.new.value.sent n)) }
     ensures misplaced { receives_octets end.old.value.end ≡ false → IsMisplaced end.old.value result end.new.value }
     ensures objects { can_restart end.old.value.end ≡ true → can_restart end.new.value.end ≡ true }
-    ensures stands { stands end.old.value.end ≡ true → stands end.new.value.end ≡ true }
+    ensures settled { is_settled end.old.value.end ≡ true → is_settled end.new.value.end ≡ true }
 {
     let session = end.session();
     if session.end.is_peer() {

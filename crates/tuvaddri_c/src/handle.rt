@@ -56,7 +56,7 @@ pub extern "C" fn tuv_version() -> u32
 /// was. The program releases its block by `tuv_end_drop`.
 #[unsafe(no_mangle)]
 pub extern "C" fn tuv_end_new(alloc: Global, place: &mut TuvPlace) -> bool
-    ensures made { IsTrue result → place.new.made ≡ Some no_end }
+    ensures created { IsTrue result → place.new.content ≡ Some no_end }
     ensures refused { (IsTrue result → ⊥) → place.new ≡ place.old }
 {
     match Box::new(alloc, Session::closed()) {

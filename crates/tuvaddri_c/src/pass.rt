@@ -6,7 +6,7 @@ ghost use Rattle.end_objects.specs.Refusals.{retry_refusal};
 ghost use Rattle.tuvaddri_c.specs.Answers.{begun, refusal_number};
 ghost use Rattle.tuvaddri_c.specs.Ends.{IfPass, AsPass, is_pass, can_start_pass, has_timer_pass, waits_for_backend};
 ghost use Rattle.tuvaddri_c.specs.Sent.{none_sent};
-ghost use Rattle.tuvaddri_c.specs.Standing.{stands};
+ghost use Rattle.tuvaddri_c.specs.Settled.{is_settled};
 ghost use Rattle.tuvaddri_c.specs.Turns.{PassDoes, IsMisplaced};
 
 use crate::answers::{STARTED, number_of_refusal};
@@ -25,7 +25,7 @@ pub extern "C" fn tuv_pass_begin(end: &mut TuvEnd, first_id: u8, max_retrans: u8
     ensures refused { IfSome (retry_refusal max_retrans) (λ reason. result ≡ refusal_number reason) }
     ensures started { retry_refusal max_retrans ≡ None → result ≡ begun }
     ensures initial { result ≡ begun → AsPass end.new.value.end (λ n. n ≡ initial_pass first_id max_retrans) }
-    ensures stands { result ≡ begun → stands end.new.value.end ≡ true }
+    ensures settled { result ≡ begun → is_settled end.new.value.end ≡ true }
     ensures sent { result ≡ begun → end.new.value.sent ≡ none_sent }
     ensures unchanged { (result ≡ begun → ⊥) → end.new.value ≡ end.old.value }
 {
@@ -45,7 +45,7 @@ pub extern "C" fn tuv_pass_start(end: &mut TuvEnd) -> TuvTurn
     ensures pass { IfPass end.old.value.end (λ m. is_started m.state ≡ false → AsPass end.new.value.end (λ n.
         PassDoes (pass_start m) end.old.value.sent result end.new.value.sent n)) }
     ensures misplaced { can_start_pass end.old.value.end ≡ false → IsMisplaced end.old.value result end.new.value }
-    ensures stands { stands end.old.value.end ≡ true → stands end.new.value.end ≡ true }
+    ensures settled { is_settled end.old.value.end ≡ true → is_settled end.new.value.end ≡ true }
 {
     let session = end.session();
     match &mut session.end {
@@ -66,7 +66,7 @@ pub extern "C" fn tuv_pass_restart(end: &mut TuvEnd) -> TuvTurn
     ensures pass { IfPass end.old.value.end (λ m. AsPass end.new.value.end (λ n.
         PassDoes (pass_restart m) none_sent result end.new.value.sent n)) }
     ensures misplaced { is_pass end.old.value.end ≡ false → IsMisplaced end.old.value result end.new.value }
-    ensures stands { stands end.old.value.end ≡ true → stands end.new.value.end ≡ true }
+    ensures settled { is_settled end.old.value.end ≡ true → is_settled end.new.value.end ≡ true }
 {
     let session = end.session();
     match &mut session.end {
@@ -87,7 +87,7 @@ pub extern "C" fn tuv_pass_from_peer(end: &mut TuvEnd, octets: &[u8]) -> TuvTurn
     ensures pass { IfPass end.old.value.end (λ m. AsPass end.new.value.end (λ n.
         PassDoes (pass_from_peer m octets.now) end.old.value.sent result end.new.value.sent n)) }
     ensures misplaced { is_pass end.old.value.end ≡ false → IsMisplaced end.old.value result end.new.value }
-    ensures stands { stands end.old.value.end ≡ true → stands end.new.value.end ≡ true }
+    ensures settled { is_settled end.old.value.end ≡ true → is_settled end.new.value.end ≡ true }
 {
     let session = end.session();
     match &mut session.end {
@@ -107,7 +107,7 @@ pub extern "C" fn tuv_pass_from_backend(end: &mut TuvEnd, octets: &[u8]) -> TuvT
     ensures pass { IfPass end.old.value.end (λ m. AsPass end.new.value.end (λ n.
         PassDoes (pass_from_backend m octets.now) end.old.value.sent result end.new.value.sent n)) }
     ensures misplaced { is_pass end.old.value.end ≡ false → IsMisplaced end.old.value result end.new.value }
-    ensures stands { stands end.old.value.end ≡ true → stands end.new.value.end ≡ true }
+    ensures settled { is_settled end.old.value.end ≡ true → is_settled end.new.value.end ≡ true }
 {
     let session = end.session();
     match &mut session.end {
@@ -127,7 +127,7 @@ pub extern "C" fn tuv_pass_timeout(end: &mut TuvEnd) -> TuvTurn
     ensures pass { IfPass end.old.value.end (λ m. has_timer m.state ≡ true → AsPass end.new.value.end (λ n.
         PassDoes (pass_timeout m) end.old.value.sent result end.new.value.sent n)) }
     ensures misplaced { has_timer_pass end.old.value.end ≡ false → IsMisplaced end.old.value result end.new.value }
-    ensures stands { stands end.old.value.end ≡ true → stands end.new.value.end ≡ true }
+    ensures settled { is_settled end.old.value.end ≡ true → is_settled end.new.value.end ≡ true }
 {
     let session = end.session();
     match &mut session.end {
@@ -147,7 +147,7 @@ pub extern "C" fn tuv_pass_aaa_timeout(end: &mut TuvEnd) -> TuvTurn
     ensures pass { IfPass end.old.value.end (λ m. is_aaa_idle m.state ≡ true → AsPass end.new.value.end (λ n.
         PassDoes (pass_aaa_timeout m) end.old.value.sent result end.new.value.sent n)) }
     ensures misplaced { waits_for_backend end.old.value.end ≡ false → IsMisplaced end.old.value result end.new.value }
-    ensures stands { stands end.old.value.end ≡ true → stands end.new.value.end ≡ true }
+    ensures settled { is_settled end.old.value.end ≡ true → is_settled end.new.value.end ≡ true }
 {
     let session = end.session();
     match &mut session.end {
@@ -166,7 +166,7 @@ pub extern "C" fn tuv_pass_aaa_noreq(end: &mut TuvEnd) -> TuvTurn
     ensures pass { IfPass end.old.value.end (λ m. is_aaa_idle m.state ≡ true → AsPass end.new.value.end (λ n.
         PassDoes (pass_aaa_noreq m) end.old.value.sent result end.new.value.sent n)) }
     ensures misplaced { waits_for_backend end.old.value.end ≡ false → IsMisplaced end.old.value result end.new.value }
-    ensures stands { stands end.old.value.end ≡ true → stands end.new.value.end ≡ true }
+    ensures settled { is_settled end.old.value.end ≡ true → is_settled end.new.value.end ≡ true }
 {
     let session = end.session();
     match &mut session.end {

@@ -11,7 +11,7 @@ ghost use Rattle.tuvaddri_c.specs.Answers.{begun, no_memory, refusal_number};
 ghost use Rattle.tuvaddri_c.specs.Ends.{IfPeer, AsPeer, is_running_peer, can_restart};
 ghost use Rattle.tuvaddri_c.specs.declared.session.End.TheVariants as ends;
 ghost use Rattle.tuvaddri_c.specs.Sent.{none_sent};
-ghost use Rattle.tuvaddri_c.specs.Standing.{stands};
+ghost use Rattle.tuvaddri_c.specs.Settled.{is_settled};
 ghost use Rattle.tuvaddri_c.specs.Turns.{PeerDoes, IsMisplaced};
 
 use crate::answers::{NO_MEMORY, STARTED, number_of_refusal};
@@ -33,7 +33,7 @@ fn store_machine(end: &mut End, machine: PeerMachine<PeerObject>)
 /// Makes the end a peer with these settings, and answers 0. Else it answers the number of the refusal, or 8 for want
 /// of memory, and the end stays as it was.
 #[unsafe(no_mangle)]
-#[tactic(auto, using(crate::proofs::TwoRecords::peer_created_with, crate::proofs::Stays::peer_begun), unfolding(end_objects::specs::Settings::peer_setup_of))]
+#[tactic(auto, using(crate::proofs::TwoRecords::peer_created_with, crate::proofs::Stays::peer_created), unfolding(end_objects::specs::Settings::peer_setup_of))]
 pub extern "C" fn tuv_peer_begin(
     alloc: Global,
     end: &mut TuvEnd,
@@ -45,7 +45,7 @@ pub extern "C" fn tuv_peer_begin(
     ensures initial { result ≡ begun → AsPeer end.new.value.end (λ n.
         peer.now_of peer_object_shown n ≡ initial_peer (peer_setup_of (settings_of settings.now) nonce.now)) }
     ensures objects { result ≡ begun → can_restart end.new.value.end ≡ true }
-    ensures stands { result ≡ begun → stands end.new.value.end ≡ true }
+    ensures settled { result ≡ begun → is_settled end.new.value.end ≡ true }
     ensures sent { result ≡ begun → end.new.value.sent ≡ none_sent }
     ensures unchanged { (result ≡ begun → ⊥) → end.new.value ≡ end.old.value }
 {
@@ -71,7 +71,7 @@ pub extern "C" fn tuv_peer_idle(end: &mut TuvEnd) -> TuvTurn
         PeerDoes (peer_idle (peer.now_of peer_object_shown m)) end.old.value.sent result end.new.value.sent n)) }
     ensures misplaced { is_running_peer end.old.value.end ≡ false → IsMisplaced end.old.value result end.new.value }
     ensures objects { can_restart end.old.value.end ≡ true → can_restart end.new.value.end ≡ true }
-    ensures stands { stands end.old.value.end ≡ true → stands end.new.value.end ≡ true }
+    ensures settled { is_settled end.old.value.end ≡ true → is_settled end.new.value.end ≡ true }
 {
     let session = end.session();
     match &mut session.end {
@@ -91,7 +91,7 @@ pub extern "C" fn tuv_peer_alt_accept(end: &mut TuvEnd) -> TuvTurn
         PeerDoes (peer_alt_accept (peer.now_of peer_object_shown m)) end.old.value.sent result end.new.value.sent n)) }
     ensures misplaced { is_running_peer end.old.value.end ≡ false → IsMisplaced end.old.value result end.new.value }
     ensures objects { can_restart end.old.value.end ≡ true → can_restart end.new.value.end ≡ true }
-    ensures stands { stands end.old.value.end ≡ true → stands end.new.value.end ≡ true }
+    ensures settled { is_settled end.old.value.end ≡ true → is_settled end.new.value.end ≡ true }
 {
     let session = end.session();
     match &mut session.end {
@@ -111,7 +111,7 @@ pub extern "C" fn tuv_peer_alt_reject(end: &mut TuvEnd) -> TuvTurn
         PeerDoes (peer_alt_reject (peer.now_of peer_object_shown m)) end.old.value.sent result end.new.value.sent n)) }
     ensures misplaced { is_running_peer end.old.value.end ≡ false → IsMisplaced end.old.value result end.new.value }
     ensures objects { can_restart end.old.value.end ≡ true → can_restart end.new.value.end ≡ true }
-    ensures stands { stands end.old.value.end ≡ true → stands end.new.value.end ≡ true }
+    ensures settled { is_settled end.old.value.end ≡ true → is_settled end.new.value.end ≡ true }
 {
     let session = end.session();
     match &mut session.end {

@@ -14,27 +14,27 @@ use std::marker::Model;
 pub struct TuvPlace {
     at: *mut u8,
     alloc: Global,
-    pub ghost made: { Option Session },
+    pub ghost content: { Option Session },
 }
 
 impl Model for TuvPlace {
     ghost use Rattle.std.specs.contracts.impls.GlobalAllocator.TheImpl.{ghosts};
-    ghost use Rattle.tuvaddri_c.specs.Making.{owns_if};
+    ghost use Rattle.tuvaddri_c.specs.Place.{owns_if};
 
-    ghost also_owns = { λ p. owns_if (ghosts.dealloc_token p.alloc) p.at p.made };
+    ghost also_owns = { λ p. owns_if (ghosts.dealloc_token p.alloc) p.at p.content };
 }
 
 impl TuvPlace {
     /// The place of this session.
     pub fn of(session: Box<Session>) -> TuvPlace
-        ensures { result.made ≡ Some session.value }
+        ensures { result.content ≡ Some session.value }
     {
         TuvPlace::of_parts(Parts::of(session))
     }
 
     /// The same of its parts. (C has no name for what the pointer points to.)
     fn of_parts(parts: Parts<Session, Global>) -> TuvPlace
-        ensures { result.made ≡ Some parts.value }
+        ensures { result.content ≡ Some parts.value }
     {
         let Parts { at, alloc } = parts;
         TuvPlace {

@@ -8,7 +8,7 @@ ghost use Rattle.server_machine.specs.ServerTable as server;
 ghost use Rattle.end_objects.specs.Objects.{peer_object_shown, server_object_shown};
 ghost use Rattle.tuvaddri_c.specs.Ends.{IfPeer, AsPeer, IfServer, AsServer, IfBackend, AsBackend, peer_has_objects, server_has_objects, is_peer, can_restart_peer, can_restart_server, can_restart};
 ghost use Rattle.tuvaddri_c.specs.Sent.{none_sent};
-ghost use Rattle.tuvaddri_c.specs.Standing.{stands};
+ghost use Rattle.tuvaddri_c.specs.Settled.{is_settled};
 ghost use Rattle.tuvaddri_c.specs.Turns.{PeerDoes, ServerDoes, IsMisplaced};
 
 use crate::handle::TuvEnd;
@@ -23,7 +23,7 @@ fn restart_peer(session: &mut Session, nonce: &Nonce) -> TuvTurn
         PeerDoes (peer_restart (peer.now_of peer_object_shown m) nonce.now) none_sent result session.new.sent n)) }
     ensures misplaced { can_restart_peer session.old.end ≡ false → IsMisplaced session.old result session.new }
     ensures objects { can_restart session.old.end ≡ true → can_restart session.new.end ≡ true }
-    ensures stands { stands session.old.end ≡ true → stands session.new.end ≡ true }
+    ensures settled { is_settled session.old.end ≡ true → is_settled session.new.end ≡ true }
 {
     match &mut session.end {
         End::Peer(machine) if machine.has_objects() => {
@@ -44,7 +44,7 @@ fn restart_server(session: &mut Session, nonce: &Nonce) -> TuvTurn
         ServerDoes (server_restart (server.now_of server_object_shown m) nonce.now) none_sent result session.new.sent n)) }
     ensures misplaced { can_restart_server session.old.end ≡ false → IsMisplaced session.old result session.new }
     ensures objects { can_restart session.old.end ≡ true → can_restart session.new.end ≡ true }
-    ensures stands { stands session.old.end ≡ true → stands session.new.end ≡ true }
+    ensures settled { is_settled session.old.end ≡ true → is_settled session.new.end ≡ true }
 {
     match &mut session.end {
         End::Server(machine) if machine.has_objects() => {
@@ -69,7 +69,7 @@ pub extern "C" fn tuv_peer_restart(end: &mut TuvEnd, nonce: &Nonce) -> TuvTurn
         PeerDoes (peer_restart (peer.now_of peer_object_shown m) nonce.now) none_sent result end.new.value.sent n)) }
     ensures misplaced { can_restart_peer end.old.value.end ≡ false → IsMisplaced end.old.value result end.new.value }
     ensures objects { can_restart end.old.value.end ≡ true → can_restart end.new.value.end ≡ true }
-    ensures stands { stands end.old.value.end ≡ true → stands end.new.value.end ≡ true }
+    ensures settled { is_settled end.old.value.end ≡ true → is_settled end.new.value.end ≡ true }
 {
     restart_peer(end.session(), nonce)
 }
@@ -83,7 +83,7 @@ pub extern "C" fn tuv_server_restart(end: &mut TuvEnd, nonce: &Nonce) -> TuvTurn
         ServerDoes (server_restart (server.now_of server_object_shown m) nonce.now) none_sent result end.new.value.sent n)) }
     ensures misplaced { can_restart_server end.old.value.end ≡ false → IsMisplaced end.old.value result end.new.value }
     ensures objects { can_restart end.old.value.end ≡ true → can_restart end.new.value.end ≡ true }
-    ensures stands { stands end.old.value.end ≡ true → stands end.new.value.end ≡ true }
+    ensures settled { is_settled end.old.value.end ≡ true → is_settled end.new.value.end ≡ true }
 {
     restart_server(end.session(), nonce)
 }
@@ -102,7 +102,7 @@ pub extern "C" fn tuv_end_restart(end: &mut TuvEnd, nonce: &Nonce) -> TuvTurn
         ServerDoes (server_restart (server.now_of server_object_shown m) nonce.now) none_sent result end.new.value.sent n)) }
     ensures misplaced { can_restart end.old.value.end ≡ false → IsMisplaced end.old.value result end.new.value }
     ensures objects { can_restart end.old.value.end ≡ true → can_restart end.new.value.end ≡ true }
-    ensures stands { stands end.old.value.end ≡ true → stands end.new.value.end ≡ true }
+    ensures settled { is_settled end.old.value.end ≡ true → is_settled end.new.value.end ≡ true }
 {
     let session = end.session();
     if session.end.is_peer() {

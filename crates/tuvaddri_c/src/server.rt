@@ -13,7 +13,7 @@ ghost use Rattle.tuvaddri_c.specs.Answers.{begun, no_memory, refusal_number};
 ghost use Rattle.tuvaddri_c.specs.Ends.{IfServer, AsServer, AsBackend, can_restart};
 ghost use Rattle.tuvaddri_c.specs.Ends as ends;
 ghost use Rattle.tuvaddri_c.specs.Sent.{none_sent};
-ghost use Rattle.tuvaddri_c.specs.Standing.{stands};
+ghost use Rattle.tuvaddri_c.specs.Settled.{is_settled};
 ghost use Rattle.tuvaddri_c.specs.Turns.{ServerDoes, IsMisplaced};
 
 use crate::answers::{NO_MEMORY, STARTED, number_of_refusal};
@@ -30,7 +30,7 @@ use server_machine::{Backend, Role, ServerMachine};
 use std::alloc::Global;
 
 /// Makes the end a stand-alone server with these settings. (It is built where it stays, and nothing of it is copied.)
-#[tactic(auto, using(crate::proofs::TwoRecords::server_started_with, crate::proofs::TwoRecords::server_preserved, crate::proofs::Stays::server_begun), unfolding(end_objects::specs::Settings::server_setup_of))]
+#[tactic(auto, using(crate::proofs::TwoRecords::server_started_with, crate::proofs::TwoRecords::server_preserved, crate::proofs::Stays::server_created), unfolding(end_objects::specs::Settings::server_setup_of))]
 fn store_machine(
     end: &mut End,
     settings: &Settings,
@@ -46,7 +46,7 @@ fn store_machine(
     ensures initial { AsServer end.new (λ n. server.now_of server_object_shown n
         ≡ initial_server StandAlone (server_setup_of (settings_of settings.now) nonce.now) first_id max_retrans) }
     ensures objects { can_restart end.new ≡ true }
-    ensures stands { stands end.new ≡ true }
+    ensures settled { is_settled end.new ≡ true }
 {
     let role = Role::StandAlone;
     *end = End::Server(ServerMachine::unbegun(
@@ -81,7 +81,7 @@ pub extern "C" fn tuv_server_begin(
     ensures initial { result ≡ begun → AsServer end.new.value.end (λ n. server.now_of server_object_shown n
         ≡ initial_server StandAlone (server_setup_of (settings_of settings.now) nonce.now) first_id max_retrans) }
     ensures objects { result ≡ begun → can_restart end.new.value.end ≡ true }
-    ensures stands { result ≡ begun → stands end.new.value.end ≡ true }
+    ensures settled { result ≡ begun → is_settled end.new.value.end ≡ true }
     ensures sent { result ≡ begun → end.new.value.sent ≡ none_sent }
     ensures unchanged { (result ≡ begun → ⊥) → end.new.value ≡ end.old.value }
 {
@@ -100,14 +100,14 @@ pub extern "C" fn tuv_server_begin(
 }
 
 /// Makes the end a backend with these settings, likewise.
-#[tactic(auto, using(crate::proofs::TwoRecords::server_started_with, crate::proofs::TwoRecords::server_preserved, crate::proofs::Stays::server_begun), unfolding(end_objects::specs::Settings::server_setup_of))]
+#[tactic(auto, using(crate::proofs::TwoRecords::server_started_with, crate::proofs::TwoRecords::server_preserved, crate::proofs::Stays::server_created), unfolding(end_objects::specs::Settings::server_setup_of))]
 fn store_backend(end: &mut End, settings: &Settings, nonce: &Nonce, methods: Vec<ServerObject>)
     requires accepted { server_refusal (settings_of settings.now) ≡ None }
     requires other { IsSoundOther (settings_of settings.now) }
     requires objects { have_each (server_kinds (map server_object_shown methods.items)) (kinds_of (settings_of settings.now)) ≡ true }
     ensures initial { AsBackend end.new (λ n. server.now_of server_object_shown n ≡ initial_backend (server_setup_of (settings_of settings.now) nonce.now)) }
     ensures objects { can_restart end.new ≡ true }
-    ensures stands { stands end.new ≡ true }
+    ensures settled { is_settled end.new ≡ true }
 {
     *end = End::Backend(Backend::unbegun(server_alone(settings, nonce), methods));
     match end {
@@ -132,7 +132,7 @@ pub extern "C" fn tuv_backend_begin(
     ensures initial { result ≡ begun → AsBackend end.new.value.end (λ n. server.now_of server_object_shown n
         ≡ initial_backend (server_setup_of (settings_of settings.now) nonce.now)) }
     ensures objects { result ≡ begun → can_restart end.new.value.end ≡ true }
-    ensures stands { result ≡ begun → stands end.new.value.end ≡ true }
+    ensures settled { result ≡ begun → is_settled end.new.value.end ≡ true }
     ensures sent { result ≡ begun → end.new.value.sent ≡ none_sent }
     ensures unchanged { (result ≡ begun → ⊥) → end.new.value ≡ end.old.value }
 {
@@ -157,7 +157,7 @@ pub extern "C" fn tuv_server_start(end: &mut TuvEnd) -> TuvTurn
         ServerDoes (server_start (server.now_of server_object_shown m)) end.old.value.sent result end.new.value.sent n)) }
     ensures misplaced { ends.can_start end.old.value.end ≡ false → IsMisplaced end.old.value result end.new.value }
     ensures objects { can_restart end.old.value.end ≡ true → can_restart end.new.value.end ≡ true }
-    ensures stands { stands end.old.value.end ≡ true → stands end.new.value.end ≡ true }
+    ensures settled { is_settled end.old.value.end ≡ true → is_settled end.new.value.end ≡ true }
 {
     let session = end.session();
     match &mut session.end {
@@ -178,7 +178,7 @@ pub extern "C" fn tuv_server_timeout(end: &mut TuvEnd) -> TuvTurn
         ServerDoes (server_timeout (server.now_of server_object_shown m)) end.old.value.sent result end.new.value.sent n)) }
     ensures misplaced { ends.has_timer end.old.value.end ≡ false → IsMisplaced end.old.value result end.new.value }
     ensures objects { can_restart end.old.value.end ≡ true → can_restart end.new.value.end ≡ true }
-    ensures stands { stands end.old.value.end ≡ true → stands end.new.value.end ≡ true }
+    ensures settled { is_settled end.old.value.end ≡ true → is_settled end.new.value.end ≡ true }
 {
     let session = end.session();
     match &mut session.end {

@@ -10,7 +10,7 @@ ghost use Rattle.end_objects.specs.Settings.{settings_of, users_of};
 ghost use Rattle.tuvaddri_c.specs.Answers.{begun, no_place, refusal_number};
 ghost use Rattle.tuvaddri_c.specs.Ends.{IfServer, AsServer, IfBackend, AsBackend, can_restart};
 ghost use Rattle.tuvaddri_c.specs.Methods.{IfServerMethod, is_server_method};
-ghost use Rattle.tuvaddri_c.specs.Standing.{stands};
+ghost use Rattle.tuvaddri_c.specs.Settled.{is_settled};
 ghost use Rattle.tuvaddri_c.specs.Users.{has_users, AcceptsUser};
 
 use crate::answers::{BAD_KEY, NO_PLACE, STARTED, number_of_refusal};
@@ -90,7 +90,7 @@ pub extern "C" fn tuv_server_user(end: &mut TuvEnd, settings: &Settings) -> u8
     ensures backend { result ≡ begun → IfBackend end.old.value.end (λ m. AsBackend end.new.value.end (λ n.
         n ≡ with_users m (users_of (settings_of settings.now)))) }
     ensures objects { can_restart end.old.value.end ≡ true → can_restart end.new.value.end ≡ true }
-    ensures stands { stands end.old.value.end ≡ true → stands end.new.value.end ≡ true }
+    ensures settled { is_settled end.old.value.end ≡ true → is_settled end.new.value.end ≡ true }
     ensures sent { end.new.value.sent ≡ end.old.value.sent }
     ensures unchanged { (result ≡ begun → ⊥) → end.new.value ≡ end.old.value }
 {

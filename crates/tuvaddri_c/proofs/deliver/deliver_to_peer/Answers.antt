@@ -2,10 +2,10 @@
 use Rattle.std.proofs.Common.{◌≡◌, true, subst}
 use Rattle.tuvaddri_c.proofs.Stays.{peer_delivered}
 use Rattle.tuvaddri_c.proofs.deliver.deliver_to_peer.Goals as goal
-use Rattle.tuvaddri_c.specs.Standing.{stands}
+use Rattle.tuvaddri_c.specs.Settled.{is_settled}
 use Rattle.tuvaddri_c.specs.declared.session.End.{End}
 
-pub returns-in-Peer-clause-stands : goal.returns-in-Peer-clause-stands
-returns-in-Peer-clause-stands c before =
+pub returns-in-Peer-clause-settled : goal.returns-in-Peer-clause-settled
+returns-in-Peer-clause-settled c before =
     peer_delivered c.in-Peer.machine c.deliver_step-step.new.self _ c.args.octets.now c.deliver_step-step.ensures.step
-    (subst (λ (e : End). stands e ≡ true) c.in-Peer.is before)
+    (subst (λ (e : End). is_settled e ≡ true) c.in-Peer.is before)

@@ -2,12 +2,12 @@
 use Rattle.std.proofs.Common.{◌≡◌, true, subst, sym}
 use Rattle.tuvaddri_c.proofs.Stays.{backend_passed}
 use Rattle.tuvaddri_c.proofs.pass.tuv_pass_from_backend.Goals as goal
-use Rattle.tuvaddri_c.specs.Standing.{stands}
+use Rattle.tuvaddri_c.specs.Settled.{is_settled}
 use Rattle.tuvaddri_c.specs.declared.session.End.{End}
 use Rattle.tuvaddri_c.specs.declared.session.Session.{Session}
 
-pub returns-in-Pass-clause-stands : goal.returns-in-Pass-clause-stands
-returns-in-Pass-clause-stands c before =
+pub returns-in-Pass-clause-settled : goal.returns-in-Pass-clause-settled
+returns-in-Pass-clause-settled c before =
     backend_passed c.in-Pass.machine c.from_backend_step-step.new.self _ c.args.octets.now c.from_backend_step-step.ensures.step
-    (subst (λ (e : End). stands e ≡ true) c.in-Pass.is
-    (subst (λ (s : Session). stands s.end ≡ true) (sym c.session-session.ensures.value) before))
+    (subst (λ (e : End). is_settled e ≡ true) c.in-Pass.is
+    (subst (λ (s : Session). is_settled s.end ≡ true) (sym c.session-session.ensures.value) before))

@@ -2,6 +2,6 @@
 use Rattle.tuvaddri_c.proofs.Stays.{pass_timed_out}
 use Rattle.tuvaddri_c.proofs.pass.tuv_pass_timeout.Goals as goal
 
-pub returns-in-Pass-clause-stands : goal.returns-in-Pass-clause-stands
-returns-in-Pass-clause-stands c before =
+pub returns-in-Pass-clause-settled : goal.returns-in-Pass-clause-settled
+returns-in-Pass-clause-settled c before =
     pass_timed_out c.in-Pass.machine c.timeout_step-step.new.self _ c.timeout_step-step.ensures.step

@@ -2,12 +2,12 @@
 use Rattle.std.proofs.Common.{◌≡◌, true, subst, sym}
 use Rattle.tuvaddri_c.proofs.Stays.{peer_accepted}
 use Rattle.tuvaddri_c.proofs.peer.tuv_peer_alt_accept.Goals as goal
-use Rattle.tuvaddri_c.specs.Standing.{stands}
+use Rattle.tuvaddri_c.specs.Settled.{is_settled}
 use Rattle.tuvaddri_c.specs.declared.session.End.{End}
 use Rattle.tuvaddri_c.specs.declared.session.Session.{Session}
 
-pub returns-in-Peer-clause-stands : goal.returns-in-Peer-clause-stands
-returns-in-Peer-clause-stands c before =
+pub returns-in-Peer-clause-settled : goal.returns-in-Peer-clause-settled
+returns-in-Peer-clause-settled c before =
     peer_accepted c.in-Peer.machine c.alt_accept_step-step.new.self _ c.alt_accept_step-step.ensures.step
-    (subst (λ (e : End). stands e ≡ true) c.in-Peer.is
-    (subst (λ (s : Session). stands s.end ≡ true) (sym c.session-session.ensures.value) before))
+    (subst (λ (e : End). is_settled e ≡ true) c.in-Peer.is
+    (subst (λ (s : Session). is_settled s.end ≡ true) (sym c.session-session.ensures.value) before))

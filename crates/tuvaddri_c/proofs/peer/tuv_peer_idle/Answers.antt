@@ -2,6 +2,6 @@
 use Rattle.tuvaddri_c.proofs.Stays.{peer_idled}
 use Rattle.tuvaddri_c.proofs.peer.tuv_peer_idle.Goals as goal
 
-pub returns-in-Peer-clause-stands : goal.returns-in-Peer-clause-stands
-returns-in-Peer-clause-stands c before =
+pub returns-in-Peer-clause-settled : goal.returns-in-Peer-clause-settled
+returns-in-Peer-clause-settled c before =
     peer_idled c.in-Peer.machine c.idle_step-step.new.self _ c.idle_step-step.ensures.step

@@ -2,6 +2,6 @@
 use Rattle.tuvaddri_c.proofs.Stays.{server_started}
 use Rattle.tuvaddri_c.proofs.server.tuv_server_start.Goals as goal
 
-pub returns-in-Server-clause-stands : goal.returns-in-Server-clause-stands
-returns-in-Server-clause-stands c before =
+pub returns-in-Server-clause-settled : goal.returns-in-Server-clause-settled
+returns-in-Server-clause-settled c before =
     server_started c.in-Server.machine c.start_step-step.new.self _ c.start_step-step.ensures.step
