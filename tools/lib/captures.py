@@ -71,8 +71,8 @@ class Packets:
 
 @dataclass
 class Capture:
-    """Packets in their order; the users, as the words NAME, KIND and KEY; what the text says of itself; the station, and
-    what was left out of a file. Of frames without a whole EAP packet: those that are cut, by number, octets kept and octets
+    """Packets in their order; the users, as the words NAME, KIND and KEY; what the text says of itself; the station, its
+    access point, and what was left out of a file. Of frames without a whole EAP packet: those that are cut, by number, octets kept and octets
     on the wire, the EAPOL-Starts and the EAPOL-Logoffs, by number and time, and how many other ones of several stations can be
     of this one; the numbers of all frames, with the file's first capture those that came at another interface again, and the
     time of its last. Over RADIUS `parts` has the places of the packets of each login."""
@@ -81,6 +81,7 @@ class Capture:
     users: list[User] = field(default_factory=list)
     comments: list[str] = field(default_factory=list)
     station: str = ""
+    other: str = ""
     notes: list[str] = field(default_factory=list)
     cut: list[tuple[int, int, int]] = field(default_factory=list)
     starts: list[tuple[int, float]] = field(default_factory=list)
@@ -244,7 +245,7 @@ class Reading:
         packets, whole = Packets(), self.packets
         if len(indices) == len(whole) and not self.cut and not self.kinds:
             packets, indices = whole, ()
-        found = Capture(packets, station=station.hex("-"), name=f"{station.hex('-')}_{other.hex('-')}")
+        found = Capture(packets, station=station.hex("-"), other=other.hex("-"), name=f"{station.hex('-')}_{other.hex('-')}")
         found.numbers += packets.numbers
         for at in indices:
             number = whole.numbers[at]
@@ -308,7 +309,9 @@ class Reading:
             its = [self.radius.radius[at] for at in part]
             asked = next((it for it in its if it.is_request), its[0])
             name = (asked.get(frames.CALLING_STATION) or asked.get(frames.USER_NAME)).decode("latin-1")
-            station = stations.setdefault(name, Capture(Packets(), station=name, name="radius_" + re.sub("[^A-Za-z0-9.-]", "_", name)))
+            client = ".".join(map(str, (asked.source if asked.is_request else asked.to)[0]))
+            file = "radius_" + re.sub("[^A-Za-z0-9.-]", "_", name)
+            station = stations.setdefault(name, Capture(Packets(), station=name, other=client, name=file))
             station.parts.append([])
             for at, it in zip(part, its):
                 packet = self.radius[at]

@@ -109,9 +109,17 @@ def answer_of(program: str, words: tuple[str, ...], octets: bytes) -> tuple[int,
     return status, written.decode("latin-1").splitlines()
 
 
+@functools.lru_cache(maxsize=None)
+def found() -> str:
+    """The program that ./eap_login, once it has run, has found or built: the script looks at all sources at each start."""
+    kind = said_by("tools/prove", "status").partition(":")[0]
+    program = ROOT / "out" / f"eap_login-{kind}"
+    return str(program) if kind in PROOFS and program.is_file() else ""
+
+
 def run(words: Sequence[str], octets: bytes, program: str = "") -> tuple[int, bytes]:
     """The status with which the program ends, and what it writes."""
-    program = program or os.environ.get("EAP_LOGIN") or str(ROOT / "eap_login")
+    program = program or os.environ.get("EAP_LOGIN") or (found() if told else "") or str(ROOT / "eap_login")
     errors = subprocess.DEVNULL if told else None
     try:
         done = subprocess.run([program, *words], input=octets, stdout=subprocess.PIPE, stderr=errors,

@@ -18,8 +18,8 @@ from lib.common import Refused
 PATH = os.environ.get("PATH", os.defpath) + ":/usr/local/sbin:/usr/sbin:/sbin"
 # A login is over so many seconds after its Success or Failure, or after a packet that nobody answers.
 TICK_SECONDS, END_SECONDS, SILENT_SECONDS = 0.2, 0.5, 12.0
-# (what belongs to no station is kept no longer)
-MOST_SECONDS = 600.0
+# (what belongs to no station is kept no longer, and no more)
+MOST_SECONDS, MOST_RECORDS = 600.0, 50000
 
 
 def filter_of(interface: str, ports: Sequence[int]) -> str:
@@ -71,6 +71,13 @@ def read(begun: subprocess.Popen[bytes], found: queue.Queue[Optional[frames.Reco
         said.append(str(fault))
 
 
+def is_of_login(record: frames.Record, ports: Sequence[int]) -> bool:
+    """Whether a frame has EAPOL, or EAP or a refusal in a RADIUS packet."""
+    frame = frames.of_record(record)
+    found = frames.radius_of(frame, ports) if frame.kind != frames.EAPOL else None
+    return frame.kind == frames.EAPOL or found is not None and bool(found.eap or found.octets[0] == 3)
+
+
 def is_over(it: Capture, last: float, now: float) -> bool:
     end = it.packets.octets[-1][:1] if it.packets else b""
     return now - last > (END_SECONDS if end in (b"\3", b"\4") else SILENT_SECONDS)
@@ -79,17 +86,24 @@ def is_over(it: Capture, last: float, now: float) -> bool:
 def logins(interface: str, ports: Sequence[int]) -> Iterator[Capture]:
     """What each station did, when it is over, until the capturing ends; at the last also what isn't."""
     kept: list[frames.Record] = []
+    count, due = 0, 0.0
     print(f"why: capturing at {interface} by tcpdump, and waiting for a login over EAPOL or RADIUS; Ctrl-C ends it", file=sys.stderr,
           flush=True)
     for record in records_of(interface, ports):
-        if record is not None:
-            kept.append(record._replace(number=kept[-1].number + 1 if kept else record.number))
+        if record is not None and is_of_login(record, ports):
+            count += 1
+            kept.append(record._replace(number=count))
+        # (looked at each moment, also where frames come without a pause, and for half of the time at most)
+        begun = time.time()
+        if begun < due:
             continue
-        kept = [it for it in kept if kept[-1].at - it.at < MOST_SECONDS]
+        kept = [it for it in kept[-MOST_RECORDS:] if kept[-1].at - it.at < MOST_SECONDS]
         times = {it.number: it.at for it in kept}
         found = captures.of_records(kept, ports)[0] if kept else []
+        due = time.time() + max(TICK_SECONDS, time.time() - begun)
         for it in found:
-            if is_over(it, times[it.numbers[-1]], time.time()):
+            # (where frames wait to be read, it is as late as they say)
+            if is_over(it, max(times[number] for number in it.numbers), record.at if record else time.time()):
                 gone = {*it.numbers, *found[0].again}
                 kept = [its for its in kept if its.number not in gone]
                 it.until = time.time()

@@ -160,7 +160,7 @@ class Next:
         begin = next((it.number for it in self.world.seen if it.turn >= self.world.begun), 0)
         return any(begin <= it <= self.frame.number for it in self.tap.cut)
 
-    def begins(self) -> list[Token]:
+    def opening(self) -> list[Token]:
         return [] if self.is_cut() else [self.token("begins")]
 
     def unseen(self, name: str, of_server: bool) -> list[Token]:
@@ -242,7 +242,7 @@ class Next:
                 world = self.on if found[0].name == "bad-shape" and f.id != server.id else self.world
                 yield world._replace(facts=world.facts | facts), found
         elif f.message == "Identity":
-            yield from self.begin()
+            yield from self.first_request()
         elif f.message == "Notification":
             yield self.world._replace(server=server._replace(id=f.id, place=f.place, octets=f.octets, at=f.at, turn=f.turn)), self.order()
         elif f.message in FAILS:
@@ -307,7 +307,7 @@ class Next:
         """A login begins here."""
         return self.world._replace(server=server, peer=NOBODY, begun=self.world.turn, forged=())
 
-    def begin(self) -> Iterator[Way]:
+    def first_request(self) -> Iterator[Way]:
         """An Identity Request."""
         f, server, peer, seen = self.frame, self.server, self.peer, self.world.seen
         here = [it for it in seen if it.turn >= self.world.begun]
@@ -335,7 +335,7 @@ class Next:
         if server.message == "Identity":
             yield self.on, [*self.needs("Identity"), *self.order()]
         elif server.message == "":
-            yield self.on, self.begins()
+            yield self.on, self.opening()
         elif server.message in ENDS:
             yield self.anew(self.on.server), self.unseen("the begin of this login", True)
         elif server.kind == f.kind and not f.stage:
@@ -382,7 +382,7 @@ class Next:
         elif server.message == "Success":
             return
         elif not server.message and not self.peer.message:
-            yield self.on, [*self.begins(), *self.unseen("the login", True)]
+            yield self.on, [*self.opening(), *self.unseen("the login", True)]
         elif any(it.message.startswith("Type") or it.kind not in ("", "47", "51") for it in self.answers(server.id, server.turn - 4)):
             yield self.on, []
         else:
@@ -415,7 +415,7 @@ class Next:
             yield self.on, [self.token("rejected")]
             return
         if not server.message and not self.peer.message and f.message != "Reject":
-            yield self.on, [*self.begins(), self.unseen_refused(True)]
+            yield self.on, [*self.opening(), self.unseen_refused(True)]
             return
         answers = [it for it in self.near(False) if (server.place < 0 or it.turn > server.turn - 3)
                    and server.id in (-1, it.id) and it.id == f.id or f.radius and it.radius and it.radius is f.radius.request]
@@ -599,6 +599,6 @@ class Next:
         message = name_of(f.kind, wanted) if isinstance(wanted, int) else "GPSK-1" if f.message == "Nak" else f.message
         virtual = End(message, f.id, kind=f.kind, at=f.at)
         if not self.server.message and not self.peer.message:
-            return self.begins(), virtual
+            return self.opening(), virtual
         name = message if f.stage else "the Request that it refuses" if f.message == "Nak" else f"the {f.message} Request"
         return self.unseen(name, True), virtual

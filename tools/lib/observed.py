@@ -145,10 +145,10 @@ class Judge:
     def __init__(self, users: Sequence[User] = ()) -> None:
         self.users, self.asked, self.places = list(users), Packets(), list[tuple[Frame, int]]()
 
-    def has_room(self, users: Sequence[User], count: int) -> bool:
+    def may_add(self, users: Sequence[User], count: int) -> bool:
         return len({*self.users, *users}) <= MOST_USERS and len(self.asked) + 3 * count <= MOST_AT_ONCE * 3
 
-    def take(self, found: Sequence[Frame], users: Sequence[User], begin: int = 0, end: int = 1 << 60) -> None:
+    def add(self, found: Sequence[Frame], users: Sequence[User], begin: int = 0, end: int = 1 << 60) -> None:
         """Takes up the messages of a conversation from one place to another."""
         self.users += [it for it in users if it not in self.users]
         of_method = [it for it in found if it.stage or it.message == "GPSK-Protected-Fail"]
@@ -190,7 +190,7 @@ def in_batches(capture: Capture, part: Sequence[int]) -> Iterator[Frame]:
         found += islice(more, MOST_AT_ONCE + NEAR)
         end = found[-1].place + 1 - NEAR if len(found) >= MOST_AT_ONCE and found else (found[-1].place + 1 if found else begin)
         judge = Judge()
-        judge.take(found, capture.users, begin, end)
+        judge.add(found, capture.users, begin, end)
         yield from judged([it for it in found if begin <= it.place < end], judge.found())
         if not found or end == found[-1].place + 1:
             return
@@ -209,14 +209,14 @@ def conversations(captures: Iterable[Capture]) -> Iterator[Conversation]:
         parts: list[Sequence[int]] = [*capture.parts] or [range(len(capture.packets))]
         for part in parts:
             is_short = len(part) < MOST_AT_ONCE
-            if not is_short or not judge.has_room(capture.users, len(part)):
+            if not is_short or not judge.may_add(capture.users, len(part)):
                 yield from answered(waiting, judge)
                 waiting, judge = [], Judge()
             if not is_short:
                 yield capture, part, in_batches(capture, part)
                 continue
             its = list(frames_of(capture, part))
-            judge.take(its, capture.users)
+            judge.add(its, capture.users)
             waiting.append((capture, part, its))
     yield from answered(waiting, judge)
 

@@ -44,12 +44,12 @@ class Sessions:
     def at(self, place: int) -> float:
         return self.packets.times[place]
 
-    def take(self, at: int) -> None:
+    def add(self, at: int) -> None:
         it = self.its[at]
         if it.is_request:
-            self.take_request(at, it)
+            self.add_request(at, it)
         else:
-            self.take_reply(at, it)
+            self.add_reply(at, it)
         if state := it.get(frames.STATE):
             client = it.source if it.is_request else it.to
             self.join(at, self.states.setdefault((client[0], state), at))
@@ -64,7 +64,7 @@ class Sessions:
         asked = it if it.is_request else it.request
         return (asked.source[0], asked.get(frames.CALLING_STATION) or asked.get(frames.USER_NAME)) if asked else None
 
-    def take_request(self, at: int, it: frames.Radius) -> None:
+    def add_request(self, at: int, it: frames.Radius) -> None:
         self.requests[it.exchange] = at
         self.join(at, self.same.setdefault((it.source, it.octets[:20]), at))
         early = self.replies.pop(it.exchange, None)
@@ -77,7 +77,7 @@ class Sessions:
             before = self.latest.get(self.client_of(it))
             self.join(at, before if before is not None and self.at(at) - self.at(before) < PAUSE else None)
 
-    def take_reply(self, at: int, it: frames.Radius) -> None:
+    def add_reply(self, at: int, it: frames.Radius) -> None:
         asked = self.requests.get(it.exchange)
         if asked is not None:
             it.request = self.its[asked]
@@ -105,7 +105,7 @@ def of_packets(packets: Packets) -> tuple[list[list[int]], set[int]]:
     """The places of the packets of each login, and of those that a proxy passed on."""
     found = Sessions(packets)
     for at in range(len(packets)):
-        found.take(at)
+        found.add(at)
     parts: dict[int, list[int]] = {}
     for at in range(len(packets)):
         parts.setdefault(found.root(at), []).append(at)

@@ -157,13 +157,13 @@ def alternatives_of(login: Login, group: list[list[Token]]) -> Reason:
     first = group[0] or group[1]
     frame = login.places[first[0].place]
 
-    def told(tokens: list[Token]) -> str:
+    def phrase(tokens: list[Token]) -> str:
         others = [it for it in tokens if it.place != frame.place]
         its = [sentence_of(login, it) for it in tokens if it.place == frame.place]
         its += [f"{(x := login.places[it.place]).called}: {sentence_of(login, it)}{with_mac(login, x, [it])}" for it in others]
         return "; ".join(its)
 
-    texts = [told(it) for it in group[:2] if it]
+    texts = [phrase(it) for it in group[:2] if it]
     text = (", or " if len(texts) > 1 else "").join(texts)
     more = len(group) - 2
     if not group[0]:
@@ -172,7 +172,7 @@ def alternatives_of(login: Login, group: list[list[Token]]) -> Reason:
     return Reason(None, text + rarer + with_mac(login, frame, [*group[0], *group[1]]), frame.called)
 
 
-def tokens_said(login: Login) -> list[Token]:
+def shown_tokens(login: Login) -> list[Token]:
     return [*login.found.sure, *(it for group in login.found.groups for its in group[:2] for it in its)]
 
 
@@ -184,7 +184,7 @@ def of_worlds(login: Login) -> Iterator[tuple[int, Reason]]:
     for group in login.found.groups:
         if group[0] or any(CHOICES[it.name].verdict for it in group[1]):
             yield (group[0] or group[1])[0].place, alternatives_of(login, group)
-    shown = tokens_said(login)
+    shown = shown_tokens(login)
     login.tries += [it for it in dict.fromkeys(CHOICES[it.name].advice for it in shown) if it]
 
 
@@ -317,7 +317,7 @@ def folded(reasons: list[Reason]) -> list[Reason]:
 def reasons_of(login: Login, nonces: list[tuple[int, str]]) -> list[Reason]:
     """What is said of a login, in the order of its packets."""
     of_places = list(of_worlds(login))
-    certain = [*of_tags(login, {it.place for it in tokens_said(login) if it.name in OF_MAC}), *of_repeats(login), *nonces]
+    certain = [*of_tags(login, {it.place for it in shown_tokens(login) if it.name in OF_MAC}), *of_repeats(login), *nonces]
     of_places += [(place, Reason(None, text, login.places[place].called)) for place, text in certain]
     ordered = [it for _, it in sorted(of_places, key=lambda it: it[0])]
     return folded([*of_missing(login), *ordered, *of_others(login)])

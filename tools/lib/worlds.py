@@ -65,7 +65,7 @@ class Search:
     def logins(self) -> Iterator[tuple[int, int, list[World], bool]]:
         """The first frame of each login, the one behind its last, its worlds, and whether all were followed."""
         while self.frame(self.turn) is not None:
-            self.worlds = self.kept([new for w in self.worlds for new in self.steps(w)])
+            self.worlds = self.cheapest([new for w in self.worlds for new in self.steps(w)])
             if not self.worlds:
                 self.again()
                 continue
@@ -102,7 +102,7 @@ class Search:
             del self.frames[self.oldest]
             self.oldest += 1
 
-    def kept(self, worlds: list[World]) -> list[World]:
+    def cheapest(self, worlds: list[World]) -> list[World]:
         """The cheapest of each state, and of all; above a limit the best alone."""
         states: dict[object, list[World]] = {}
         for w in worlds:
@@ -139,7 +139,7 @@ class Search:
     def ways(self, w: World, it: Frame, *more: Token) -> Iterator[World]:
         for then, tokens in Next(self.tap, w, it).ways():
             if self.may_cost(w.cost + sum(t.cost for t in tokens) + sum(t.cost for t in more)):
-                yield self.taken(w, it, (then, [*more, *tokens]))
+                yield self.advanced(w, it, (then, [*more, *tokens]))
 
     def steps(self, w: World) -> Iterator[World]:
         """A world with one frame more: the next one, or one that was held back; and where the next one is out of the ordinary, it
@@ -167,7 +167,7 @@ class Search:
     def chosen(self, w: World, tokens: Sequence[Token]) -> World:
         return w._replace(cost=w.cost + sum(it.cost for it in tokens), trail=put(w.trail, tokens))
 
-    def taken(self, w: World, it: Frame, way: Way) -> World:
+    def advanced(self, w: World, it: Frame, way: Way) -> World:
         """The world behind a frame that came so."""
         then, tokens = way
         new = self.chosen(then, tokens)._replace(seen=(*w.seen[-23:], it._replace(turn=w.turn)), turn=w.turn + 1)
