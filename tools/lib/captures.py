@@ -230,7 +230,8 @@ class Reading:
         votes: Counter[bytes] = Counter()
         for flow, vote in zip(self.flows, self.votes):
             votes[flow[-6:]] += vote
-        if 0 < len(votes) <= 2:
+        addresses = {*votes, *(it[:6] for it in self.flows if len(it) > 6 and not it[0] & 1)}
+        if 0 < len(addresses) <= 2:
             station, other = [*sorted(votes, key=lambda it: -votes[it]), b""][:2]
             return [self.capture(range(len(self.of_flow)), station, other)]
         parted, alone = self.pairs(votes)

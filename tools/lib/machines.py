@@ -351,6 +351,9 @@ class Next:
         f, server = self.frame, self.server
         if server.message in FAILS or server.message in THIRD and server.place >= 0:
             return
+        if not server.message and not self.peer.message:
+            yield self.on, self.opening()
+            return
         missing: list[Token] = []
         if server.message not in FIRST or server.kind != f.kind:
             firsts = [it for it in self.near(True, 12) if it.stage == 1 and it.is_of_run(f)]
@@ -382,7 +385,7 @@ class Next:
         elif server.message == "Success":
             return
         elif not server.message and not self.peer.message:
-            yield self.on, [*self.opening(), *self.unseen("the login", True)]
+            yield self.on, self.opening()
         elif any(it.message.startswith("Type") or it.kind not in ("", "47", "51") for it in self.answers(server.id, server.turn - 4)):
             yield self.on, []
         else:
@@ -407,9 +410,10 @@ class Next:
     def failure(self) -> Iterator[Way]:
         """A Failure, or an Access-Reject without one."""
         f, server = self.frame, self.server
-        if server.message in ("Failure", "Reject"):
-            if f.radius and any(it.turn > server.turn for it in self.near(False)):
+        if server.message in ENDS:
+            if f.radius and server.message != "Success" and any(it.turn > server.turn for it in self.near(False)):
                 yield self.on, [self.token("forgotten")]
+            yield self.anew(self.on.server), [self.unseen_refused()]
             return
         if f.message == "Reject" and server.message in ("", "Identity"):
             yield self.on, [self.token("rejected")]
@@ -542,6 +546,10 @@ class Next:
                 fact = f"{name} {f.read.identity}"
                 yield frozenset([fact]), [self.token(name)._replace(cost=0 if fact in facts else CHOICES[name].cost)]
             yield none, [self.token("altered", "")]
+            # (MAC_P is over the server's name, too, which PSK-2 doesn't repeat)
+            asked = self.asked(f.id) if f.kind == "47" else []
+            if asked:
+                yield none, [token("altered-behind", asked[0].place, f"the MAC of its answer, packet {f.number}, is over another name")]
         elif f.word == "tag-bad" and f.stage == 4 and not self.is_third_wrong():
             yield none, [self.token("altered", ": its MAC is wrong, and the others are right")]
         elif f.message in FAILS and self.server.message not in FAILS:
