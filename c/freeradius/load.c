@@ -1,14 +1,15 @@
 /* Logs many users in over RADIUS, by the library's peer, and compares the link keys that come with the peer's MSK.
  *
  *	load PORT SECRET KIND SUITE LOGINS AT_ONCE USERS [THREADS [ALTERED]]
- *	load begin PORT SECRET KIND SUITE LOGINS AT_ONCE USERS [STATIONS]
+ *	load begin PORT SECRET KIND SUITE LOGINS AT_ONCE USERS [STATIONS [TYPE OCTET]]
  *	load keys FORM USERS
  *
  * The server is at 127.0.0.1; the users are user0, user1, .., with the keys that the last form writes, for `users` of
  * FreeRADIUS (freeradius), for SQL (sql), or for hostapd's eap_user_file (gpsk, psk). Of a hundred EAP packets of a
  * method ALTERED have one octet altered. Each login has a Calling-Station-Id of its own. With `begin` each login stops at
  * the method's first Request, and is left open; they come from as many STATIONS, by default from as many as there are
- * logins, and from none of the other form.
+ * logins, and from none of the other form. With a TYPE that Request is answered by a Response of this Type with one octet,
+ * a Nak (3) to the method of this number, say, and no answer is waited for.
  *
  * The line at the end has, after the counts and the rate, load's own processor time, and in milliseconds the median of
  * a login, what 99 of a hundred stay below, and the longest. The status is 0 where all are good. */
@@ -40,7 +41,7 @@ enum { SEND_KEY = 16, RECV_KEY = 17 };
 /* What the words say. */
 static struct {
 	const char *secret;
-	int port, kind, suite, logins, at_once, users, threads, altered, stations;
+	int port, kind, suite, logins, at_once, users, threads, altered, stations, type, octet;
 	bool only_begins;
 } asked = { .threads = 1 };
 
@@ -131,15 +132,12 @@ static void tag(struct slot *s)
 	HMAC(EVP_md5(), asked.secret, strlen(asked.secret), s->request, s->len, s->request + s->len - 16, &made);
 }
 
-/* The end's packet goes out as an Access-Request. */
-static void ask(struct worker *w, struct slot *s)
+/* An EAP packet goes out as an Access-Request. */
+static void ask_by(struct slot *s, const uint8_t *eap, size_t eap_len)
 {
-	uint8_t eap[TUV_PACKET_MAX], ip[4] = { 127, 0, 0, 1 };
+	uint8_t ip[4] = { 127, 0, 0, 1 };
 	char name[32], station[32];
-	size_t eap_len = tuv_end_packet(&s->end, eap, sizeof(eap));
 
-	if (eap_len > 5 && eap[4] == asked.kind && rand_r(&w->seed) % 100 < asked.altered)
-		eap[5 + rand_r(&w->seed) % (eap_len - 5)] ^= 1 << rand_r(&w->seed) % 8;
 	s->request[0] = REQUEST;
 	s->request[1] = ++s->id;
 	need(getrandom(s->request + 4, 16, 0) == 16, "getrandom");
@@ -169,6 +167,25 @@ static void begin_peer(struct slot *s)
 	*(asked.kind == TUV_KIND_PSK ? &told.psk_key : &told.gpsk_key) = octets;
 	need(getrandom(nonce, sizeof(nonce), 0) == sizeof(nonce), "getrandom");
 	need(tuv_peer_begin(&s->end, &told, nonce) == TUV_BEGUN, "a peer can't begin");
+}
+
+/* The end's packet, perhaps altered. */
+static void ask(struct worker *w, struct slot *s)
+{
+	uint8_t eap[TUV_PACKET_MAX];
+	size_t eap_len = tuv_end_packet(&s->end, eap, sizeof(eap));
+
+	if (eap_len > 5 && eap[4] == asked.kind && rand_r(&w->seed) % 100 < asked.altered)
+		eap[5 + rand_r(&w->seed) % (eap_len - 5)] ^= 1 << rand_r(&w->seed) % 8;
+	ask_by(s, eap, eap_len);
+}
+
+/* A Response of another Type to this Request. */
+static void ask_otherwise(struct slot *s, const uint8_t *request)
+{
+	const uint8_t eap[] = { 2, request[1], 0, 6, asked.type, asked.octet };
+
+	ask_by(s, eap, sizeof(eap));
 }
 
 /* The next login of a worker begins in a slot, by the answer to a Request for the identity. */
@@ -293,6 +310,8 @@ static void hear(struct worker *w, struct slot *s, uint8_t *p, size_t len)
 		return;
 	turn = tuv_end_deliver(&s->end, r.eap, r.eap_len);
 	if (p[0] == CHALLENGE && asked.only_begins) {
+		if (asked.type)
+			ask_otherwise(s, r.eap);
 		close_slot(w, s, turn.sends);
 	} else if (p[0] == CHALLENGE && turn.sends) {
 		ask(w, s);
@@ -428,7 +447,7 @@ static void write_user(char form, int user)
 static int usage(void)
 {
 	fputs("usage: load PORT SECRET KIND SUITE LOGINS AT_ONCE USERS [THREADS [ALTERED]]\n"
-	      "       load begin PORT SECRET KIND SUITE LOGINS AT_ONCE USERS [STATIONS]\n"
+	      "       load begin PORT SECRET KIND SUITE LOGINS AT_ONCE USERS [STATIONS [TYPE OCTET]]\n"
 	      "       load keys freeradius|sql|gpsk|psk USERS\n", stderr);
 	return 2;
 }
@@ -459,8 +478,12 @@ static void read_words(int count, char **words)
 		asked.stations = number_of(words[7], 1, 1000000);
 	else if (count > 7)
 		asked.threads = number_of(words[7], 1, 64);
-	if (count > 8)
+	if (count > 9) {
+		asked.type = number_of(words[8], 3, 255);
+		asked.octet = number_of(words[9], 0, 255);
+	} else if (count > 8) {
 		asked.altered = number_of(words[8], 0, 100);
+	}
 }
 
 static int compare(const void *one, const void *two)
@@ -519,7 +542,7 @@ int main(int argc, char **argv)
 	}
 	asked.only_begins = argc > 1 && strcmp(argv[1], "begin") == 0;
 	argc -= asked.only_begins, argv += asked.only_begins;
-	if (argc < 8 || argc > (asked.only_begins ? 9 : 10))
+	if (argc < 8 || argc > (asked.only_begins ? 11 : 10) || (asked.only_begins && argc == 10))
 		return usage();
 	read_words(argc - 1, argv + 1);
 	return run();

@@ -1,62 +1,194 @@
-"""Follows docs/SERVERS.md from its first command to its last, for c/freeradius/check, over a copy of this machine's files
-(apart): from one without FreeRADIUS on, which is installed, and whose source is fetched. Where the source is given, there is
-no network, and the copy has FreeRADIUS with its stock configuration.
+#!/usr/bin/env -S python3 -B
+"""Follows docs/SERVERS.md from its first command to its last, under Debian's systemd over a copy of this machine's files
+(apart), as root: from a machine without FreeRADIUS and PostgreSQL on, which are installed, and whose source is fetched. Behind
+each store it makes 64 logins at once while keys change, and then what an operator may meet.
 
-What stands for the machine's own: sudo; systemctl; and apt-get, which alone is in the machine's network.
+    c/freeradius/page.py FOLDER [SOURCE]
+
+FOLDER is one in which c/freeradius/build has built. Where the source is given, there is no network, and what is installed is
+taken with its stock configuration. What stands for the machine's own is sudo, where it isn't there, and apt-get, which alone
+is in the machine's network. The last line is `page: N passed, M failed`, and the status is 0 where M is 0.
 """
 
 from __future__ import annotations
 
+import os
 import pathlib
 import re
 import subprocess
+import sys
+import time
+from concurrent.futures import ThreadPoolExecutor
 
 import servers
 
+import ends
+
 HERE = pathlib.Path(__file__).resolve().parent
-# What goes before the commands.
-BEFORE = r"""set -eu
-echo "---- begun"
-mkdir -p /page/bin
-cd /page
-ln -s {root}/c .
-PATH=/page/bin:/usr/sbin:/usr/bin:/sbin:/bin
-printf '#!/bin/sh\nexit 101\n' >/usr/sbin/policy-rc.d
-printf '#!/bin/sh\nexec "$@"\n' >bin/sudo
-printf '#!/bin/sh\nexec nsenter --net=/proc/self/fd/9 /usr/bin/apt-get "$@"\n' >bin/apt-get
-printf '#!/bin/sh\nservice "$2" stop\nexec service "$2" start\n' >bin/systemctl
-chmod 755 bin/* /usr/sbin/policy-rc.d
-"""
-FRESH = """apt-get -qq -y purge 'freeradius*' 'libfreeradius*' eapoltest libtalloc-dev sqlite3 >purged 2>&1 || cat purged
+LOG = pathlib.Path("/var/log/freeradius/radius.log")
+PLACE = pathlib.Path("/page")
+WRAPPERS = {
+    "sudo": 'if [ "$1" = -u ]; then user=$2; shift 2; exec runuser -u "$user" -- "$@"; fi\nexec "$@"',
+    "apt-get": 'exec nsenter --net=/apart/net /usr/bin/apt-get "$@"',
+}
+FRESH = """export DEBIAN_FRONTEND=noninteractive
+apt-get -qq -y purge 'freeradius*' 'libfreeradius*' eapoltest libtalloc-dev sqlite3 'postgresql*' >purged 2>&1 || cat purged
 rm -rf /etc/freeradius /var/log/freeradius
 ! command -v freeradius || exit 3
 """
-# (dave's login is refused, which is what the page promises)
-BEHIND = """
-eapol_test -c more/dave.conf -a 127.0.0.1 -s testing123 && exit 1
-service freeradius stop
-echo "---- log"
-cat /var/log/freeradius/radius.log
-echo "---- keys"
-cat */radcheck.sql
-"""
+STORES = {
+    "sqlite": ["sqlite3", "-cmd", ".timeout 5000", "/var/lib/freeradius/users.db"],
+    "PostgreSQL": ["runuser", "-u", "freerad", "--", "psql", "-q", "radius"],
+}
+LOGINS, AT_ONCE = 5000, 64
+# Logins that nobody goes on with, and the real ones beside them.
+OPENED, BESIDE, MOST_MEGABYTES = 20000, 2000, 850
 
 
 def blocks(language: str) -> list[str]:
     return re.findall(rf"^```{language}\n(.*?)^```$", servers.PAGE.read_text(), re.M | re.S)
 
 
-def follow(work: str, source: str) -> tuple[bool, int, str, str]:
-    """Whether it could be begun here, its status, all that the commands wrote, and what the server logged."""
-    commands = "".join(blocks("sh"))
-    if source:
-        commands = commands.replace("modules fetch", f"modules {source}")
-    script = BEFORE.format(root=servers.ROOT) + ("" if source else FRESH) + commands + BEHIND
-    words = [f"{HERE}/apart", work, "sh", "-c", script]
-    # (descriptor 9 is the machine's network)
-    done = subprocess.run(words, stdout=subprocess.PIPE, stderr=subprocess.STDOUT, close_fds=False)
-    against, begun, written = done.stdout.decode("latin-1").partition("---- begun\n")
-    said, _, rest = written.partition("---- log\n")
-    log, _, keys = rest.partition("---- keys\n")
-    servers.know(keys)
-    return bool(begun), done.returncode, said if begun else against.strip(), log
+class Page:
+    passed = failed = 0
+
+    def __init__(self, work: str) -> None:
+        self.work, self.said = work, ""
+
+    def that(self, named: str, is_so: bool, said: str = "") -> None:
+        Page.passed += bool(is_so)
+        Page.failed += not is_so
+        print(f"page: {named}{'' if is_so else ' FAILED'}", flush=True)
+        if not is_so:
+            print("\n".join(f"    {line}" for line in said.splitlines()[-12:]), flush=True)
+
+    def run(self, commands: str, named: str) -> None:
+        words = ["sh", "-eu", "-c", commands]
+        pipe, none = subprocess.PIPE, subprocess.DEVNULL
+        done = subprocess.run(words, cwd=PLACE, stdin=none, stdout=pipe, stderr=subprocess.STDOUT, errors="replace")
+        self.said += done.stdout
+        self.that(named, done.returncode == 0, done.stdout)
+        servers.know("".join(it.read_text() for it in PLACE.glob("*/radcheck.sql")))
+
+    def store(self, name: str, rows: str) -> None:
+        done = subprocess.run(STORES[name], input=rows, text=True, stdout=subprocess.PIPE, stderr=subprocess.STDOUT)
+        if done.returncode or "rror" in done.stdout:
+            raise ends.Failed(f"{name}: {done.stdout[-400:]}")
+
+    def logins(self, named: str, done: servers.Load, least: int) -> None:
+        self.that(f"{named}: {done.said}", done.good == least and done.mismatches == 0, done.said)
+
+    def over(self, name: str) -> None:
+        """64 logins at once over a store in which second keys come and go."""
+        self.store(name, f"BEGIN;\n{servers.keys_of(self.work, 'sql')}COMMIT;\n")
+        more = "INSERT INTO radcheck (username, attribute, op, value) VALUES ('user{}', 'Tuvaddri-GPSK-Key', '+=', '0x{}');\n"
+        with ThreadPoolExecutor() as beside:
+            done = beside.submit(servers.load, self.work, "GPSK 1", LOGINS, AT_ONCE, 4)
+            while not done.done():
+                added = "".join(more.format(it, os.urandom(32).hex()) for it in range(0, servers.USERS, 10))
+                self.store(name, f"BEGIN;\n{added}COMMIT;\n")
+                time.sleep(0.2)
+                self.store(name, "BEGIN;\nDELETE FROM radcheck WHERE op = '+=' AND username LIKE 'user%';\nCOMMIT;\n")
+        self.logins(f"{name}, {AT_ONCE} at once while keys change", done.result(), LOGINS)
+
+    def station(self, conf: str) -> servers.Station:
+        return servers.log_in(str(PLACE / conf))
+
+    def last(self, pattern: str) -> bool:
+        return bool(re.search(pattern, LOG.read_text("latin-1").splitlines()[-1]))
+
+    def lost_store(self) -> None:
+        """The database stops, and comes back."""
+        subprocess.run(["systemctl", "stop", "postgresql"], check=True)
+        done = self.station("more/carol.conf")
+        is_told = self.last("user=.carol.* reason=no-store: ")
+        self.that("no login without the database, which the log says", not done.is_good and is_told, done.said)
+        subprocess.run(["systemctl", "start", "postgresql"], check=True)
+        time.sleep(6)
+        done = self.station("more/carol.conf")
+        self.that("it is back, and so are logins", done.is_good, done.said)
+
+    def reply(self) -> None:
+        rows = "INSERT INTO radreply (username, attribute, op, value) VALUES ('carol', 'Tunnel-Private-Group-Id', '=', '42');\n"
+        self.store("PostgreSQL", rows)
+        said = self.station("more/carol.conf").said
+        self.that("a user's VLAN arrives", bool(re.search(r"\(Tunnel-Private-Group-Id\) length=4\n *Value: 3432", said)), said)
+
+    def flood(self) -> None:
+        """Logins that nobody goes on with take none from others, and no memory for good."""
+        users = servers.RADDB / "mods-config/files/authorize"
+        users.write_text(users.read_text() + servers.keys_of(self.work, "freeradius"))
+        self.store("PostgreSQL", "DELETE FROM radcheck WHERE username LIKE 'user%';\n")
+        subprocess.run(["systemctl", "restart", "freeradius"], check=True)
+        for named in servers.FLOODS:
+            with ThreadPoolExecutor() as beside:
+                other = beside.submit(servers.flood, self.work, named, OPENED)
+                done = servers.load(self.work, "GPSK 1", BESIDE, 8)
+            self.logins(f"beside {OPENED} {named} ({other.result().rate:.0f} a second)", done, BESIDE)
+        pid = subprocess.run(["systemctl", "show", "-P", "MainPID", "freeradius"], stdout=subprocess.PIPE, text=True).stdout.strip()
+        status = pathlib.Path(f"/proc/{pid}/status").read_text()
+        most = int(re.findall(r"VmHWM:\s+(\d+)", status)[0]) / 1000
+        self.that(f"the server has taken {most:.0f} MB at most", most < MOST_MEGABYTES, status)
+
+    def follow(self, source: str) -> None:
+        commands = blocks("sh")
+        middle = next(number for number, it in enumerate(commands) if "postgresql" in it)
+        before = "" if source else FRESH
+        first = "".join(commands[:middle]).replace("modules fetch", f"modules {source or 'fetch'}")
+        self.run(before + first, "its commands, up to those for PostgreSQL, end well")
+        self.over("sqlite")
+        if source:
+            subprocess.run(["systemctl", "start", "postgresql"])
+        self.run("".join(commands[middle:]), "its other commands end well")
+        self.over("PostgreSQL")
+
+    def judge(self) -> None:
+        count = "".join(blocks("sh")).count("eapol_test -c")
+        logins = [len(re.findall(it, self.said, re.M)) for it in ("^SUCCESS$", "^MPPE keys OK: 1  mismatch: 0$")]
+        self.that(f"its {count} logins succeed, with the same link keys", logins == [count, count], str(logins))
+        self.that("the barred user is refused", not self.station("more/dave.conf").is_good)
+        self.lost_store()
+        self.reply()
+        self.flood()
+        log = LOG.read_text("latin-1")
+        for line in "".join(blocks("text")).splitlines():
+            self.that(f"its line is in the log: {line[:40]}..", f" : Auth: {line}\n" in log, log[-2000:])
+        self.that("its counts are the status server's", '"EAP-GPSK proved=1"' in self.said, self.said)
+        self.that("nothing of a key is in its log", bool(log) and not servers.keys_in(log))
+
+
+def inside(work: str, source: str) -> None:
+    (PLACE / "bin").mkdir(parents=True)
+    (PLACE / "c").symlink_to(servers.ROOT / "c")
+    for name, text in WRAPPERS.items():
+        (PLACE / "bin" / name).write_text(f"#!/bin/sh\n{text}\n")
+        (PLACE / "bin" / name).chmod(0o755)
+    os.environ["PATH"] = f"{PLACE}/bin:{os.environ['PATH']}"
+    page = Page(work)
+    try:
+        page.follow(source)
+        page.judge()
+    except Exception as fault:
+        page.that("it can't go on", False, str(fault) or repr(fault))
+    print(f"page: {Page.passed} passed, {Page.failed} failed")
+    sys.exit(1 if Page.failed else 0)
+
+
+def main() -> int:
+    words = sys.argv[1:]
+    if words[:1] == ["inside"]:
+        inside(words[1], words[2] if len(words) > 2 else "")
+    if not 1 <= len(words) <= 2 or words[0].startswith("-"):
+        print(__doc__)
+        return 1
+    again = [sys.executable, "-B", f"{HERE}/page.py", "inside", *map(os.path.realpath, words)]
+    # (descriptor 9 may be the machine's network)
+    status = subprocess.run([f"{HERE}/apart", words[0], "env", f"EAP_LOGIN={ends.program()}", *again], close_fds=False).returncode
+    if status == 3:
+        print("page: not run: docs/SERVERS.md: systemd can't be begun over a copy of this machine's files\npage: 0 passed, 0 failed")
+        return 0
+    return status
+
+
+if __name__ == "__main__":
+    ends.run("page.py", main)

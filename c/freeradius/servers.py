@@ -20,6 +20,8 @@ SECRET, HOME_SECRET = "testing123", "homesecret"
 PORT, HOMES = 1812, ("127.0.0.2", "127.0.0.3")
 PAGE = ROOT / "docs/SERVERS.md"
 USERS = 1000
+# Logins that nobody goes on with, by `load begin`: their second packet is none, or a Response of a Type with an octet.
+FLOODS: dict[str, tuple[int, ...]] = {"left open": (), "of another Type": (4, 0), "left open by the other method": (3, 47)}
 
 
 def part(name: str) -> list[str]:
@@ -176,16 +178,14 @@ def edit(file: pathlib.Path, *edits: tuple[str, str]) -> None:
 
 def put_server(work: str, folder: pathlib.Path, told: Mapping[str, str]) -> None:
     """What isn't the site's: folders, who runs it, no second before a reject, and what the words say."""
-    folders = [(f"^{it} = .*", f"{it} = {folder}") for it in ("logdir", "raddbdir", "run_dir")]
-    edit(folder / "radiusd.conf", *folders, ("^libdir = ", f"libdir = {work}:"), ("^\t(user|group) = .*", ""), ("reject_delay = 1", "reject_delay = 0"))
+    edits = [(f"^{it} = .*", f"{it} = {folder}") for it in ("logdir", "raddbdir", "run_dir")]
+    edits += [("^libdir = ", f"libdir = {work}:"), ("^\t(user|group) = .*", ""), ("reject_delay = 1", "reject_delay = 0")]
     if told["threads"]:
-        edit(folder / "radiusd.conf", ("^\t(start_servers|max_servers) = .*", ""), ("^thread pool {", THREADS.replace("COUNT", told["threads"])))
+        edits += [(f"^\t{it} = .*", f"\t{it} = {told['threads']}") for it in ("start_servers", "max_servers")]
+    edit(folder / "radiusd.conf", *edits)
     edit(folder / "clients.conf", ("testing123", told["secret"]))
     eap = f'default_eap_type = {told["first"]}\n\ttimer_expire = {told["timer"]}'
     edit(folder / "mods-available/tuvaddri-eap", ("default_eap_type = gpsk", eap), ("65536", told["sessions"]))
-
-
-THREADS = "thread pool {\n\tstart_servers = COUNT\n\tmax_servers = COUNT"
 
 
 def put_site(work: str, folder: pathlib.Path, site: str, told: Mapping[str, str]) -> None:
@@ -297,6 +297,12 @@ class Load(NamedTuple):
 
 
 LOAD = re.compile(r"\d+ logins: (\d+) good, \d+ bad, (\d+) mppe mismatches, .* s, (\d+) logins/s")
+
+
+def flood(work: str, named: str, count: int, at_once: int = 100) -> Load:
+    """As many of FLOODS, each from a station of its own."""
+    words = FLOODS[named]
+    return load(work, "GPSK 1", count, at_once, *((count, *words) if words else ()), begins=True)
 
 
 def load(work: str, method: str, count: int, at_once: int, *words: int, begins: bool = False) -> Load:
