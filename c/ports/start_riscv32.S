@@ -7,6 +7,11 @@ _start:
 	la gp, __global_pointer$
 	.option pop
 	la tp, __tls_base
+	# (the page that .data ends in is the file's)
+	la a0, __bss_start
+	li a1, 0
+	la a2, __bss_size
+	call memset
 	lw a0, 0(sp)
 	addi a1, sp, 4
 	andi sp, sp, -16
