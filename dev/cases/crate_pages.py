@@ -14,11 +14,12 @@ from cases.lib.small import Run, holds, texts_of
 
 
 def case_page(_: Run) -> Iterator[Optional[str]]:
-    """A caller has 5 to 15 lines, and a call its first sentence and its clauses; what isn't public is left out."""
+    """A crate's page has its types without what isn't open, its calls with signature, clauses and definitions, and the caller
+    that is named for it."""
     texts = texts_of("dev/cases/pages.texts")
     repository = Repository(texts)
     for crate in repository.crates:
-        page = "\n".join(page_of(repository, crate)) + "\n"
+        page = "\n".join(page_of(repository, crate, {"low": "high::middle"})) + "\n"
         yield holds(page == texts[f"crates/{crate}/README.md"], f"the page of {crate} is another one: {page}")
 
 
@@ -29,7 +30,7 @@ def case_every_crate(_: Run) -> Iterator[Optional[str]]:
         file = next(it for name in ("lib", "main") if (it := ROOT / f"crates/{crate}/src/{name}.rt").is_file())
         head = re.match(r"(?://!.*\n)*", file.read_text())
         yield holds(head and 1 <= head[0].count("\n") <= 3 and len(page.split("\n")[2]) > 20, f"{crate} doesn't say in three lines what it is")
-        bare = re.findall(r"(?m)^- (`[^`]*`):\s*(?:\*|$)", page)
+        bare = re.findall(r"(?m)^### (`[^`]*`)\n\n\n", page)
         yield holds(not bare, f"{crate} doesn't say what {', '.join(bare)} do")
         if "use " in file.read_text():
-            yield holds(re.search("## Its (calls|laws)", page) or crate in ("eap_base", "eap_login_main", "part_tests", "call_tests"), f"{crate} has no call")
+            yield holds(re.search("## Its (calls|laws)", page) or crate in ("eap_base", "eap_login_main", "own_method", "part_tests", "call_tests"), f"{crate} has no call")

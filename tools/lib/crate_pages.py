@@ -11,9 +11,37 @@ from lib.common import Refused
 from lib.sources import Call, Item, Repository, exports_of
 
 # A proved function above the crate that a reader looks at first.
-CALLERS: dict[str, str] = {}
-
-LEAST, MOST = 5, 15
+CALLERS = {
+    "octet_lists": "login_keys::master_key",
+    "octet_io": "command_driver::drive",
+    "login_setup": "eap_method::key_for",
+    "aes_block": "cmac_mac::CmacKey::new",
+    "cmac_mac": "eap_method::mac_s",
+    "hmac_mac": "login_keys::hmac_tag",
+    "eax_mode": "psk_ends::seal",
+    "login_keys": "gpsk_ends::Keys::new",
+    "eap_packet": "access_point::name_in",
+    "gpsk_messages": "gpsk_ends::Keys::is_tagged",
+    "psk_messages": "psk_ends::write_psk1",
+    "radius_carry": "access_point::AccessPoint::from_server",
+    "eapol_capture": "capture_commands::judge_file",
+    "login_policy": "peer_machine::PeerMachine::first_request",
+    "eap_method": "own_method::Counted::handle",
+    "capture_check": "capture_commands::Check::new",
+    "psk_ends": "eap_login_main::run_over_boxes",
+    "gpsk_ends": "eap_login_main::run_over_boxes",
+    "end_objects": "tuvaddri_c::tuv_peer_method_begin",
+    "peer_machine": "supplicant::Supplicant::receive",
+    "server_machine": "login_server::Session::answer",
+    "pass_through": "access_point::AccessPoint::from_station",
+    "tag_book": "eap_world::World::tags",
+    "eap_world": "trace_text::write_end",
+    "scenario_text": "world_commands::Replay::new",
+    "end_pipe": "end_commands::End::new",
+    "command_driver": "capture_commands::check_capture",
+    "eap_login": "login_run::answer",
+    "login_run": "eap_login_main::run_over_boxes",
+}
 
 
 def sentence_of(comment: str) -> str:
@@ -97,34 +125,14 @@ def entry_of(repository: Repository, call: Call) -> Iterator[str]:
         yield from ("", f"Definitions: {links}.")
 
 
-def used_by(caller: Call, calls: list[Call], types: set[str]) -> set[Call]:
-    """Which of these calls a function makes, by their names, if its text or its signature has the type that they are of."""
-    def is_made(it: Call) -> bool:
-        name = it.name.rpartition("::")[2]
-        if name not in caller.code:
-            return False
-        if not it.owner:
-            return bool(re.search(rf"(?<![.\w]){name}(?:::<[^>]*>)?\(", caller.code))
-        if it.owner in types and re.search(rf"\b{it.owner}(?:::<[^>]*>)?::{name}\(", caller.code):
-            return True
-        return bool(re.search(rf"\.{name}\(", caller.code) and re.search(rf"\b{it.owner}\b", caller.code))
-    return {it for it in calls if is_made(it)}
-
-
-def caller_of(repository: Repository, crate: str) -> Optional[Call]:
-    """A proved function that uses the crate: the one that is named for it; else, of those above it that have 5 to 15 lines and
-    use most of its calls, the shortest."""
-    if name := CALLERS.get(crate):
-        found = next((it for it in repository.calls if it.place == name), None)
-        if found is None:
-            raise Refused(f"the caller of {crate}, {name}, isn't there")
-        return found
-    calls, above = calls_of(repository, crate), repository.above(crate)
-    types = {it.owner for it in calls if it.owner}
-    rows = [(-len(made), it.code.count("\n"), it.place, it) for it in repository.calls
-            if it.crate in above and LEAST <= it.code.count("\n") + 1 <= MOST and not it.is_empty
-            if (made := used_by(it, calls, types))]
-    return min(rows, key=lambda it: it[:3])[3] if rows else None
+def caller_of(repository: Repository, crate: str, callers: dict[str, str]) -> Optional[Call]:
+    """The proved function that is named as the crate's caller."""
+    if crate not in callers:
+        return None
+    found = next((it for it in repository.calls if it.place == callers[crate]), None)
+    if found is None:
+        raise Refused(f"the caller of {crate}, {callers[crate]}, isn't there")
+    return found
 
 
 def passed_on(repository: Repository, crate: str) -> dict[str, list[str]]:
@@ -134,7 +142,7 @@ def passed_on(repository: Repository, crate: str) -> dict[str, list[str]]:
     return {of: re.findall(r"\w+", names or name) for of, names, name in found if of in repository.crates}
 
 
-def page_of(repository: Repository, crate: str) -> Iterator[str]:
+def page_of(repository: Repository, crate: str, callers: dict[str, str] = CALLERS) -> Iterator[str]:
     yield from (f"# {crate}", "", repository.heading(crate), "")
     below, above = repository.below[crate], repository.above(crate)
     yield f"Built on: {', '.join(below) or 'the kit alone'}. Used by: {', '.join(above) or 'none'}."
@@ -142,7 +150,7 @@ def page_of(repository: Repository, crate: str) -> Iterator[str]:
         facade = "" if calls_of(repository, crate) else " It is a facade: no crate here stands on it but its test."
         yield from ("", "## What it re-exports", "", *([facade.strip(), ""] if facade else []))
         yield from (f"- of [{of}](../{of}/README.md): {', '.join(f'`{it}`' for it in given)}" for of, given in names.items())
-    caller = caller_of(repository, crate)
+    caller = caller_of(repository, crate, callers)
     if caller:
         head, _, rest = caller.code.partition("\n")
         yield from ("", f"## A caller: `{caller.place}`", "", "```rust", head.strip(), textwrap.dedent(rest), "```")

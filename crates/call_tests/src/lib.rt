@@ -5,6 +5,8 @@
 #[cfg(test)]
 mod call;
 #[cfg(test)]
+mod examples;
+#[cfg(test)]
 mod faults;
 #[cfg(test)]
 mod messages;

@@ -31,7 +31,7 @@ struct Named<S: eap_base::Source, W: eap_base::Sink> {
         eap_base::Identity,
         eap_base::Kinds,
         eap_base::Nonce,
-        eap_base::Octets,
+        eap_base::Octets<4>,
     ),
     secrets: (
         eap_base::Packet,
@@ -69,7 +69,7 @@ struct Own<S: octet_io::Source, W: octet_io::Sink> {
         octet_lists::Identity,
         octet_lists::Kinds,
         octet_lists::Nonce,
-        octet_lists::Octets,
+        octet_lists::Octets<4>,
     ),
     secrets: (
         octet_lists::Packet,

@@ -69,7 +69,7 @@ pub(crate) const LOGINS: [Login; 3] = [
 ];
 
 /// The settings of both ends, read from a scenario.
-fn settings_of(login: Login) -> Option<Setup>
+pub(crate) fn settings_of(login: Login) -> Option<Setup>
     ensures { IfSome result IsValidSetup }
 {
     let mut reader = ScenarioReader::new();
@@ -160,7 +160,7 @@ impl Sent {
 }
 
 /// True if both ends report, and the same.
-fn are_equal(peer: &Option<Report>, server: &Option<Report>) -> bool {
+pub(crate) fn are_equal(peer: &Option<Report>, server: &Option<Report>) -> bool {
     match (peer, server) {
         (Some(peer), Some(server)) => {
             (peer.method == server.method)

@@ -4,6 +4,7 @@
 use crate::call::ObjectWorld;
 use crate::worlds::{begun, step};
 use login_setup::Event;
+use octet_lists::GPSK_KIND;
 use scenario_text::{ItemKind, ScenarioReader};
 use std::alloc::Global;
 use std::process::Abort;
@@ -27,11 +28,13 @@ user alice 47 000102030405060708090a0b0c0d0e0f allowed
 ";
 
 /// Runs, which an empty line parts. Before each are the event of the first accepted tag that the other end didn't make
-/// earlier, and of the first that neither end did; 0 for none. The server's GPSK-Protected-Fail is delivered back to it
+/// earlier, the first that neither end did, and the first by EAP-GPSK under the peer's key that the other end didn't; 0
+/// for none. The server's GPSK-Protected-Fail is delivered back to it
 /// as a Response: it takes its own tag for that of the peer. A PSK-3 has the peer's own MAC_P for its MAC_S: the peer
 /// discards it. A GPSK-2 is one that alice made with the nonce of 32 octets 33: neither end of this run made its tag.
+/// Mallory, a user of the server with a key of her own, logs in: none of her tags is under the key of alice.
 const REFLECTIONS: &str = "\
-5 0
+5 0 5
 server-methods 51
 events
 deliver 1
@@ -40,7 +43,7 @@ deliver 3
 deliver 4
 inject server 0202001a3306000000034b4c4d6161d6f42a3e9cd94031007321
 
-0 0
+0 0 0
 server-methods 47
 events
 deliver 1
@@ -52,7 +55,7 @@ deliver 5
 deliver 6
 deliver 7
 
-3 3
+3 3 3
 server-methods 51
 events
 deliver 1
@@ -60,6 +63,14 @@ deliver 2
 inject server 0201007833020005616c69636500037372763333333333333333333333333333333333333333333333333333333333333333\
 2222222222222222222222222222222222222222222222222222222222222222000c000000000001000000000002000000000001\
 00000c8b3f9d1d9e2fc2eef761d905605153
+
+2 2 0
+server-methods 51
+user mallory 51 ffeeddccbbaa99887766554433221100ffeeddccbbaa99887766554433221100 allowed
+events
+inject server 0200000c016d616c6c6f7279
+inject server 0201007a330200076d616c6c6f7279000373727677777777777777777777777777777777777777777777777777777777777777772222222222222222222222222222222222222222222222222222222222222222000c0000000000010000000000020000000000010000eeb63fcc1dee263be2efec4a733eb141
+inject server 0202001833040000dedc525f284fb22c0c37f129cd836923
 ";
 
 /// The event of the first tag that wasn't made earlier, or 0.
@@ -83,9 +94,16 @@ fn run(rt: &impl Abort, world: &mut ObjectWorld, scenario: &str) -> Result<(), F
 }
 
 /// True if these are the two numbers.
-fn are_numbers(text: &str, one: u32, two: u32) -> bool {
+fn are_two(text: &str, one: u32, two: u32) -> bool {
     text.split_once(" ").is_some_and(|(first, second)| {
         first.parse::<u32>().ok() == Some(one) && second.parse::<u32>().ok() == Some(two)
+    })
+}
+
+/// True if these are the three numbers.
+fn are_numbers(text: &str, one: u32, two: u32, three: u32) -> bool {
+    text.split_once(" ").is_some_and(|(first, rest)| {
+        first.parse::<u32>().ok() == Some(one) && are_two(rest, two, three)
     })
 }
 
@@ -100,6 +118,7 @@ fn is_judged(rt: &impl Abort, alloc: Global, block: &str) -> Result<bool, Fail> 
         wanted,
         event_of(world.tags()),
         event_of(world.tags_either()),
+        event_of(world.tags_under(GPSK_KIND)),
     ))
 }
 

@@ -58,8 +58,12 @@ impl Source for SureSource {
 pub struct SureSink;
 
 impl SureSink {
+    ghost use Rattle.std.specs.Prelude.{◌≡◌};
+
     /// A sink that takes everything.
-    pub fn new() -> SureSink {
+    pub fn new() -> SureSink
+        ensures { result ≡ record { } }
+    {
         SureSink
     }
 }

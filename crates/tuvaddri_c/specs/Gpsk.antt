@@ -1,14 +1,15 @@
 -- What is of EAP-GPSK alone: the peer's name and the Failure-Code in a Response, the shared key, and the Session-Id of a
 -- login (RFC 5247 section 1.4).
-use Rattle.std.specs.Prelude.{◌++◌, ℕ, List, ◌∷◌, length, take, replicate, codes, nat_lt, nat_le, if◌then◌else◌, Option, Some, None, option_map, Result, Ok}
+use Rattle.std.specs.Prelude.{ℕ, List, length, take, replicate, nat_lt, nat_le, if◌then◌else◌, Option, Some, None, option_map, Result, Ok}
 use Rattle.octet_lists.specs.Among.{gpsk_kind}
-use Rattle.octet_lists.specs.Suite.{ks_of, suite_octets}
+use Rattle.octet_lists.specs.Suite.{ks_of}
 use Rattle.octet_lists.specs.declared.suite.Suite.{Suite}
 use Rattle.login_setup.specs.Users.{user_of}
 use Rattle.login_setup.specs.declared.users.User.{User}
 use Rattle.eap_packet.specs.declared.cause.Cause.{Cause}
 use Rattle.gpsk_messages.specs.Message.{Message, gpsk2, fail, protected_fail}
-use Rattle.login_keys.specs.Gpsk.{gkdf, input_string}
+use Rattle.login_keys.specs.Gpsk.{input_string}
+use Rattle.login_keys.specs.SessionId.{gpsk_id}
 use Rattle.tuvaddri_c.specs.Reports.{EndReport}
 use Rattle.tuvaddri_c.specs.declared.session.End.{End}
 use Rattle.tuvaddri_c.specs.declared.session.End.TheVariants as ends
@@ -41,14 +42,9 @@ end_key (ends.Server m) name = key_in m.vars.setup.users name
 end_key (ends.Backend m) name = key_in m.vars.setup.users name
 end_key (ends.Pass m) name = None
 
--- Method-ID = GKDF-16 (key, "Method ID" || EAP_Method_Type || CSuite_Sel || inputString) (RFC 5433 section 4)
-abbrev pub method_id : Suite → List ℕ → EndReport → List ℕ
-method_id suite key held = gkdf suite 16 key
-    (codes "Method ID" ++ gpsk_kind ∷ suite_octets suite ++ input_string held.nonces.peer held.report.id_p held.nonces.server held.report.id_s)
-
--- EAP-GPSK's Session-Id: its Type and the Method-ID
+-- EAP-GPSK's Session-Id
 abbrev pub gpsk_session_id : Suite → List ℕ → EndReport → List ℕ
-gpsk_session_id suite key held = gpsk_kind ∷ method_id suite key held
+gpsk_session_id suite key held = gpsk_id suite key (input_string held.nonces.peer held.report.id_p held.nonces.server held.report.id_s)
 
 -- the key that the standard uses: KS octets of zero
 abbrev pub zeros : Suite → Option (List ℕ)

@@ -1,8 +1,8 @@
 -- What is of EAP-PSK alone: the peer's name in a Response, and the Session-Id of a login.
-use Rattle.std.specs.Prelude.{◌++◌, ℕ, List, ◌∷◌, length, nat_le, if◌then◌else◌, Option, Some, None, Result, Ok}
-use Rattle.octet_lists.specs.Among.{psk_kind}
+use Rattle.std.specs.Prelude.{ℕ, List, length, nat_le, if◌then◌else◌, Option, Some, None, Result, Ok}
 use Rattle.eap_packet.specs.declared.cause.Cause.{Cause}
 use Rattle.psk_messages.specs.Message.{Message, psk2}
+use Rattle.login_keys.specs.SessionId.{psk_id}
 use Rattle.end_objects.specs.declared.objects.Nonces.{Nonces}
 
 -- ID_P of PSK-2 (RFC 4764 section 5.2)
@@ -10,9 +10,9 @@ abbrev pub psk_name : Result Message Cause → Option (List ℕ)
 psk_name (Ok (psk2 rand_s rand_p mac id_p)) = Some id_p
 psk_name read = None
 
--- EAP-PSK's Session-Id: its Type, RAND_P and RAND_S
+-- EAP-PSK's Session-Id
 abbrev pub psk_session_id : Nonces → List ℕ
-psk_session_id nonces = psk_kind ∷ nonces.peer ++ nonces.server
+psk_session_id nonces = psk_id nonces.peer nonces.server
 
 -- octets that are no longer than a Session-Id may be
 abbrev pub fitting : List ℕ → Option (List ℕ)
