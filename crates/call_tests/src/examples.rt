@@ -30,9 +30,7 @@ fn logs_in<P: PeerMethod, S: ServerMethod>(setup: Setup, methods: Methods<P, S>)
             Outcome::Send => {}
             Outcome::Success(report) => {
                 let stranger = receive(&mut station.peer, b"\x01\x00\x00");
-                return Some(
-                    are_equal(&Some(report), &server.report()) & stranger.cause.is_some(),
-                );
+                return Some(are_equal(&Some(report), &server.report()) & stranger.cause.is_some());
             }
             _ => return Some(false),
         }

@@ -62,7 +62,7 @@ impl SureSink {
 
     /// A sink that takes everything.
     pub fn new() -> SureSink
-        ensures { result ≡ record { } }
+        ensures { result ≡ record {} }
     {
         SureSink
     }
