@@ -56,8 +56,10 @@ def ways(command, inputs):
 
 def where_they_part(command, seen):
     """The functions in which two ways differ most."""
-    one, other = (collections.Counter(name for _, name in blocks(command, its[0])[1]) for its in list(seen.values())[:2])
-    parted = collections.Counter({name.decode(): abs(one[name] - other[name]) for name in {*one, *other}})
+    one, other = (collections.Counter(blocks(command, its[0])[1]) for its in list(seen.values())[:2])
+    parted = collections.Counter()
+    for it in {*one, *other}:
+        parted[it[1].decode()] += abs(one[it] - other[it])
     return ", ".join(f"{name} {count}" for name, count in parted.most_common(6) if count)
 
 
