@@ -55,12 +55,10 @@ def ways(command, inputs):
 
 
 def where_they_part(command, seen):
-    """The functions in which two ways differ most."""
-    one, other = (collections.Counter(blocks(command, its[0])[1]) for its in list(seen.values())[:2])
-    parted = collections.Counter()
-    for it in {*one, *other}:
-        parted[it[1].decode()] += abs(one[it] - other[it])
-    return ", ".join(f"{name} {count}" for name, count in parted.most_common(6) if count)
+    """The function of the last block that two ways have in common."""
+    one, other = (blocks(command, its[0])[1] for its in list(seen.values())[:2])
+    shared = next((n for n, (left, right) in enumerate(zip(one, other)) if left != right), min(len(one), len(other)))
+    return one[shared - 1][1].decode() if shared else ""
 
 
 def one_way(what, command, inputs, statuses=(0,)):
