@@ -232,6 +232,9 @@ class Next:
             yield self.world, [self.token("other-address")]
         if server.octets and server.octets == f.octets and (f.radius or f.message not in ENDS):
             yield self.on, self.asked_again()
+        if server.place < 0 and (server.id, server.message) == (f.id, f.message) and f.message not in ENDS and f.at - server.at >= TIMER:
+            yield self.on, []  # (the first of it isn't here)
+            return
         if f.radius and f.radius.request and any(
                 it.radius and it.radius.request is f.radius.request and it.octets != f.octets for it in self.near(True)):
             yield self.world, [self.token("two-replies")]
@@ -239,7 +242,9 @@ class Next:
             return
         if f.word == "malformed":
             for facts, found in self.misshaped():
-                world = self.on if found[0].name == "bad-shape" and f.id != server.id else self.world
+                # (of what was altered the message isn't known, but which Request it was)
+                known = server._replace(id=f.id, place=f.place, octets=f.octets, at=f.at, turn=f.turn)
+                world = self.on if found[0].name == "bad-shape" else self.world._replace(server=known)
                 yield world._replace(facts=world.facts | facts), found
         elif f.message == "Identity":
             yield from self.first_request()
@@ -299,7 +304,8 @@ class Next:
         """Whether a Request's Identifier follows that of the one before."""
         f, server = self.frame, self.server
         ahead = (f.id - server.id) % 256
-        if server.id < 0 or ahead == 1 or server.message in ENDS:
+        was = [it for it in self.world.seen if it.place == server.place]
+        if server.id < 0 or ahead == 1 or server.message in ENDS or ahead == 0 and was and self.is_explained(*was):
             return []
         return [self.token("back" if ahead > 128 or ahead == 0 else "jump", f.id, server.id)]
 
@@ -316,7 +322,7 @@ class Next:
             it.turn > server.turn or f.at - it.at < ANSWERED)]
         fresh = self.anew(self.on.server)
         if server.is_idle:
-            is_soon = server.message and f.at - server.at < SOON and not asked
+            is_soon = server.message and (f.at - server.at < SOON or any(f.at - it.at < DOUBLED for it in self.before)) and not asked
             yield fresh, [self.token("soon")] if is_soon else []
         elif self.before and self.before[0].place == server.place:
             pass  # (it is that again)

@@ -11,7 +11,7 @@ from lib import frames, macs, observed, packets, words, worlds
 from lib.captures import Capture
 from lib.common import grouped
 from lib.ladder import Ladder, Row
-from lib.machines import CHOICES, Token
+from lib.machines import CHOICES, ORDERED, Token
 from lib.observed import ENDS, Frame
 from lib.packets import FIRST, SECOND, Reading
 from lib.reasons import SENTENCES, Reason, Story, code_said, named, of_replay, said
@@ -57,8 +57,11 @@ class Login:
     def end(self) -> Optional[Frame]:
         """The Success, the Failure or the Access-Reject behind which the server doesn't go on."""
         its = [it for it in self.frames if it.is_down and it in self.own or it.message == "Reject"]
+        ends = [it for it in its if it.message in ENDS]
         last = next((it for it in reversed(self.frames) if it.message in ENDS and it.place in self.unsure), None)
-        return its[-1] if its and its[-1].message in ENDS else last if its and last and last.place > its[-1].place else None
+        # (what is behind it at the same time may have overtaken it)
+        is_end = bool(ends) and all(it.at - ends[-1].at <= ORDERED for it in its[its.index(ends[-1]) :])
+        return ends[-1] if is_end else last if its and last and last.place > its[-1].place else None
 
     def is_whole(self) -> bool:
         """Whether what isn't among the frames isn't in the capture either."""
