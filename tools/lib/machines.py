@@ -272,7 +272,7 @@ class Next:
         """What it means that the server sends what it sent last."""
         f, server = self.frame, self.server
         if f.radius:
-            return [] if any(it.turn > server.turn for it in self.near(False)) else [self.token("early", "no Request")]
+            return [] if self.tap.hides_peer or any(it.turn > server.turn for it in self.near(False)) else [self.token("early", "no Request")]
         was = next((it for it in self.world.seen if it.turn == server.turn), f)
         answers = self.answers(f.id, was.turn)
         is_refused = bool(answers) and all(it.word in MALFORMED for it in answers)

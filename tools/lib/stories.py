@@ -326,9 +326,10 @@ def reasons_of(login: Login, nonces: list[tuple[int, str]]) -> list[Reason]:
     return folded([*of_missing(login), *ordered, *of_others(login)])
 
 
-def story_of(login: Login, nonces: Nonces) -> Story:
+def story_of(login: Login, nonces: Nonces, is_brief: bool = False) -> Story:
+    """What came of a login; in brief without the reasons."""
     again = list(of_nonces(login, nonces))
-    reasons, has_nonce = reasons_of(login, again), bool(again)
+    reasons, has_nonce = [] if is_brief else reasons_of(login, again), bool(again)
     verdict, end = verdict_of(login), login.end
     if has_nonce:
         verdict = verdict.replace(said("verdict Success"), said("verdict nonce"))
@@ -349,8 +350,11 @@ def story_of(login: Login, nonces: Nonces) -> Story:
                  at=login.frames[0].at, until=login.frames[-1].at)
 
 
-def of_captures(found: Iterable[Capture], row_of: Callable[[str], Optional[Row]] = lambda _: None) -> Iterator[tuple[Capture, Story]]:
-    """What came of each login of captures, one after the other. Behind the last of a capture stands what was judged of all."""
+def of_captures(found: Iterable[Capture], row_of: Callable[[str], Optional[Row]] = lambda _: None,
+                most: Optional[int] = None) -> Iterator[tuple[Capture, Story]]:
+    """What came of each login of captures, one after the other, in brief of those above a number. Behind the last of a capture
+    stands what was judged of all."""
+    logins = 0
     last: Optional[tuple[Capture, Story]] = None
     nonces: Nonces = {}
     count = Counter[str]()
@@ -362,7 +366,8 @@ def of_captures(found: Iterable[Capture], row_of: Callable[[str], Optional[Row]]
             if last:
                 yield last
             count.update(it.word for it in login.frames if it.octets)
-            last = capture, story_of(Login(capture, login), nonces)
+            logins += 1
+            last = capture, story_of(Login(capture, login), nonces, most is not None and logins > most)
             for it in last[1].reasons:
                 it.row = row_of(it.packet)
     if last:
