@@ -64,6 +64,8 @@ def take_file(given: list[str], parser: Parser) -> tuple[str, list[str]]:
         return given[0], given[1:]
     if len(given) == 1 and not is_key(given):
         return given[0], []
+    if late := next((it for it in given if Path(it).is_file()), ""):
+        parser.error(f"{late} is a file, and stands first: FILE NAME KIND HEX")
     if len(given) % 3 == 1 and len(given) > 1 and not given[1:2] == ["51"]:
         parser.error(f"{given[0]} is no file, and of {len(given)} words each user takes three: NAME KIND HEX")
     return "-", given

@@ -11,6 +11,7 @@ from lib import frames, words
 from lib.texts import shown
 from lib.words import FAULTS, METHODS, PCAP_FAULTS, TEXTS, Field
 
+PACKED = {"\xfd7zXZ": "xz", "(\xb5/\xfd": "zstd", "BZh": "bzip2", "\x04\"M\x18": "lz4"}
 NUMBER = re.compile("0|[1-9][0-9]*")
 HEX = re.compile("[0-9a-fA-F]*")
 PASSPHRASE = "of a passphrase whose octets are the key, `printf %s PASS | xxd -p -c 64` writes the hex"
@@ -207,8 +208,12 @@ class Refusal:
             return "a mark of UTF-8 (ef bb bf) stands before it: `tail -c +4 FILE` leaves it out"
         if first.strip() in self.text.headers:
             return f"a space or another sign stands beside it: line 1 is just {wanted}"
-        if "\0" in first:
+        if packed := next((name for magic, name in PACKED.items() if first.startswith(magic)), ""):
+            return f"it is packed: `{packed} -dc FILE | ..`"
+        if first[:2] in ("\xff\xfe", "\xfe\xff") or any(first[it:8:2] == "\0" * 4 for it in (0, 1)):
             return "it has octets 00, as text in UTF-16 has: `iconv -f UTF-16 -t ASCII FILE` makes plain text of it"
+        if "\0" in first:
+            return "it has octets 00, so it is no text, nor a file of pcap, pcapng or snoop: `editcap -F pcap IN OUT` may make one of it"
         return "nothing stands before the header: " * (first == "" or first.startswith("#")) + f"line 1 is {wanted}"
 
     def word(self) -> str:
