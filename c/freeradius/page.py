@@ -99,11 +99,13 @@ class Page:
 
     def lost_store(self) -> None:
         """The database stops, and comes back."""
-        subprocess.run(["systemctl", "stop", "postgresql"], check=True)
+        cluster = subprocess.run(["pg_lsclusters", "-h"], stdout=subprocess.PIPE, text=True).stdout.split()[:2]
+        subprocess.run(["pg_ctlcluster", *cluster, "stop", "-m", "fast"], check=True)
         done = self.station("more/carol.conf")
         is_told = self.last("user=.carol.* reason=no-store: ")
         self.that("no login without the database, which the log says", not done.is_good and is_told, done.said)
-        subprocess.run(["systemctl", "start", "postgresql"], check=True)
+        subprocess.run(["pg_ctlcluster", *cluster, "start"], check=True)
+        # (retry_delay)
         time.sleep(6)
         done = self.station("more/carol.conf")
         self.that("it is back, and so are logins", done.is_good, done.said)
@@ -137,6 +139,7 @@ class Page:
         first = "".join(commands[:middle]).replace("modules fetch", f"modules {source or 'fetch'}")
         self.run(before + first, "its commands, up to those for PostgreSQL, end well")
         self.over("sqlite")
+        self.that("the barred user is refused", not self.station("more/dave.conf").is_good)
         if source:
             subprocess.run(["systemctl", "start", "postgresql"])
         self.run("".join(commands[middle:]), "its other commands end well")
@@ -146,7 +149,6 @@ class Page:
         count = "".join(blocks("sh")).count("eapol_test -c")
         logins = [len(re.findall(it, self.said, re.M)) for it in ("^SUCCESS$", "^MPPE keys OK: 1  mismatch: 0$")]
         self.that(f"its {count} logins succeed, with the same link keys", logins == [count, count], str(logins))
-        self.that("the barred user is refused", not self.station("more/dave.conf").is_good)
         self.lost_store()
         self.reply()
         self.flood()
