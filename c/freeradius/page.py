@@ -178,11 +178,12 @@ def inside(work: str, source: str) -> None:
 
 def main() -> int:
     words = sys.argv[1:]
+    if words in (["--help"], ["-h"]):
+        sys.exit(print(__doc__.strip()))
     if words[:1] == ["inside"]:
         inside(words[1], words[2] if len(words) > 2 else "")
     if not 1 <= len(words) <= 2 or words[0].startswith("-"):
-        print(__doc__)
-        return 1
+        sys.exit("usage: c/freeradius/page.py FOLDER [SOURCE]")
     again = [sys.executable, "-B", f"{HERE}/page.py", "inside", *map(os.path.realpath, words)]
     # (descriptor 9 may be the machine's network)
     status = subprocess.run([f"{HERE}/apart", words[0], "env", f"EAP_LOGIN={ends.program()}", *again], close_fds=False).returncode
