@@ -186,15 +186,6 @@ def radius_around(draw: Random, packet: bytes) -> bytes:
 # ---- What no word of the program reads.
 
 
-def case_logins(_: Run) -> Iterator[Optional[str]]:
-    """A login begins with an Identity behind an end, be that a Success or a Failure."""
-    good, refused = wire.Login(), [wire.Login().asked, wire.Login().named, wire.eap(4, 1)]
-    for login, wanted in (([*good.whole, *refused], [7, 3]), ([*refused, *refused], [3, 3]), ([*refused, *good.whole], [3, 7]),
-                            ([*good.whole[:4], *good.whole], [4, 7])):
-        found = [len(it) for it in ladder.logins_of(login)]
-        yield holds(found == wanted, f"logins of {found} packets, and not of {wanted}")
-
-
 def case_stations(_: Run) -> Iterator[Optional[str]]:
     """The station is who sends EAPOL-Start and Responses, or whom the RADIUS client calls so."""
     good = wire.Login()
