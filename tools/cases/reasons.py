@@ -100,7 +100,7 @@ def files() -> Iterator[tuple[str, bytes, str, str]]:
     yield "two interfaces", wire.pcapng(at_two([*WRONG])), REFUSED + ", interfaces", key
     yield "one of two interfaces", wire.pcapng([(1, *it) for it in wrong]), REFUSED, key
     again = [(0.001 * at, frame) for at, (_, frame) in enumerate(framed(*BAD.front, BAD.gpsk2, BAD.gpsk2, FAILURE))]
-    yield "one of two interfaces, a packet again", wire.pcapng([(1, *it) for it in again]), REFUSED, key
+    yield "one of two interfaces, a packet again", wire.pcapng([(1, *it) for it in again]), REFUSED + ", twice", key
     yield "snoop", wire.snoop(wrong), REFUSED, key
     for has_qos in (False, True):
         yield f"monitor mode, QoS {has_qos}", wire.pcap([(at, wire.in_air(it, has_qos)) for at, it in wrong], link=127), REFUSED, key

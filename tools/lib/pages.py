@@ -77,6 +77,12 @@ def anchors_of(page: Path) -> Set[str]:
     return {re.sub(r"[^\w\- ]", "", it).replace(" ", "-") for it in heads}
 
 
+@functools.lru_cache(maxsize=None)
+def lines_named(file: Path) -> Set[str]:
+    """The names by which a browser finds the lines of a source."""
+    return {f"L{number}" for number in range(1, file.read_text().count("\n") + 1)}
+
+
 # Links and names of files.
 
 
@@ -89,7 +95,7 @@ def check_links(check: Tally, page: Path, prose: Lines) -> None:
             to = (page.parent / path).resolve() if path else page
             fault = f"{page.relative_to(ROOT)}:{number}: the link {target} leads nowhere"
             if check.holds(to.exists(), fault) and anchor:
-                check.holds(to.suffix == ".md" and anchor in anchors_of(to), fault)
+                check.holds(anchor in (anchors_of(to) if to.suffix == ".md" else lines_named(to)), fault)
 
 
 class Tree:
@@ -117,7 +123,7 @@ class Tree:
         is_file = re.fullmatch(r"[\w./*-]+", word) and (is_below or re.fullmatch(rf"[\w/*-]+\.({'|'.join(ENDS)})", word))
         # (capitals stand for a name; what is built stands in out/)
         has_capitals = re.search(r"(^|[/_.-])[A-Z]+([/_.-]|$)", word.replace("README.md", ""))
-        return bool(is_file) and "/out/" not in word and not has_capitals or word == "README.md"
+        return bool(is_file) and "/out/" not in f"{word}/" and not has_capitals or word == "README.md"
 
 
 def check_names(check: Tally, tree: Tree, page: Path, prose: Lines) -> None:
