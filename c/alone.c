@@ -163,6 +163,62 @@ static void try_settings(size_t size, size_t at, uint8_t octet)
 	      "settings are handed on otherwise than they were given");
 }
 
+/* Reports of each size: what is known of them is written, and what lies behind it becomes 0. */
+#define REPORTS(name)								\
+	bool proved_##name(struct tuv_end *end, struct tuv_report *report);	\
+	bool proved_##name(struct tuv_end *end, struct tuv_report *report)	\
+	{									\
+		(void) end;							\
+		memset((uint8_t *) report + sizeof(size_t), 'r', sizeof(*report) - sizeof(size_t)); \
+		return true;							\
+	}
+
+REPORTS(tuv_end_report)
+REPORTS(tuv_peer_report)
+REPORTS(tuv_server_report)
+
+static void try_reports(size_t size, bool is_good)
+{
+	bool (*const calls_of[])(struct tuv_end *, struct tuv_report *) = {
+		tuv_end_report, tuv_peer_report, tuv_server_report
+	};
+	static union {
+		size_t size;
+		uint8_t octets[MOST + 8];
+	} room;
+	size_t whole = sizeof(struct tuv_report), known = size && size < whole ? size : whole, i, j;
+
+	for (i = 0; i < 3; i++) {
+		memset(&room, 'x', sizeof(room));
+		room.size = size;
+		holds(calls_of[i](NULL, (void *) &room) == is_good, "a report is given or refused by another size");
+		holds(room.size == size, "the size of a report changes");
+		for (j = sizeof(size); j < sizeof(room); j++)
+			holds(room.octets[j] == (!is_good || (j >= known && j >= size) ? 'x' : j < known ? 'r' : 0),
+			      "a report is written otherwise than its size says");
+	}
+}
+
+/* A handle that is dropped is closed, cleared and given back, once. */
+static unsigned int closed;
+
+void tuv_end_close(struct tuv_end *end)
+{
+	(void) end;
+	closed++;
+}
+
+static void try_drop(void)
+{
+	struct tuv_end end = { .at = rattle_alloc(64, 8).at };
+
+	closed = freed = 0;
+	memset(end.at, 'k', malloc_usable_size(end.at));
+	tuv_end_drop(&end);
+	tuv_end_drop(&end);
+	holds(closed == 1 && freed == 1 && !end.at, "a handle isn't dropped once");
+}
+
 static void try_border(void)
 {
 	static const size_t sizes[] = { 0, 1, 7, 8, 9, 72, 78, 79, 80, 81, 88, 96, 4088, 4095,
@@ -192,6 +248,15 @@ int main(void)
 	try_processor(bit_POPCNT, false);
 #endif
 	try_border();
+	try_reports(0, true);
+	try_reports(1, false);
+	try_reports(sizeof(struct tuv_report) - 8, false);
+	try_reports(sizeof(struct tuv_report), true);
+	try_reports(sizeof(struct tuv_report) + 8, true);
+	try_reports(MOST, true);
+	try_reports(MOST + 1, false);
+	try_reports(SIZE_MAX, false);
+	try_drop();
 	for (i = 0; i < 4; i++)
 		for (j = 0; j < 4; j++)
 			try_heap(sizes[i], sizes[j]);
