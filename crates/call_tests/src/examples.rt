@@ -9,6 +9,7 @@ use gpsk_ends::{GpskPeer, GpskServer};
 use login_run::methods_of;
 use login_server::Session;
 use login_setup::Setup;
+use octet_lists::{GPSK_KIND, PSK_KIND};
 use own_method::Counted;
 use own_proof::receive;
 use psk_ends::{PskPeer, PskServer};
@@ -55,6 +56,25 @@ fn goes(alloc: Global, login: Login) -> Result<bool, AllocError> {
     let psk_peer: Box<dyn PeerMethod> = Box::new(alloc, psk)?;
     let gpsk_server: Box<dyn ServerMethod> = Box::new(alloc, GpskServer::new())?;
     let psk_server: Box<dyn ServerMethod> = Box::new(alloc, PskServer::new())?;
+    goes_over(alloc, login, gpsk_peer, psk_peer, gpsk_server, psk_server)
+}
+
+/// The same over these four, if each is of its method.
+fn goes_over<P: PeerMethod, S: ServerMethod>(
+    alloc: Global,
+    login: Login,
+    gpsk_peer: P,
+    psk_peer: P,
+    gpsk_server: S,
+    psk_server: S,
+) -> Result<bool, AllocError> {
+    if gpsk_peer.kind() != GPSK_KIND
+        || psk_peer.kind() != PSK_KIND
+        || gpsk_server.kind() != GPSK_KIND
+        || psk_server.kind() != PSK_KIND
+    {
+        return Ok(false);
+    }
     let methods = methods_of(alloc, gpsk_peer, psk_peer, gpsk_server, psk_server)?;
     let Some(setup) = settings_of(login) else {
         return Ok(false);
