@@ -13,6 +13,8 @@ NAMED = re.compile(r"^[0-9a-f]+ +[0-9a-f]+ (?:R_\w+) +[0-9a-f]+ +(.+?)(?: [+-] [
 PART = re.compile(r"\.(?:part|isra|constprop|cold)\b.*$")
 # What calls itself does so for each method of an end, of which there are two.
 AGAIN = 3
+# Of machine.c: its room is what it clears, TUV_STACK_MAX or what the program says.
+CLEARS = "clear_room"
 BY_METHODS = re.compile(
     r"(?:eap_method::(?:peer|server)_objects::(?:call_(?:peer|server)_method|start_each|offer_method)"
     r"|(?:peer|server)_machine::machine::(?:object_of|has_object)"
@@ -32,7 +34,7 @@ def frames_of(path):
         for line in it:
             where, size, kind = line.rstrip("\n").rsplit("\t", 2)
             name = PART.sub("", re.sub(r"^.*?\.(?:ll|c|h)(?::\d+:\d+)?:", "", where))
-            if kind == "dynamic":
+            if kind == "dynamic" and name != CLEARS:
                 raise Unbounded(f"the frame of {name} has no fixed size")
             found[name] = max(int(size), found.get(name, 0))
     return found
@@ -90,4 +92,4 @@ def bounds(parts, renamed):
     if not frames or not any(calls.values()):
         raise Unbounded("no frames or no calls are known")
     found = deepest(frames, calls)
-    return {name: found[name] for name in found if name.startswith("tuv_") and name != "tuv_clear_stack"}
+    return {name: found[name] for name in found if name.startswith("tuv_") and not name.startswith("tuv_clear_stack")}
