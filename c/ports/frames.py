@@ -18,7 +18,7 @@ CLEARS = "clear_room"
 BY_METHODS = re.compile(
     r"(?:eap_method::(?:peer|server)_objects::(?:call_(?:peer|server)_method|start_each|offer_method)"
     r"|(?:peer|server)_machine::machine::(?:object_of|has_object)"
-    r"|end_objects::(?:soundness::are_distinct|constructors::add_(?:peer|server)s))(?:::<.*>)?"
+    r"|login_setup::soundness::are_distinct|end_objects::constructors::add_(?:peer|server)s)(?:::<.*>)?"
 )
 FUNCTION = re.compile(r'^define [^@\n]*@("?)([^"(\n]+)\1\(.*?\n}\n', re.S | re.M)
 
