@@ -88,6 +88,26 @@ SIZE(tuv_end_session_id, ID_ROOM, (end, room))
 SIZE(tuv_end_session_id_wpa, ID_ROOM, (end, room))
 SIZE(tuv_response_name, NAME_ROOM, (octets, len, room))
 
+/* --- a new end --- */
+
+/* (behind the border its slot has 8 octets, of which the program has 4) */
+#define NEW(name)								\
+	bool proved_##name(void **at);						\
+	bool name(void **at)							\
+	{									\
+		union {								\
+			void *at;						\
+			uint64_t slot;						\
+		} wide = { .slot = 0 };						\
+		bool made = proved_##name(&wide.at);				\
+										\
+		if (made)							\
+			*at = wide.at;						\
+		return made;							\
+	}
+
+NEW(tuv_end_new)
+
 /* --- the report --- */
 
 enum { REPORT_FRONT = offsetof(struct tuv_report, method),
