@@ -40,7 +40,8 @@ timer_reported held party.Server = refl
 call_reported : (held : HasReported) (all : Conversations) (sent : List Sent) (e : Event) → ((of : Party) → e ≡ event.Restart of → ⊥)
     → reported_unless held None (call_of all sent e) ≡ held
 call_reported held all sent (event.Deliver n) other = with_packet held (packet_numbered sent n) (octets_of (packet_numbered sent n))
-call_reported held all sent (event.Alter n place mask) other = with_packet held (packet_numbered sent n) (alteration (octets_of (packet_numbered sent n)) place mask)
+call_reported held all sent (event.Alter n place mask) other =
+    with_packet held (packet_numbered sent n) (alteration (octets_of (packet_numbered sent n)) place mask)
 call_reported held all sent (event.Cut n keep) other = with_packet held (packet_numbered sent n) (take keep (octets_of (packet_numbered sent n)))
 call_reported held all sent (event.Inject to octets) other = at_port held to octets
 call_reported held all sent (event.Timeout of) other = timer_reported held of
@@ -58,12 +59,14 @@ still_reported held parties all sent e other =
     sym (stays_reported held (first_skip (skip_table parties all sent e)) (call_of all sent e) (call_reported held all sent e other))
 
 -- an end that has a nonce left begins with none told
-peer_anew_by : (held : HasReported) (left : List Waiting) → reported_unless held (first_skip ((has_none left, NoNonce) ∷ [])) (next_call (λ (nonce : List ℕ). to_peer (peer_inputs.restart nonce)) left)
+peer_anew_by : (held : HasReported) (left : List Waiting)
+    → reported_unless held (first_skip ((has_none left, NoNonce) ∷ [])) (next_call (λ (nonce : List ℕ). to_peer (peer_inputs.restart nonce)) left)
     ≡ (if has_none left then held else record held { peer = false })
 peer_anew_by held [] = refl
 peer_anew_by held (one ∷ left) = refl
 
-server_anew_by : (held : HasReported) (left : List Waiting) → reported_unless held (first_skip ((has_none left, NoNonce) ∷ [])) (next_call (λ (nonce : List ℕ). to_server (server_inputs.restart nonce)) left)
+server_anew_by : (held : HasReported) (left : List Waiting)
+    → reported_unless held (first_skip ((has_none left, NoNonce) ∷ [])) (next_call (λ (nonce : List ℕ). to_server (server_inputs.restart nonce)) left)
     ≡ (if has_none left then held else record held { server = false })
 server_anew_by held [] = refl
 server_anew_by held (one ∷ left) = refl

@@ -76,7 +76,8 @@ each_unheard firsts (one ∷ left) marked =
     let others = each_unheard firsts left (All-tail (IsMarked firsts) one left marked) in
     rw (first, others) refl
 
-pub none_received : (firsts : List Bool) (octets : List ℕ) (left : List Waiting) → All (IsMarked firsts) left → left ≡ map (hears (drop (length octets - 0) octets)) left
+pub none_received : (firsts : List Bool) (octets : List ℕ) (left : List Waiting) → All (IsMarked firsts) left
+    → left ≡ map (hears (drop (length octets - 0) octets)) left
 none_received firsts octets left marked = sym (rw (drop_all (length octets - 0) octets (omega arith)) (each_unheard firsts left marked))
 
 -- what is marked of the nonces is marked of them with what has been heard
@@ -140,7 +141,8 @@ pub one_more_marked : (firsts after : List Bool) (nonces : List (List ℕ)) (i :
 one_more_marked firsts after nonces i d below size first stay so_far =
     All-more (λ (n : List ℕ). IsMarked after (waiting n)) nonces i d below
     (All-weaker (λ (n : List ℕ). IsMarked firsts (waiting n)) (λ (n : List ℕ). IsMarked after (waiting n))
-    (λ (other : List ℕ) (was : IsMarked firsts (waiting other)). record { size = was.size; first = stay (slice_index other 0) was.first }) (take i nonces) so_far)
+    (λ (other : List ℕ) (was : IsMarked firsts (waiting other)).
+    record { size = was.size; first = stay (slice_index other 0) was.first }) (take i nonces) so_far)
     (record { size = size; first = first })
 
 pub all_marked : (firsts : List Bool) (nonces : List (List ℕ)) (i : ℕ) → length nonces ≤ i → AreMarked firsts (take i nonces) → AreMarked firsts nonces

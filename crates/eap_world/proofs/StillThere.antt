@@ -32,7 +32,8 @@ module _ {S : Type 0} (shown : S → ServerShown) where
 
 module _ {P S : Type 0} (peer_shown : P → PeerShown) (server_shown : S → ServerShown) where
   pub still_there : (peer peer_after : PeerValue P) (server server_after : ServerValue S)
-      → PreservesObjects peer_shown server_shown peer.vars.setup.methods server.vars.setup.methods peer.methods server.methods peer_after.methods server_after.methods
+      → PreservesObjects peer_shown server_shown peer.vars.setup.methods server.vars.setup.methods
+      peer.methods server.methods peer_after.methods server_after.methods
       → peer_after.vars.setup.methods ≡ peer.vars.setup.methods → server_after.vars.setup.methods ≡ server.vars.setup.methods
       → HaveObjects peer_shown server_shown peer server → HaveObjects peer_shown server_shown peer_after server_after
   still_there peer peer_after server server_after kept peer_named server_named has = record {

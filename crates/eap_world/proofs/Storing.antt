@@ -23,7 +23,8 @@ all_stay octets more (slot ∷ rest) there =
 
 -- one more packet, whose octets stand at a place of what is stored
 pub one_more : (octets packet : List ℕ) (slots : List Slot) (port : Port) (place size : ℕ) → take size (drop place octets) ≡ packet
-    → packets_at octets (slots ++ (record { port = port; place = place; length = size }) ∷ []) ≡ packets_at octets slots ++ (record { port = port; octets = packet }) ∷ []
+    → packets_at octets (slots ++ (record { port = port; place = place; length = size }) ∷ [])
+    ≡ packets_at octets slots ++ (record { port = port; octets = packet }) ∷ []
 one_more octets packet slots port place size is =
     map-append (packet_at octets) slots _ ∙ ap (λ (o : List ℕ). packets_at octets slots ++ (record { port = port; octets = o }) ∷ []) is
 
@@ -32,14 +33,17 @@ pub stored_after : (octets packet : List ℕ) (slots : List Slot) (port : Port) 
     → packets_at (octets ++ packet) (slots ++ (record { port = port; place = length octets; length = size }) ∷ [])
     ≡ packets_at octets slots ++ (record { port = port; octets = packet }) ∷ []
 stored_after octets packet slots port size is there =
-    let whole : take size (drop (length octets) (octets ++ packet)) ≡ packet = rw (drop-append_seam octets packet, is) (take_all (length packet) packet (omega arith)) in
+    let whole : take size (drop (length octets) (octets ++ packet)) ≡ packet =
+    rw (drop-append_seam octets packet, is) (take_all (length packet) packet (omega arith)) in
     one_more (octets ++ packet) packet slots port (length octets) size whole
     ∙ ap (λ (front : List Sent). front ++ (record { port = port; octets = packet }) ∷ []) (all_stay octets packet slots there)
 
 -- the slots are there where there is more, with one more that is
-pub are_there : (count more : ℕ) (slots : List Slot) (slot : Slot) → count ≤ more → AreThere count slots → IsThere more slot → AreThere more (slots ++ slot ∷ [])
+pub are_there : (count more : ℕ) (slots : List Slot) (slot : Slot) → count ≤ more → AreThere count slots → IsThere more slot
+    → AreThere more (slots ++ slot ∷ [])
 are_there count more slots slot longer there is =
-    All-push (IsThere more) slots slot (All-weaker (IsThere count) (IsThere more) (λ s fits. record { enough = omega (arith, fits.enough, longer); fits = fits.fits }) slots there) is
+    All-push (IsThere more) slots slot
+    (All-weaker (IsThere count) (IsThere more) (λ s fits. record { enough = omega (arith, fits.enough, longer); fits = fits.fits }) slots there) is
 
 -- a packet that was found has the size of its slot
 pub found_at : (octets packet found : List ℕ) (place size : ℕ) → place + size ≤ length octets → found ≡ take size (drop place octets) → found ≡ packet
@@ -56,11 +60,13 @@ or_either : (b c : Bool) (first slot : Slot) (later : Option Slot)
 or_either b true first slot later = refl
 or_either b false first slot later = refl
 
-last_of : (port : Port) (front : List Slot) (slot : Slot) → last_slot port (front ++ slot ∷ []) ≡ (if same_port slot.port port then Some slot else last_slot port front)
+last_of : (port : Port) (front : List Slot) (slot : Slot)
+    → last_slot port (front ++ slot ∷ []) ≡ (if same_port slot.port port then Some slot else last_slot port front)
 unfolding last_slot
 last_of port [] slot = refl
 last_of port (first ∷ rest) slot =
-    ap (or_slot (same_port first.port port) first) (last_of port rest slot) ∙ or_either (same_port first.port port) (same_port slot.port port) first slot (last_slot port rest)
+    ap (or_slot (same_port first.port port) first) (last_of port rest slot)
+    ∙ or_either (same_port first.port port) (same_port slot.port port) first slot (last_slot port rest)
 
 -- looked for from the end: a slot to another port is passed over, and one to the port is the last
 pub passes_over : (port : Port) (slots : List Slot) (n : ℕ) (d : Slot) → n < length slots → same_port (get_or slots n d).port port ≡ false
@@ -104,7 +110,8 @@ last_octets : (octets : List ℕ) (port : Port) (slots : List Slot)
 unfolding last_to last_slot
 last_octets octets port [] = refl
 last_octets octets port (slot ∷ rest) =
-    ap (or_last (same_port slot.port port) (packet_at octets slot).octets) (last_octets octets port rest) ∙ or_octets octets (same_port slot.port port) slot (last_slot port rest)
+    ap (or_last (same_port slot.port port) (packet_at octets slot).octets) (last_octets octets port rest)
+    ∙ or_octets octets (same_port slot.port port) slot (last_slot port rest)
 
 pub last_is : (octets packet : List ℕ) (port : Port) (slots : List Slot) (slot : Slot) → last_slot port slots ≡ Some slot
     → last_to port (packets_at octets slots) ≡ Some packet → (packet_at octets slot).octets ≡ packet
@@ -113,7 +120,8 @@ last_is octets packet port slots slot is last =
     ap (option_map (λ (s : Slot). (packet_at octets s).octets)) (sym is) ∙ (sym (last_octets octets port slots) ∙ last) in
     cc
 
-pub none_last : (octets packet : List ℕ) (port : Port) (slots : List Slot) → last_slot port slots ≡ None → last_to port (packets_at octets slots) ≡ Some packet → ⊥
+pub none_last : (octets packet : List ℕ) (port : Port) (slots : List Slot) → last_slot port slots ≡ None
+    → last_to port (packets_at octets slots) ≡ Some packet → ⊥
 none_last octets packet port slots is last =
     let none : None ≡ Some packet = ap (option_map (λ (s : Slot). (packet_at octets s).octets)) (sym is) ∙ (sym (last_octets octets port slots) ∙ last) in
     cc

@@ -13,7 +13,8 @@ run_of setup events = run_after (world_start (initial_world setup)).after events
 -- what a start, or an event, does to a world of a run: it goes on with the run
 module _ {P S : Type 0} (peer_shown : P → PeerShown) (server_shown : S → ServerShown) where
   abbrev pub StartsRun : WorldValue P S → WorldValue P S → Type 0
-  StartsRun before after = (setup : Setup) → now_of peer_shown server_shown before ≡ initial_world setup → now_of peer_shown server_shown after ≡ run_of setup []
+  StartsRun before after = (setup : Setup) → now_of peer_shown server_shown before ≡ initial_world setup
+      → now_of peer_shown server_shown after ≡ run_of setup []
 
   abbrev pub HasContinued : Event → WorldValue P S → WorldValue P S → Type 0
   HasContinued event before after = (setup : Setup) (events : List Event)

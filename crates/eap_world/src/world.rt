@@ -98,7 +98,8 @@ impl<P: PeerMethod, S: ServerMethod> World<P, S> {
     /// Whether [`World::new`] takes these settings with these objects.
     pub fn takes(setup: &Setup, methods: &Methods<P, S>) -> bool
         ensures { IsTrue result ↔ ((setup.now.max_retrans ≤ 10)
-            × (IsSoundPeer setup.now.peer × HasKeys setup.now.peer × (have_each (peer_kinds (map P.peer_shown methods.now.peer.items)) setup.now.peer.methods ≡ true))
+            × (IsSoundPeer setup.now.peer × HasKeys setup.now.peer
+            × (have_each (peer_kinds (map P.peer_shown methods.now.peer.items)) setup.now.peer.methods ≡ true))
             × IsSoundServer setup.now.server × (have_each (server_kinds (map S.server_shown methods.now.server.items)) setup.now.server.methods ≡ true)) }
     {
         PeerMachine::takes(&setup.peer, methods.peer.as_slice())

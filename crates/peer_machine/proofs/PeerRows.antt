@@ -93,7 +93,8 @@ module _ (now : PeerNow) where
 
   report-row : (report : PeerInput) (out : PeerAnswer) → ((bytes : List ℕ) → report ≡ octets bytes → ⊥) → ((nonce : List ℕ) → report ≡ restart nonce → ⊥)
       → (is_end now.vars.state ≡ false → PeerRow now report out) → PeerRow now report (unless_ended now out)
-  report-row report out no_octets no_restart row = cond_both (is_end now.vars.state) _ _ (PeerRow now report) (λ over. rests report no_octets no_restart over) row
+  report-row report out no_octets no_restart row =
+      cond_both (is_end now.vars.state) _ _ (PeerRow now report) (λ over. rests report no_octets no_restart over) row
 
   idle-row : is_end now.vars.state ≡ false → PeerRow now idle (peer_idle now)
   unfolding peer_idle

@@ -45,7 +45,8 @@ module _ (now : PeerNow) (octets : List ℕ) where
   expressing id kind body asks true last = again id kind body asks last
   expressing id kind body asks false new = expresses id kind body asks new
 
-  reads : now.vars.setup.expanded ≡ true → is_end now.vars.state ≡ false → (packet : Result PacketValue Cause) → packet_of octets ≡ packet → IsReceiving (peer_reads now octets packet)
+  reads : now.vars.setup.expanded ≡ true → is_end now.vars.state ≡ false → (packet : Result PacketValue Cause) → packet_of octets ≡ packet
+      → IsReceiving (peer_reads now octets packet)
   reads expanded going (Err c) is = as_it_is
   reads expanded going (Ok (response id kind body)) is = as_it_is
   reads expanded going (Ok (success id)) is = as_it_is

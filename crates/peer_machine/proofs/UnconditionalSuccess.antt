@@ -32,7 +32,8 @@ module _ (now : PeerNow) (won : HasUnconditionalSuccess now) where
   no_bad_end _ _ (late_accept fails over) none = not_both now.vars.decision fails won.sure
   no_bad_end _ _ by_reject none = none refl
 
-  row_stays : (input : PeerInput) (out : PeerAnswer) → PeerRow now input out → (input ≡ alt_reject → ⊥) → ((nonce : List ℕ) → input ≡ restart nonce → ⊥) → HasUnconditionalSuccess out.after
+  row_stays : (input : PeerInput) (out : PeerAnswer) → PeerRow now input out → (input ≡ alt_reject → ⊥)
+      → ((nonce : List ℕ) → input ≡ restart nonce → ⊥) → HasUnconditionalSuccess out.after
   row_stays _ _ (ended bytes over) no_reject no_restart = won
   row_stays _ _ (drops bytes path c going why) no_reject no_restart = won
   row_stays _ _ (rests report no_octets no_new over) no_reject no_restart = won
@@ -45,10 +46,13 @@ module _ (now : PeerNow) (won : HasUnconditionalSuccess now) where
   row_stays _ _ (ends_well input entered going sure why) no_reject no_restart =
       record { kind = won.kind; selected = won.selected; over = won.over; sure = won.sure; stands = refl }
   row_stays _ _ (ends_badly input entered going why) no_reject no_restart = absurd (no_bad_end input entered why no_reject)
-  row_stays _ _ (method_replies bytes selects id kind body packet m d tags views heard calls turn goes_on) no_reject no_restart = absurd (uncalled kind selects calls)
-  row_stays _ _ (method_fails bytes selects id kind body packet m d tags views heard calls turn has_failed) no_reject no_restart = absurd (uncalled kind selects calls)
+  row_stays _ _ (method_replies bytes selects id kind body packet m d tags views heard calls turn goes_on) no_reject no_restart =
+      absurd (uncalled kind selects calls)
+  row_stays _ _ (method_fails bytes selects id kind body packet m d tags views heard calls turn has_failed) no_reject no_restart =
+      absurd (uncalled kind selects calls)
 
-  answer_stays : (input : PeerInput) → (input ≡ alt_reject → ⊥) → ((nonce : List ℕ) → input ≡ restart nonce → ⊥) → HasUnconditionalSuccess (peer_answers now input).after
+  answer_stays : (input : PeerInput) → (input ≡ alt_reject → ⊥) → ((nonce : List ℕ) → input ≡ restart nonce → ⊥)
+      → HasUnconditionalSuccess (peer_answers now input).after
   answer_stays input = row_stays input (peer_answers now input) (peer_answers_are_rows now input)
 
   of_octets : (bytes : List ℕ) → HasUnconditionalSuccess (peer_answers now (octets bytes)).after

@@ -21,6 +21,7 @@ use Rattle.eap_method.specs.declared.values.Report.{Report}
 use Rattle.eap_method.specs.Peer.{PeerShown, peer_kind, PeerViews, peer_views, view_of, views_started, peer_turn, peer_report_of}
 use Rattle.eap_method.specs.Steps.{sends, enters, discards, is_end}
 use Rattle.eap_method.specs.Tags.{no_tags}
+use Rattle.eap_method.specs.Unnamed.{PreservesPeers}
 use Rattle.peer_machine.specs.declared.variables.PeerVariables.{PeerVariables}
 
 -- a machine as its fields show it: its variables and its objects
@@ -36,6 +37,12 @@ pub record PeerNow : Type 0 where
 -- what a machine is, if an object shows its method and view
 abbrev pub now_of : {M : Type 0} → (M → PeerShown) → PeerValue M → PeerNow
 now_of shown value = record { vars = value.vars; views = peer_views value.vars.setup.methods (map shown value.methods) }
+
+-- what no call of a peer changes but `restart`: its settings, the Types of its objects, and what the objects show whose
+-- methods the settings don't name
+pub record Preserves {M : Type 0} (shown : M → PeerShown) (before after : PeerValue M) : Type 0 where
+  pub objects : PreservesPeers before.vars.setup.methods (map shown before.methods) (map shown after.methods)
+  pub setup : after.vars.setup ≡ before.vars.setup
 
 -- what a call answers, and the machine after it
 pub record PeerAnswer : Type 0 where

@@ -43,7 +43,8 @@ pub data Drops (now : PeerNow) (bytes : List ℕ) : Cause → List State → Typ
   other_failure : (id : ℕ) (heard : Receives now bytes id (failure id) false) → Drops now bytes cause.IdMismatch unheard
   early_success : (id : ℕ) (heard : Receives now bytes id (success id) true) (fails : is_fail now.vars.decision ≡ true)
       (goes_on : is_cont now.vars.method_state ≡ true) → Drops now bytes cause.EarlySuccess unheard
-  late_failure : (id : ℕ) (heard : Receives now bytes id (failure id) true) (sure : is_uncond now.vars.decision ≡ true) → Drops now bytes cause.LateFailure unheard
+  late_failure : (id : ℕ) (heard : Receives now bytes id (failure id) true) (sure : is_uncond now.vars.decision ≡ true)
+      → Drops now bytes cause.LateFailure unheard
   early_failure : (id : ℕ) (heard : Receives now bytes id (failure id) true) (unsure : is_uncond now.vars.decision ≡ false)
       (goes_on : is_cont now.vars.method_state ≡ true) → Drops now bytes cause.EarlyFailure unheard
   late_notification : (id kind selected : ℕ) (body : List ℕ) (heard : Receives now bytes id (request id kind body) false)
@@ -77,7 +78,8 @@ pub data EndsBadly (now : PeerNow) : PeerInput → List State → Type 0 where
 pub data PeerRow (now : PeerNow) : PeerInput → PeerAnswer → Type 0 where
   -- after the end octets are discarded, and a report does nothing
   ended : (bytes : List ℕ) (over : is_end now.vars.state ≡ true) → PeerRow now (octets bytes) (answer (discards [] cause.Ended) now)
-  rests : (report : PeerInput) (no_octets : (bytes : List ℕ) → report ≡ octets bytes → ⊥) (no_restart : (nonce : List ℕ) → report ≡ restart nonce → ⊥) (over : is_end now.vars.state ≡ true)
+  rests : (report : PeerInput) (no_octets : (bytes : List ℕ) → report ≡ octets bytes → ⊥)
+      (no_restart : (nonce : List ℕ) → report ≡ restart nonce → ⊥) (over : is_end now.vars.state ≡ true)
       → PeerRow now report (answer (enters [] no_tags) now)
   -- a new conversation, whatever the peer's state was
   begins : (nonce : List ℕ) → PeerRow now (restart nonce) (peer_restart now nonce)

@@ -36,7 +36,7 @@ ghost use Rattle.eap_method.specs.Tags.{no_tags};
 ghost use Rattle.eap_method.specs.Tags as records;
 ghost use Rattle.eap_method.specs.Unnamed.{PreservesPeers};
 ghost use Rattle.peer_machine.specs.Expanded.{express};
-ghost use Rattle.peer_machine.specs.PeerTable.{before_method, method_answers, views_after, answer, is_allowed, first_of, selected_shown, selected_view};
+ghost use Rattle.peer_machine.specs.PeerTable.{Preserves, before_method, method_answers, views_after, answer, is_allowed, first_of, selected_shown, selected_view};
 ghost use Rattle.eap_method.specs.Peer.{IsRequest, PeerShown, PeerViews, have_each, peer_views, peer_turn, peer_kinds};
 
 use crate::variables::PeerVariables;
@@ -119,7 +119,8 @@ impl<M: PeerMethod> PeerMachine<M> {
     pub fn restart_step(&mut self, nonce: &Nonce) -> Step
         requires objects { have_each (peer_kinds (map M.peer_shown self.old.methods)) self.old.vars.setup.methods ≡ true }
         ensures step { peer_restart (now_of M.peer_shown self.old) nonce.now ≡ answer (step_with result [] no_tags) (now_of M.peer_shown self.new) }
-        ensures preserves { PreservesPeers self.old.vars.setup.methods (map M.peer_shown self.old.methods) (map M.peer_shown self.new.methods) }
+        ensures preserves { PreservesPeers self.old.vars.setup.methods
+            (map M.peer_shown self.old.methods) (map M.peer_shown self.new.methods) }
         ensures setup { self.new.vars.setup ≡ setup_with_nonce self.old.vars.setup nonce.now }
     {
         self.vars.setup.nonce = *nonce;
@@ -153,9 +154,9 @@ impl<M: PeerMethod> PeerMachine<M> {
         packet: &mut Packet,
         tags: &mut Tags<R>,
     ) -> Step
-        ensures step { peer_receives (now_of M.peer_shown self.old) octets.now ≡ answer (step_with result packet.new tags.new) (now_of M.peer_shown self.new) }
-        ensures preserves { PreservesPeers self.old.vars.setup.methods (map M.peer_shown self.old.methods) (map M.peer_shown self.new.methods) }
-        ensures setup { self.new.vars.setup ≡ self.old.vars.setup }
+        ensures step { peer_receives (now_of M.peer_shown self.old) octets.now
+            ≡ answer (step_with result packet.new tags.new) (now_of M.peer_shown self.new) }
+        ensures preserves { Preserves M.peer_shown self.old self.new }
     {
         tags.clear();
         if self.vars.setup.expanded {
@@ -171,8 +172,7 @@ impl<M: PeerMethod> PeerMachine<M> {
     pub fn idle_step(&mut self) -> Step
         requires { is_end self.old.vars.state ≡ false }
         ensures step { peer_idle (now_of M.peer_shown self.old) ≡ answer (step_with result [] no_tags) (now_of M.peer_shown self.new) }
-        ensures preserves { PreservesPeers self.old.vars.setup.methods (map M.peer_shown self.old.methods) (map M.peer_shown self.new.methods) }
-        ensures setup { self.new.vars.setup ≡ self.old.vars.setup }
+        ensures preserves { Preserves M.peer_shown self.old self.new }
     {
         if self.vars.decision == Decision::UncondSucc {
             end(&mut self.vars, State::Success)
@@ -187,8 +187,7 @@ impl<M: PeerMethod> PeerMachine<M> {
     pub fn alt_accept_step(&mut self) -> Step
         requires { is_end self.old.vars.state ≡ false }
         ensures step { peer_alt_accept (now_of M.peer_shown self.old) ≡ answer (step_with result [] no_tags) (now_of M.peer_shown self.new) }
-        ensures preserves { PreservesPeers self.old.vars.setup.methods (map M.peer_shown self.old.methods) (map M.peer_shown self.new.methods) }
-        ensures setup { self.new.vars.setup ≡ self.old.vars.setup }
+        ensures preserves { Preserves M.peer_shown self.old self.new }
     {
         if self.vars.decision != Decision::Fail {
             end(&mut self.vars, State::Success)
@@ -204,8 +203,7 @@ impl<M: PeerMethod> PeerMachine<M> {
     pub fn alt_reject_step(&mut self) -> Step
         requires { is_end self.old.vars.state ≡ false }
         ensures step { peer_alt_reject (now_of M.peer_shown self.old) ≡ answer (step_with result [] no_tags) (now_of M.peer_shown self.new) }
-        ensures preserves { PreservesPeers self.old.vars.setup.methods (map M.peer_shown self.old.methods) (map M.peer_shown self.new.methods) }
-        ensures setup { self.new.vars.setup ≡ self.old.vars.setup }
+        ensures preserves { Preserves M.peer_shown self.old self.new }
     {
         end(&mut self.vars, State::Failure)
     }
@@ -275,9 +273,9 @@ impl<M: PeerMethod> PeerMachine<M> {
     fn read<R: Turns>(&mut self, octets: &[u8], packet: &mut Packet, tags: &mut Tags<R>) -> Step
         requires expanded { self.old.vars.setup.expanded ≡ true }
         requires tags { tags.old ≡ no_tags }
-        ensures step { peer_receives (now_of M.peer_shown self.old) octets.now ≡ answer (step_with result packet.new tags.new) (now_of M.peer_shown self.new) }
-        ensures preserves { PreservesPeers self.old.vars.setup.methods (map M.peer_shown self.old.methods) (map M.peer_shown self.new.methods) }
-        ensures setup { self.new.vars.setup ≡ self.old.vars.setup }
+        ensures step { peer_receives (now_of M.peer_shown self.old) octets.now
+            ≡ answer (step_with result packet.new tags.new) (now_of M.peer_shown self.new) }
+        ensures preserves { Preserves M.peer_shown self.old self.new }
     {
         match decode(octets) {
             Ok(view) if view.code == Code::Request && !self.ended() => {
@@ -302,8 +300,7 @@ impl<M: PeerMethod> PeerMachine<M> {
         requires tags { tags.old ≡ no_tags }
         ensures step { reads_request (now_of M.peer_shown self.old) octets.now view.now.id view.now.kind view.now.body.now
             ≡ answer (step_with result packet.new tags.new) (now_of M.peer_shown self.new) }
-        ensures preserves { PreservesPeers self.old.vars.setup.methods (map M.peer_shown self.old.methods) (map M.peer_shown self.new.methods) }
-        ensures setup { self.new.vars.setup ≡ self.old.vars.setup }
+        ensures preserves { Preserves M.peer_shown self.old self.new }
     {
         if is_bad_expanded(view) {
             discard(Cause::BadExpanded)
@@ -330,8 +327,7 @@ impl<M: PeerMethod> PeerMachine<M> {
         ensures step { expressed_unless (is_last_id self.old.vars.last_id view.now.id)
             (peer_deliver (now_of M.peer_shown self.old) (plain_octets octets.now (value_of view.now)))
             ≡ answer (step_with result packet.new tags.new) (now_of M.peer_shown self.new) }
-        ensures preserves { PreservesPeers self.old.vars.setup.methods (map M.peer_shown self.old.methods) (map M.peer_shown self.new.methods) }
-        ensures setup { self.new.vars.setup ≡ self.old.vars.setup }
+        ensures preserves { Preserves M.peer_shown self.old self.new }
     {
         let is_last = self.vars.last_id == Some(view.id);
         let step = self.receive_plain(view, octets, packet, tags);
@@ -357,8 +353,7 @@ impl<M: PeerMethod> PeerMachine<M> {
         requires tags { tags.old ≡ no_tags }
         ensures step { peer_deliver (now_of M.peer_shown self.old) (plain_octets octets.now (value_of view.now))
             ≡ answer (step_with result packet.new tags.new) (now_of M.peer_shown self.new) }
-        ensures preserves { PreservesPeers self.old.vars.setup.methods (map M.peer_shown self.old.methods) (map M.peer_shown self.new.methods) }
-        ensures setup { self.new.vars.setup ≡ self.old.vars.setup }
+        ensures preserves { Preserves M.peer_shown self.old self.new }
         ensures capacity { is_last_id self.old.vars.last_id view.now.id ≡ false → result.sends ≡ true → HasCapacity packet.new }
     {
         let mut plain = Packet::new();
@@ -379,9 +374,9 @@ impl<M: PeerMethod> PeerMachine<M> {
         tags: &mut Tags<R>,
     ) -> Step
         requires tags { tags.old ≡ no_tags }
-        ensures step { peer_deliver (now_of M.peer_shown self.old) octets.now ≡ answer (step_with result packet.new tags.new) (now_of M.peer_shown self.new) }
-        ensures preserves { PreservesPeers self.old.vars.setup.methods (map M.peer_shown self.old.methods) (map M.peer_shown self.new.methods) }
-        ensures setup { self.new.vars.setup ≡ self.old.vars.setup }
+        ensures step { peer_deliver (now_of M.peer_shown self.old) octets.now
+            ≡ answer (step_with result packet.new tags.new) (now_of M.peer_shown self.new) }
+        ensures preserves { Preserves M.peer_shown self.old self.new }
         ensures capacity { is_last_id self.old.vars.last_id (slice_index octets.now 1) ≡ false → result.sends ≡ true → HasCapacity packet.new }
     {
         if self.ended() {
@@ -406,8 +401,7 @@ impl<M: PeerMethod> PeerMachine<M> {
         requires tags { tags.old ≡ no_tags }
         ensures step { peer_row (now_of M.peer_shown self.old) (Ok (value_of view.now))
             ≡ answer (step_with result packet.new tags.new) (now_of M.peer_shown self.new) }
-        ensures preserves { PreservesPeers self.old.vars.setup.methods (map M.peer_shown self.old.methods) (map M.peer_shown self.new.methods) }
-        ensures setup { self.new.vars.setup ≡ self.old.vars.setup }
+        ensures preserves { Preserves M.peer_shown self.old self.new }
         ensures capacity { is_last_id self.old.vars.last_id view.now.id ≡ false → result.sends ≡ true → HasCapacity packet.new }
     {
         let is_last = self.vars.last_id == Some(view.id);
@@ -441,8 +435,7 @@ impl<M: PeerMethod> PeerMachine<M> {
     fn success(&mut self) -> Step
         ensures step { (packet : List ℕ) → peer_success (now_of M.peer_shown self.old)
             ≡ answer (step_with result packet no_tags) (now_of M.peer_shown self.new) }
-        ensures preserves { PreservesPeers self.old.vars.setup.methods (map M.peer_shown self.old.methods) (map M.peer_shown self.new.methods) }
-        ensures setup { self.new.vars.setup ≡ self.old.vars.setup }
+        ensures preserves { Preserves M.peer_shown self.old self.new }
     {
         if self.vars.decision != Decision::Fail {
             end_received(&mut self.vars, State::Success)
@@ -457,8 +450,7 @@ impl<M: PeerMethod> PeerMachine<M> {
     fn failure(&mut self) -> Step
         ensures step { (packet : List ℕ) → peer_failure (now_of M.peer_shown self.old)
             ≡ answer (step_with result packet no_tags) (now_of M.peer_shown self.new) }
-        ensures preserves { PreservesPeers self.old.vars.setup.methods (map M.peer_shown self.old.methods) (map M.peer_shown self.new.methods) }
-        ensures setup { self.new.vars.setup ≡ self.old.vars.setup }
+        ensures preserves { Preserves M.peer_shown self.old self.new }
     {
         if self.vars.decision == Decision::UncondSucc {
             discard(Cause::LateFailure)
@@ -482,8 +474,7 @@ impl<M: PeerMethod> PeerMachine<M> {
         requires tags { tags.old ≡ no_tags }
         ensures step { new_request (now_of M.peer_shown self.old) id kind request.now self.old.vars.selected
             ≡ answer (step_with result packet.new tags.new) (now_of M.peer_shown self.new) }
-        ensures preserves { PreservesPeers self.old.vars.setup.methods (map M.peer_shown self.old.methods) (map M.peer_shown self.new.methods) }
-        ensures setup { self.new.vars.setup ≡ self.old.vars.setup }
+        ensures preserves { Preserves M.peer_shown self.old self.new }
         ensures capacity { result.sends ≡ true → HasCapacity packet.new }
     {
         match self.vars.selected {
@@ -518,8 +509,7 @@ impl<M: PeerMethod> PeerMachine<M> {
         requires tags { tags.old ≡ no_tags }
         ensures step { new_request (now_of M.peer_shown self.old) id kind request.now None
             ≡ answer (step_with result packet.new tags.new) (now_of M.peer_shown self.new) }
-        ensures preserves { PreservesPeers self.old.vars.setup.methods (map M.peer_shown self.old.methods) (map M.peer_shown self.new.methods) }
-        ensures setup { self.new.vars.setup ≡ self.old.vars.setup }
+        ensures preserves { Preserves M.peer_shown self.old self.new }
         ensures capacity { result.sends ≡ true → HasCapacity packet.new }
     {
         if kind == IDENTITY {
@@ -552,8 +542,7 @@ impl<M: PeerMethod> PeerMachine<M> {
         requires allowed { is_among self.old.vars.setup.methods kind ≡ true }
         ensures step { peer_method selects (now_of M.peer_shown self.old) kind id request.now
             ≡ answer (step_with result packet.new tags.new) (now_of M.peer_shown self.new) }
-        ensures preserves { PreservesPeers self.old.vars.setup.methods (map M.peer_shown self.old.methods) (map M.peer_shown self.new.methods) }
-        ensures setup { self.new.vars.setup ≡ self.old.vars.setup }
+        ensures preserves { Preserves M.peer_shown self.old self.new }
         ensures capacity { result.sends ≡ true → HasCapacity packet.new }
     {
         let turn = call_method(&mut self.methods, kind, request, packet, tags);

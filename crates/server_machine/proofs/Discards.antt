@@ -16,7 +16,8 @@ use Rattle.server_machine.proofs.ServerRows.{server_answers_are_rows}
 restart-keeps : (now : ServerNow) (nonce : List ℕ) → IsSome (server_restart now nonce).step.cause → PreservesTheServer now (server_restart now nonce)
 unfolding server_restart server_start
 restart-keeps now nonce =
-    cond_both (is_backend now.vars) _ _ (λ (out : ServerAnswer). IsSome out.step.cause → PreservesTheServer now out) (λ _ is_discard. cc is_discard) (λ _ is_discard. cc is_discard)
+    cond_both (is_backend now.vars) _ _ (λ (out : ServerAnswer). IsSome out.step.cause → PreservesTheServer now out)
+    (λ _ is_discard. cc is_discard) (λ _ is_discard. cc is_discard)
 
 row-keeps : (now : ServerNow) (input : ServerInput) (out : ServerAnswer) → ServerRow now input out → IsSome out.step.cause → PreservesTheServer now out
 row-keeps now _ _ (ended bytes over) is_discard = record { all = refl; sent = refl; tags = refl }

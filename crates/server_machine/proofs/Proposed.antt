@@ -28,7 +28,8 @@ three a b kind a_is b_is kind_is_one ab ak bk =
       ]
     ]
 
-pub proposed_has_capacity : (proposed : List ℕ) (kind : ℕ) → are_kinds proposed ≡ true → is_kind kind ≡ true → is_among proposed kind ≡ false → length proposed < 2
+pub proposed_has_capacity : (proposed : List ℕ) (kind : ℕ) → are_kinds proposed ≡ true → is_kind kind ≡ true → is_among proposed kind ≡ false
+    → length proposed < 2
 proposed_has_capacity [] kind kinds is unproposed = omega arith
 proposed_has_capacity (a ∷ []) kind kinds is unproposed = omega arith
 proposed_has_capacity (a ∷ b ∷ rest) kind kinds is unproposed =

@@ -49,7 +49,8 @@ module _ (now : ServerNow) where
       answers-row (turn.Done true tags) views turned = succeeds bytes id kind body tags views heard turned
       answers-row (turn.Done false tags) views turned = method_fails bytes id kind body tags views heard turned
 
-      method-row : now.vars.current_id ≡ Some id → now.vars.current ≡ Some kind → (kind == identity_kind) ≡ false → ((kind == nak_kind) && is_proposed now.vars.progress) ≡ false
+      method-row : now.vars.current_id ≡ Some id → now.vars.current ≡ Some kind → (kind == identity_kind) ≡ false
+          → ((kind == nak_kind) && is_proposed now.vars.progress) ≡ false
           → awaits_first now.vars ≡ false → IsRow (server_method now id kind (spelled (response id kind body)))
       unfolding server_method
       method-row is_id is_current no_identity no_nak unawaited =

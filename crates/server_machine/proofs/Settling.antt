@@ -46,7 +46,8 @@ offer_settles entered before vars shown after id kind desired first step next of
 settled_after : (now : ServerNow) (kind : ℕ) (after : ServerViews) (octets : List ℕ) (turn : ServerTurn)
     → server_turn now.vars.setup.users (next_id now.vars) kind now.views octets ≡ record { turn = turn; after = after }
     → views_after now.views after turn ≡ after
-settled_after now kind after octets (Discard c) turned = sym (server_turn_preserves now.vars.setup.users (next_id now.vars) kind now.views after octets c turned)
+settled_after now kind after octets (Discard c) turned =
+    sym (server_turn_preserves now.vars.setup.users (next_id now.vars) kind now.views after octets c turned)
 settled_after now kind after octets (Request packet tags) turned = refl
 settled_after now kind after octets (Done good tags) turned = refl
 

@@ -76,17 +76,21 @@ again_ready now nonce =
     (λ backend. record { role = refl; ready = λ _. or_left (is_backend now.vars) false backend })
     (λ _. record { role = refl; ready = λ _. or_right (is_backend now.vars) true refl })
 
-of_conversation : (now : ServerNow) (input : ServerInput) → ((nonce : List ℕ) → input ≡ inputs.restart nonce → ⊥) → StaysReady now.vars (server_answers now input).after.vars
-of_conversation now input same = still_ready now.vars (server_answers now input).after.vars (row-stays now input (server_answers now input) (server_answers_are_rows now input) same)
+of_conversation : (now : ServerNow) (input : ServerInput) → ((nonce : List ℕ) → input ≡ inputs.restart nonce → ⊥)
+    → StaysReady now.vars (server_answers now input).after.vars
+of_conversation now input same =
+    still_ready now.vars (server_answers now input).after.vars (row-stays now input (server_answers now input) (server_answers_are_rows now input) same)
 
 of_octets : (now : ServerNow) (bytes : List ℕ) → StaysReady now.vars (server_deliver now bytes).after.vars
 of_octets now bytes = of_conversation now (inputs.octets bytes) (λ nonce e. cc e)
 
 -- what is wrapped changes lastReqData alone
-wraps-ready : (vars : ServerVariables) (out : ServerAnswer) (sent : Option (List ℕ)) → StaysReady vars out.after.vars → StaysReady vars (wraps_sent out sent).after.vars
+wraps-ready : (vars : ServerVariables) (out : ServerAnswer) (sent : Option (List ℕ)) → StaysReady vars out.after.vars
+    → StaysReady vars (wraps_sent out sent).after.vars
 wraps-ready vars out None same = same
 wraps-ready vars out (Some packet) same =
-    cond_both (code_of packet == 1) _ _ (λ (next : ServerAnswer). StaysReady vars next.after.vars) (λ _. record { role = same.role; ready = same.ready }) (λ _. same)
+    cond_both (code_of packet == 1) _ _ (λ (next : ServerAnswer). StaysReady vars next.after.vars)
+    (λ _. record { role = same.role; ready = same.ready }) (λ _. same)
 
 bad-ready : (now : ServerNow) → StaysReady now.vars (discards_bad now).after.vars
 bad-ready now =

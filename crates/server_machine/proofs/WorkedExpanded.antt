@@ -30,7 +30,8 @@ unfolding spelled nak_of kinds_in
 nak_of_one id = refl
 
 -- of one with entries of vendor 1 alone, and of one that names neither method
-nak_of_other_vendor : (id : ℕ) → nak_octets id (nak_with (254 ∷ 0 ∷ 0 ∷ 1 ∷ 0 ∷ 0 ∷ 0 ∷ 47 ∷ 254 ∷ 0 ∷ 0 ∷ 1 ∷ 0 ∷ 0 ∷ 0 ∷ 51 ∷ [])) ≡ 2 ∷ id ∷ 0 ∷ 6 ∷ 3 ∷ 0 ∷ []
+nak_of_other_vendor : (id : ℕ)
+    → nak_octets id (nak_with (254 ∷ 0 ∷ 0 ∷ 1 ∷ 0 ∷ 0 ∷ 0 ∷ 47 ∷ 254 ∷ 0 ∷ 0 ∷ 1 ∷ 0 ∷ 0 ∷ 0 ∷ 51 ∷ [])) ≡ 2 ∷ id ∷ 0 ∷ 6 ∷ 3 ∷ 0 ∷ []
 unfolding spelled nak_of kinds_in
 nak_of_other_vendor id = refl
 
@@ -68,12 +69,14 @@ unfolding server_receives packet_of fault
 without_id setup = refl
 
 -- a Request of that form is one of the wrong role
-asked_short : (setup : ServerSetup) → server_receives (waits setup) (1 ∷ 1 ∷ 0 ∷ 6 ∷ 254 ∷ 0 ∷ []) ≡ answer (discards (Received ∷ Discard ∷ Idle ∷ []) WrongRole) (waits setup)
+asked_short : (setup : ServerSetup)
+    → server_receives (waits setup) (1 ∷ 1 ∷ 0 ∷ 6 ∷ 254 ∷ 0 ∷ []) ≡ answer (discards (Received ∷ Discard ∷ Idle ∷ []) WrongRole) (waits setup)
 unfolding server_receives server_deliver server_start packet_of fault
 asked_short setup = refl
 
 -- an Identity Response of Type 254, of the name "a", is taken
-identity_is_accepted : (setup : ServerSetup) → server_receives (waits setup) (2 ∷ 1 ∷ 0 ∷ 13 ∷ 254 ∷ 0 ∷ 0 ∷ 0 ∷ 0 ∷ 0 ∷ 0 ∷ 1 ∷ 97 ∷ []) ≡ wraps (receives_identity (waits setup) 1)
+identity_is_accepted : (setup : ServerSetup)
+    → server_receives (waits setup) (2 ∷ 1 ∷ 0 ∷ 13 ∷ 254 ∷ 0 ∷ 0 ∷ 0 ∷ 0 ∷ 0 ∷ 0 ∷ 1 ∷ 97 ∷ []) ≡ wraps (receives_identity (waits setup) 1)
 unfolding server_receives server_deliver server_start packet_of fault spelled
 identity_is_accepted setup = refl
 
@@ -81,7 +84,8 @@ identity_is_accepted setup = refl
 abbrev nak_packet : List ℕ
 nak_packet = 2 ∷ 1 ∷ 0 ∷ 20 ∷ 254 ∷ nak_with (entry 47)
 
-nak_of_identity : (setup : ServerSetup) → server_receives (waits setup) nak_packet ≡ answer (discards (Received ∷ Discard ∷ Idle ∷ []) WrongMethod) (waits setup)
+nak_of_identity : (setup : ServerSetup)
+    → server_receives (waits setup) nak_packet ≡ answer (discards (Received ∷ Discard ∷ Idle ∷ []) WrongMethod) (waits setup)
 unfolding server_receives server_deliver server_start packet_of fault spelled are_expanded
 nak_of_identity setup = refl
 

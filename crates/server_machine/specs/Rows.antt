@@ -73,7 +73,8 @@ pub data Drops (now : ServerNow) (bytes : List ℕ) : Cause → List State → T
       (path : List State) (place : Unheard now path) → Drops now bytes cause.WrongRole path
   other_id : (id kind : ℕ) (body : List ℕ) (is_packet : packet_of bytes ≡ Ok (response id kind body)) (other : is_awaited now.vars.current_id id ≡ false)
       (unawaited : awaits_first now.vars ≡ false) → Drops now bytes cause.IdMismatch unheard
-  other_method : (id kind : ℕ) (body : List ℕ) (heard : Receives now bytes id kind body) (is_id : now.vars.current_id ≡ Some id) (other : is_awaited now.vars.current kind ≡ false)
+  other_method : (id kind : ℕ) (body : List ℕ) (heard : Receives now bytes id kind body)
+      (is_id : now.vars.current_id ≡ Some id) (other : is_awaited now.vars.current kind ≡ false)
       (no_nak : ((kind == nak_kind) && is_proposed now.vars.progress) ≡ false) (unawaited : awaits_first now.vars ≡ false)
       → Drops now bytes cause.WrongMethod unheard
   by_method : (id kind : ℕ) (body : List ℕ) (c : Cause) (views : ServerViews) (heard : Receives now bytes id kind body)

@@ -19,6 +19,7 @@ use Rattle.eap_method.specs.ServerTurn as turn
 use Rattle.eap_method.specs.declared.values.Report.{Report}
 use Rattle.eap_method.specs.Server.{ServerShown, server_kind, ServerViews, server_views, view_of, views_started, side_of, server_offer, server_turn, server_report_of}
 use Rattle.eap_method.specs.Steps.{sends, enters, discards, is_end}
+use Rattle.eap_method.specs.Unnamed.{PreservesServers}
 use Rattle.server_machine.specs.declared.variables.ServerVariables.{ServerVariables}
 use Rattle.server_machine.specs.declared.variables.Progress.{Progress}
 use Rattle.server_machine.specs.declared.variables.Progress.TheVariants as progress
@@ -40,6 +41,12 @@ pub record ServerNow : Type 0 where
 -- what a machine is, if an object shows its method and view
 abbrev pub now_of : {M : Type 0} → (M → ServerShown) → ServerValue M → ServerNow
 now_of shown value = record { vars = value.vars; views = server_views value.vars.setup.methods (map shown value.methods) }
+
+-- what no call of a server changes but those that set the nonce or the users: its settings, the Types of its objects, and
+-- what the objects show whose methods the settings don't name
+pub record Preserves {M : Type 0} (shown : M → ServerShown) (before after : ServerValue M) : Type 0 where
+  pub objects : PreservesServers before.vars.setup.methods (map shown before.methods) (map shown after.methods)
+  pub setup : after.vars.setup ≡ before.vars.setup
 
 -- what a call answers, and the machine after it
 pub record ServerAnswer : Type 0 where

@@ -20,7 +20,7 @@ ghost use Rattle.eap_method.specs.Server.{server_kinds};
 ghost use Rattle.eap_method.specs.Steps.{is_end, step_with};
 ghost use Rattle.eap_method.specs.Tags.{no_tags};
 ghost use Rattle.eap_method.specs.Unnamed.{PreservesServers};
-ghost use Rattle.server_machine.specs.ServerTable.{answer, initial_backend, current_view, made_again, now_of, setup_with_nonce, server_reports, server_restart, initial_vars_of, with_users};
+ghost use Rattle.server_machine.specs.ServerTable.{Preserves, answer, initial_backend, current_view, made_again, now_of, setup_with_nonce, server_reports, server_restart, initial_vars_of, with_users};
 ghost use Rattle.server_machine.specs.Expanded.{server_receives};
 ghost use Rattle.server_machine.specs.declared.variables.Role.TheVariants as role;
 
@@ -105,8 +105,7 @@ impl<M: ServerMethod> Backend<M> {
     ) -> Step
         ensures step { server_receives (now_of M.server_shown self.old) octets.now
             ≡ answer (step_with result packet.new tags.new) (now_of M.server_shown self.new) }
-        ensures preserves { PreservesServers self.old.vars.setup.methods (map M.server_shown self.old.methods) (map M.server_shown self.new.methods) }
-        ensures setup { self.new.vars.setup ≡ self.old.vars.setup }
+        ensures preserves { Preserves M.server_shown self.old self.new }
     {
         self.machine.deliver_step(octets, packet, tags)
     }
@@ -119,7 +118,8 @@ impl<M: ServerMethod> Backend<M> {
         requires objects { have_each (server_kinds (map M.server_shown self.old.methods)) self.old.vars.setup.methods ≡ true }
         ensures step { server_restart (now_of M.server_shown self.old) nonce.now
             ≡ answer (step_with result [] no_tags) (now_of M.server_shown self.new) }
-        ensures preserves { PreservesServers self.old.vars.setup.methods (map M.server_shown self.old.methods) (map M.server_shown self.new.methods) }
+        ensures preserves { PreservesServers self.old.vars.setup.methods
+            (map M.server_shown self.old.methods) (map M.server_shown self.new.methods) }
         ensures setup { self.new.vars.setup ≡ setup_with_nonce self.old.vars.setup nonce.now }
     {
         self.machine.make_again(nonce);
@@ -130,7 +130,8 @@ impl<M: ServerMethod> Backend<M> {
     pub fn make_again(&mut self, nonce: &Nonce)
         requires objects { have_each (server_kinds (map M.server_shown self.old.methods)) self.old.vars.setup.methods ≡ true }
         ensures restarted { made_again (now_of M.server_shown self.old) nonce.now ≡ now_of M.server_shown self.new }
-        ensures preserves { PreservesServers self.old.vars.setup.methods (map M.server_shown self.old.methods) (map M.server_shown self.new.methods) }
+        ensures preserves { PreservesServers self.old.vars.setup.methods
+            (map M.server_shown self.old.methods) (map M.server_shown self.new.methods) }
         ensures setup { self.new.vars.setup ≡ setup_with_nonce self.old.vars.setup nonce.now }
     {
         self.machine.make_again(nonce)

@@ -34,7 +34,7 @@ ghost use Rattle.eap_method.specs.Steps.{step_with};
 ghost use Rattle.eap_method.specs.Tags.{no_tags};
 ghost use Rattle.eap_method.specs.Unnamed.{PreservesServers};
 ghost use Rattle.server_machine.specs.Expanded.{MayWrap, reads_response};
-ghost use Rattle.server_machine.specs.ServerTable.{answer, before_proposal, identity_request, next_id, AreInOrder, first_of};
+ghost use Rattle.server_machine.specs.ServerTable.{Preserves, answer, before_proposal, identity_request, next_id, AreInOrder, first_of};
 
 use crate::expanded::{awaits_first, wrap_sent, write_if_accepted};
 use crate::outcome::{end_badly, next_id, settle, settle_offer};
@@ -164,8 +164,7 @@ impl<M: ServerMethod> ServerMachine<M> {
         requires unstarted { is_started self.old.vars ≡ false }
         requires stand_alone { is_backend self.old.vars ≡ false }
         ensures step { server_start (now_of M.server_shown self.old) ≡ answer (step_with result packet.new no_tags) (now_of M.server_shown self.new) }
-        ensures preserves { PreservesServers self.old.vars.setup.methods (map M.server_shown self.old.methods) (map M.server_shown self.new.methods) }
-        ensures setup { self.new.vars.setup ≡ self.old.vars.setup }
+        ensures preserves { Preserves M.server_shown self.old self.new }
     {
         write_identity(packet, self.vars.first_id);
         self.vars.state = State::Idle;
@@ -193,8 +192,10 @@ impl<M: ServerMethod> ServerMachine<M> {
     #[tactic(auto, unfolding(crate::specs::ServerTable::server_restart))]
     pub fn restart_step(&mut self, nonce: &Nonce, packet: &mut Packet) -> Step
         requires objects { have_each (server_kinds (map M.server_shown self.old.methods)) self.old.vars.setup.methods ≡ true }
-        ensures step { server_restart (now_of M.server_shown self.old) nonce.now ≡ answer (step_with result packet.new no_tags) (now_of M.server_shown self.new) }
-        ensures preserves { PreservesServers self.old.vars.setup.methods (map M.server_shown self.old.methods) (map M.server_shown self.new.methods) }
+        ensures step { server_restart (now_of M.server_shown self.old) nonce.now
+            ≡ answer (step_with result packet.new no_tags) (now_of M.server_shown self.new) }
+        ensures preserves { PreservesServers self.old.vars.setup.methods
+            (map M.server_shown self.old.methods) (map M.server_shown self.new.methods) }
         ensures setup { self.new.vars.setup ≡ setup_with_nonce self.old.vars.setup nonce.now }
     {
         self.make_again(nonce);
@@ -209,7 +210,8 @@ impl<M: ServerMethod> ServerMachine<M> {
     pub fn make_again(&mut self, nonce: &Nonce)
         requires objects { have_each (server_kinds (map M.server_shown self.old.methods)) self.old.vars.setup.methods ≡ true }
         ensures restarted { made_again (now_of M.server_shown self.old) nonce.now ≡ now_of M.server_shown self.new }
-        ensures preserves { PreservesServers self.old.vars.setup.methods (map M.server_shown self.old.methods) (map M.server_shown self.new.methods) }
+        ensures preserves { PreservesServers self.old.vars.setup.methods
+            (map M.server_shown self.old.methods) (map M.server_shown self.new.methods) }
         ensures setup { self.new.vars.setup ≡ setup_with_nonce self.old.vars.setup nonce.now }
         ensures role { self.new.vars.role ≡ self.old.vars.role }
     {
@@ -248,8 +250,7 @@ impl<M: ServerMethod> ServerMachine<M> {
         requires ready { is_ready self.old.vars ≡ true }
         ensures step { server_receives (now_of M.server_shown self.old) octets.now
             ≡ answer (step_with result packet.new tags.new) (now_of M.server_shown self.new) }
-        ensures preserves { PreservesServers self.old.vars.setup.methods (map M.server_shown self.old.methods) (map M.server_shown self.new.methods) }
-        ensures setup { self.new.vars.setup ≡ self.old.vars.setup }
+        ensures preserves { Preserves M.server_shown self.old self.new }
     {
         if self.vars.setup.expanded && !self.ended() {
             self.read(octets, packet, tags)
@@ -265,8 +266,7 @@ impl<M: ServerMethod> ServerMachine<M> {
         requires ready { is_ready self.old.vars ≡ true }
         ensures step { server_reads (now_of M.server_shown self.old) octets.now (packet_of octets.now)
             ≡ answer (step_with result packet.new tags.new) (now_of M.server_shown self.new) }
-        ensures preserves { PreservesServers self.old.vars.setup.methods (map M.server_shown self.old.methods) (map M.server_shown self.new.methods) }
-        ensures setup { self.new.vars.setup ≡ self.old.vars.setup }
+        ensures preserves { Preserves M.server_shown self.old self.new }
     {
         match decode(octets) {
             Err(_) => self.deliver_plain(octets, packet, tags),
@@ -292,8 +292,7 @@ impl<M: ServerMethod> ServerMachine<M> {
         requires bounded { length view.now.body.now ≤ max_type_data }
         ensures step { reads_response (now_of M.server_shown self.old) octets.now view.now.id view.now.kind view.now.body.now
             ≡ answer (step_with result packet.new tags.new) (now_of M.server_shown self.new) }
-        ensures preserves { PreservesServers self.old.vars.setup.methods (map M.server_shown self.old.methods) (map M.server_shown self.new.methods) }
-        ensures setup { self.new.vars.setup ≡ self.old.vars.setup }
+        ensures preserves { Preserves M.server_shown self.old self.new }
     {
         if is_bad_expanded(view) {
             tags.clear();
@@ -325,8 +324,7 @@ impl<M: ServerMethod> ServerMachine<M> {
         ensures step { server_deliver (now_of M.server_shown self.old) octets.now
             ≡ answer (step_with result packet.new tags.new) (now_of M.server_shown self.new) }
         ensures capacity { MayWrap result.sends packet.new }
-        ensures preserves { PreservesServers self.old.vars.setup.methods (map M.server_shown self.old.methods) (map M.server_shown self.new.methods) }
-        ensures setup { self.new.vars.setup ≡ self.old.vars.setup }
+        ensures preserves { Preserves M.server_shown self.old self.new }
     {
         tags.clear();
         if self.ended() {
@@ -357,9 +355,9 @@ impl<M: ServerMethod> ServerMachine<M> {
     #[tactic(auto, using(crate::proofs::Starting::timer_is_running), unfolding(crate::specs::ServerTable::server_timeout))]
     pub fn timeout_step(&mut self, packet: &mut Packet) -> Step
         requires { has_timer self.old.vars ≡ true }
-        ensures step { server_timeout (now_of M.server_shown self.old) ≡ answer (step_with result packet.new no_tags) (now_of M.server_shown self.new) }
-        ensures preserves { PreservesServers self.old.vars.setup.methods (map M.server_shown self.old.methods) (map M.server_shown self.new.methods) }
-        ensures setup { self.new.vars.setup ≡ self.old.vars.setup }
+        ensures step { server_timeout (now_of M.server_shown self.old)
+            ≡ answer (step_with result packet.new no_tags) (now_of M.server_shown self.new) }
+        ensures preserves { Preserves M.server_shown self.old self.new }
     {
         self.vars.retrans_count += 1;
         if self.vars.retrans_count <= self.vars.max_retrans {
@@ -495,8 +493,7 @@ impl<M: ServerMethod> ServerMachine<M> {
         ensures step { pick_up (now_of M.server_shown self.old) (Ok (value_of view.now))
             ≡ answer (step_with result packet.new no_tags) (now_of M.server_shown self.new) }
         ensures capacity { MayWrap result.sends packet.new }
-        ensures preserves { PreservesServers self.old.vars.setup.methods (map M.server_shown self.old.methods) (map M.server_shown self.new.methods) }
-        ensures setup { self.new.vars.setup ≡ self.old.vars.setup }
+        ensures preserves { Preserves M.server_shown self.old self.new }
     {
         match view.code {
             Code::Response => self.pick_up_response(view.id, view.kind, view.body, packet),
@@ -512,8 +509,7 @@ impl<M: ServerMethod> ServerMachine<M> {
         ensures step { first_response (now_of M.server_shown self.old) id kind body.now
             ≡ answer (step_with result packet.new no_tags) (now_of M.server_shown self.new) }
         ensures capacity { MayWrap result.sends packet.new }
-        ensures preserves { PreservesServers self.old.vars.setup.methods (map M.server_shown self.old.methods) (map M.server_shown self.new.methods) }
-        ensures setup { self.new.vars.setup ≡ self.old.vars.setup }
+        ensures preserves { Preserves M.server_shown self.old self.new }
     {
         self.vars.state = State::Idle;
         self.vars.current_id = Some(id);
@@ -541,8 +537,7 @@ impl<M: ServerMethod> ServerMachine<M> {
         ensures step { server_row (now_of M.server_shown self.old) (Ok (value_of view.now))
             ≡ answer (step_with result packet.new tags.new) (now_of M.server_shown self.new) }
         ensures capacity { MayWrap result.sends packet.new }
-        ensures preserves { PreservesServers self.old.vars.setup.methods (map M.server_shown self.old.methods) (map M.server_shown self.new.methods) }
-        ensures setup { self.new.vars.setup ≡ self.old.vars.setup }
+        ensures preserves { Preserves M.server_shown self.old self.new }
     {
         match view.code {
             Code::Response => {
@@ -570,8 +565,7 @@ impl<M: ServerMethod> ServerMachine<M> {
         ensures step { current_response (now_of M.server_shown self.old) view.now.id view.now.kind view.now.body.now
             ≡ answer (step_with result packet.new tags.new) (now_of M.server_shown self.new) }
         ensures capacity { MayWrap result.sends packet.new }
-        ensures preserves { PreservesServers self.old.vars.setup.methods (map M.server_shown self.old.methods) (map M.server_shown self.new.methods) }
-        ensures setup { self.new.vars.setup ≡ self.old.vars.setup }
+        ensures preserves { Preserves M.server_shown self.old self.new }
     {
         if view.kind == NAK && self.vars.progress == Progress::Proposed {
             self.propose(ProposalPath::AfterNak, view.id, Some(view.body), packet)
@@ -598,8 +592,7 @@ impl<M: ServerMethod> ServerMachine<M> {
         ensures step { let now = now_of M.server_shown self.old in select_action (before_proposal way) now.vars now.views id (option_copied desired.entry)
             ≡ answer (step_with result packet.new no_tags) (now_of M.server_shown self.new) }
         ensures capacity { MayWrap result.sends packet.new }
-        ensures preserves { PreservesServers self.old.vars.setup.methods (map M.server_shown self.old.methods) (map M.server_shown self.new.methods) }
-        ensures setup { self.new.vars.setup ≡ self.old.vars.setup }
+        ensures preserves { Preserves M.server_shown self.old self.new }
     {
         match next_method(&self.vars.setup.methods, &self.vars.proposed, desired) {
             None => end_badly(&mut self.vars, way, id, packet),
@@ -625,8 +618,7 @@ impl<M: ServerMethod> ServerMachine<M> {
         ensures step { server_method (now_of M.server_shown self.old) id kind response.now
             ≡ answer (step_with result packet.new tags.new) (now_of M.server_shown self.new) }
         ensures capacity { MayWrap result.sends packet.new }
-        ensures preserves { PreservesServers self.old.vars.setup.methods (map M.server_shown self.old.methods) (map M.server_shown self.new.methods) }
-        ensures setup { self.new.vars.setup ≡ self.old.vars.setup }
+        ensures preserves { Preserves M.server_shown self.old self.new }
     {
         let turn = turn_of(&mut self.methods, &self.vars, kind, response, packet, tags);
         settle(&mut self.vars, id, turn, packet)

@@ -5,7 +5,7 @@ ghost use Rattle.eap_method.specs.Peer.{have_each};
 ghost use Rattle.eap_method.specs.Server.{server_kinds};
 ghost use Rattle.eap_method.specs.Unnamed.{PreservesServers};
 ghost use Rattle.server_machine.specs.Expanded.{server_receives};
-ghost use Rattle.server_machine.specs.ServerTable.{answer, now_of, has_timer, is_backend, is_ready, is_started, server_restart, server_start, server_timeout, setup_with_nonce};
+ghost use Rattle.server_machine.specs.ServerTable.{Preserves, answer, now_of, has_timer, is_backend, is_ready, is_started, server_restart, server_start, server_timeout, setup_with_nonce};
 
 use crate::ServerStep;
 use crate::backend::Backend;
@@ -19,8 +19,7 @@ impl<M: ServerMethod> ServerMachine<M> {
         requires unstarted { is_started self.old.vars ≡ false }
         requires stand_alone { is_backend self.old.vars ≡ false }
         ensures step { server_start (now_of M.server_shown self.old) ≡ answer result (now_of M.server_shown self.new) }
-        ensures preserves { PreservesServers self.old.vars.setup.methods (map M.server_shown self.old.methods) (map M.server_shown self.new.methods) }
-        ensures setup { self.new.vars.setup ≡ self.old.vars.setup }
+        ensures preserves { Preserves M.server_shown self.old self.new }
     {
         let mut packet = Packet::new();
         self.start_step(&mut packet).with(packet, Tags::new())
@@ -30,7 +29,8 @@ impl<M: ServerMethod> ServerMachine<M> {
     pub fn restart(&mut self, nonce: &Nonce) -> ServerStep
         requires objects { have_each (server_kinds (map M.server_shown self.old.methods)) self.old.vars.setup.methods ≡ true }
         ensures step { server_restart (now_of M.server_shown self.old) nonce.now ≡ answer result (now_of M.server_shown self.new) }
-        ensures preserves { PreservesServers self.old.vars.setup.methods (map M.server_shown self.old.methods) (map M.server_shown self.new.methods) }
+        ensures preserves { PreservesServers self.old.vars.setup.methods
+            (map M.server_shown self.old.methods) (map M.server_shown self.new.methods) }
         ensures setup { self.new.vars.setup ≡ setup_with_nonce self.old.vars.setup nonce.now }
     {
         let mut packet = Packet::new();
@@ -42,8 +42,7 @@ impl<M: ServerMethod> ServerMachine<M> {
     pub fn deliver(&mut self, octets: &[u8]) -> ServerStep
         requires ready { is_ready self.old.vars ≡ true }
         ensures step { server_receives (now_of M.server_shown self.old) octets.now ≡ answer result (now_of M.server_shown self.new) }
-        ensures preserves { PreservesServers self.old.vars.setup.methods (map M.server_shown self.old.methods) (map M.server_shown self.new.methods) }
-        ensures setup { self.new.vars.setup ≡ self.old.vars.setup }
+        ensures preserves { Preserves M.server_shown self.old self.new }
     {
         let mut packet = Packet::new();
         let mut tags = Tags::new();
@@ -55,8 +54,7 @@ impl<M: ServerMethod> ServerMachine<M> {
     pub fn timeout(&mut self) -> ServerStep
         requires { has_timer self.old.vars ≡ true }
         ensures step { server_timeout (now_of M.server_shown self.old) ≡ answer result (now_of M.server_shown self.new) }
-        ensures preserves { PreservesServers self.old.vars.setup.methods (map M.server_shown self.old.methods) (map M.server_shown self.new.methods) }
-        ensures setup { self.new.vars.setup ≡ self.old.vars.setup }
+        ensures preserves { Preserves M.server_shown self.old self.new }
     {
         let mut packet = Packet::new();
         self.timeout_step(&mut packet).with(packet, Tags::new())
@@ -67,8 +65,7 @@ impl<M: ServerMethod> Backend<M> {
     /// [`deliver_step`](Backend::deliver_step), with the packet and the records in its answer.
     pub fn deliver(&mut self, octets: &[u8]) -> ServerStep
         ensures step { server_receives (now_of M.server_shown self.old) octets.now ≡ answer result (now_of M.server_shown self.new) }
-        ensures preserves { PreservesServers self.old.vars.setup.methods (map M.server_shown self.old.methods) (map M.server_shown self.new.methods) }
-        ensures setup { self.new.vars.setup ≡ self.old.vars.setup }
+        ensures preserves { Preserves M.server_shown self.old self.new }
     {
         let mut packet = Packet::new();
         let mut tags = Tags::new();
@@ -80,7 +77,8 @@ impl<M: ServerMethod> Backend<M> {
     pub fn restart(&mut self, nonce: &Nonce) -> ServerStep
         requires objects { have_each (server_kinds (map M.server_shown self.old.methods)) self.old.vars.setup.methods ≡ true }
         ensures step { server_restart (now_of M.server_shown self.old) nonce.now ≡ answer result (now_of M.server_shown self.new) }
-        ensures preserves { PreservesServers self.old.vars.setup.methods (map M.server_shown self.old.methods) (map M.server_shown self.new.methods) }
+        ensures preserves { PreservesServers self.old.vars.setup.methods
+            (map M.server_shown self.old.methods) (map M.server_shown self.new.methods) }
         ensures setup { self.new.vars.setup ≡ setup_with_nonce self.old.vars.setup nonce.now }
     {
         self.restart_step(nonce).alone()

@@ -11,7 +11,11 @@ use Rattle.tuvaddri_c.proofs.session.Session.TheLaws as session_laws
 use Rattle.tuvaddri_c.specs.contracts.parts.Parts as parts
 
 abbrev pub E : Bx
-E = record { row = session.the_row; laws = session_laws.the_row_laws; al = record { row = heap.the_row; laws = heap_laws.the_row_laws; g = ghosts; d = dict; drops = impl [] tnil dnil } }
+E = record {
+  row = session.the_row;
+  laws = session_laws.the_row_laws;
+  al = record { row = heap.the_row; laws = heap_laws.the_row_laws; g = ghosts; d = dict; drops = impl [] tnil dnil };
+}
 
 abbrev pub From : Slot 0
 From = plain (λ _. parts.the_row session.the_row heap.the_row ghosts)

@@ -80,7 +80,8 @@ server_asks server_answer.Request packet tags after before sent s = record { tur
 server_asks (server_answer.Done true) packet tags after before sent s = record { turn_is = refl; sent_is = s; object = refl }
 server_asks (server_answer.Done false) packet tags after before sent s = record { turn_is = refl; sent_is = s; object = refl }
 
-pub server_turns : (out : ServerOutcome ServerShown) (b : server_briefs.ServerAnswer) (packet : List ℕ) (tags : Tags) (after : ServerObject) (before sent : Sent)
+pub server_turns : (out : ServerOutcome ServerShown) (b : server_briefs.ServerAnswer)
+    (packet : List ℕ) (tags : Tags) (after : ServerObject) (before sent : Sent)
     → out ≡ record { turn = server_turn_with b packet tags; after = server_object_shown after }
     → sent ≡ after_turn (if (server_brief b).sends then Some packet else None) before
     → ServerTurns out before (server_brief b) sent after

@@ -101,7 +101,8 @@ module _ (m after : PeerValue PeerObject) (step : Step) where
   abbrev peer_then : PeerAnswer
   peer_then = peer.answer step (peer.now_of peer_object_shown after)
 
-  pub peer_delivered : (octets : List ℕ) → peer_reading.peer_receives peer_now octets ≡ peer_then → peer_settled m.vars.state ≡ true → peer_settled after.vars.state ≡ true
+  pub peer_delivered : (octets : List ℕ) → peer_reading.peer_receives peer_now octets ≡ peer_then → peer_settled m.vars.state ≡ true
+      → peer_settled after.vars.state ≡ true
   peer_delivered octets is stands = peer_at _ step after is (peer_delivery peer_now octets _ (peer_receives_so peer_now octets) stands)
 
   pub peer_idled : peer.peer_idle peer_now ≡ peer_then → peer_settled after.vars.state ≡ true
@@ -118,7 +119,8 @@ module _ (m after : PeerValue PeerObject) (step : Step) where
   unfolding peer.peer_restart
   peer_restarted nonce is = peer_at _ step after is refl
 
-pub peer_created : (setup : PeerSetup) (m : PeerValue PeerObject) → peer.now_of peer_object_shown m ≡ peer.initial_peer setup → peer_settled m.vars.state ≡ true
+pub peer_created : (setup : PeerSetup) (m : PeerValue PeerObject) → peer.now_of peer_object_shown m ≡ peer.initial_peer setup
+    → peer_settled m.vars.state ≡ true
 peer_created setup m is = subst Peer (sym is) refl
 
 selected : (now : ServerNow) (id kind : ℕ) (body : List ℕ) (entered : List State) (vars : ServerVariables) (desired : Option (List ℕ))
@@ -133,7 +135,8 @@ server_initial : (now : ServerNow) (nonce : List ℕ) → Server (server.server_
 unfolding server.server_restart server.server_start
 server_initial now nonce = cond_both (server.is_backend now.vars) _ _ (λ (out : ServerAnswer). Server out.after) (λ _. refl) (λ _. refl)
 
-server_row : (now : ServerNow) (input : server_inputs.ServerInput) (out : ServerAnswer) → server_rows.ServerRow now input out → Server now → Server out.after
+server_row : (now : ServerNow) (input : server_inputs.ServerInput) (out : ServerAnswer) → server_rows.ServerRow now input out → Server now
+    → Server out.after
 server_row now _ _ (server_rows.ended _ _) stands = stands
 server_row now _ _ (server_rows.rests _) stands = stands
 server_row now _ _ (server_rows.goes_on _) stands = stands
@@ -142,7 +145,8 @@ server_row now _ _ (server_rows.starts _) stands = refl
 server_row now _ _ (server_rows.begins nonce) stands = server_initial now nonce
 server_row now _ _ (server_rows.resends _ _) stands = stands
 server_row now _ _ (server_rows.times_out _ _) stands = refl
-server_row now _ _ (server_rows.proposes _ id kind body entered vars desired _ _ _ _ selects _) stands = selected now id kind body entered vars desired selects stands
+server_row now _ _ (server_rows.proposes _ id kind body entered vars desired _ _ _ _ selects _) stands =
+    selected now id kind body entered vars desired selects stands
 server_row now _ _ (server_rows.proposes_without _ _ _ _ _ _ _ _ _ _ _ _) stands = refl
 server_row now _ _ (server_rows.proposes_none _ _ _ _ _ _ _ _ _ _) stands = refl
 server_row now _ _ (server_rows.requests _ _ _ _ _ _ _ _ _) stands = stands
@@ -156,7 +160,8 @@ wrapped : (out : ServerAnswer) (sent : Option (List ℕ)) → Server out.after �
 wrapped out None stands = stands
 wrapped out (Some octets) stands = cond_both (code_of octets == 1) _ _ (λ (o : ServerAnswer). Server o.after) (λ _. stands) (λ _. stands)
 
-server_delivery : (now : ServerNow) (octets : List ℕ) (out : ServerAnswer) → server_deliveries.ServerReceiving now octets out → Server now → Server out.after
+server_delivery : (now : ServerNow) (octets : List ℕ) (out : ServerAnswer) → server_deliveries.ServerReceiving now octets out → Server now
+    → Server out.after
 server_delivery now octets _ server_deliveries.as_it_is stands = server_table now octets stands
 server_delivery now octets _ (server_deliveries.bad _ _ _ _ _) stands =
     cond_both (server.awaits_first now.vars) _ _ (λ (out : ServerAnswer). Server out.after) (λ _. stands) (λ _. stands)
@@ -181,7 +186,8 @@ module _ (m after : ServerValue ServerObject) (step : Step) where
   abbrev server_then : ServerAnswer
   server_then = server.answer step (server.now_of server_object_shown after)
 
-  pub server_delivered : (octets : List ℕ) → server_reading.server_receives server_now octets ≡ server_then → server_settled m.vars.state ≡ true → server_settled after.vars.state ≡ true
+  pub server_delivered : (octets : List ℕ) → server_reading.server_receives server_now octets ≡ server_then → server_settled m.vars.state ≡ true
+      → server_settled after.vars.state ≡ true
   server_delivered octets is stands = server_at _ step after is (server_delivery server_now octets _ (server_receives_so server_now octets) stands)
 
   pub server_started : server.server_start server_now ≡ server_then → server_settled after.vars.state ≡ true
@@ -194,7 +200,8 @@ module _ (m after : ServerValue ServerObject) (step : Step) where
   pub server_restarted : (nonce : List ℕ) → server.server_restart server_now nonce ≡ server_then → server_settled after.vars.state ≡ true
   server_restarted nonce is = server_at _ step after is (server_initial server_now nonce)
 
-pub server_created : (m after : ServerValue ServerObject) (nonce : List ℕ) → server.made_again (server.now_of server_object_shown m) nonce ≡ server.now_of server_object_shown after
+pub server_created : (m after : ServerValue ServerObject) (nonce : List ℕ)
+    → server.made_again (server.now_of server_object_shown m) nonce ≡ server.now_of server_object_shown after
     → server_settled after.vars.state ≡ true
 server_created m after nonce is = subst Server is refl
 
@@ -247,7 +254,8 @@ module _ (m after : PassVariables) (step : PassStep) where
   peer_passed octets is stands = pass_at _ is (pass_row m (pass_inputs.from_peer octets) _ (pass_answers_are_rows m (pass_inputs.from_peer octets)) stands)
 
   pub backend_passed : (octets : List ℕ) → pass.pass_from_backend m octets ≡ pass.answer step after → Pass m → Pass after
-  backend_passed octets is stands = pass_at _ is (pass_row m (pass_inputs.from_backend octets) _ (pass_answers_are_rows m (pass_inputs.from_backend octets)) stands)
+  backend_passed octets is stands =
+      pass_at _ is (pass_row m (pass_inputs.from_backend octets) _ (pass_answers_are_rows m (pass_inputs.from_backend octets)) stands)
 
   pub pass_timed_out : pass.pass_timeout m ≡ pass.answer step after → Pass after
   pass_timed_out is = pass_at _ is (pass_times_out m)

@@ -35,7 +35,8 @@ server_started_with of told nonce setup first_id max_retrans alone m after is va
     ∙ (ap (λ (v : ServerVariables). initial_server v.role (filled v.setup) v.first_id v.max_retrans) vars
     ∙ ap (λ (s : ServerSetup). initial_server of (filled s) first_id max_retrans) is))
 
-pub peer_preserved : (m after : PeerValue PeerObject) → PreservesPeers m.vars.setup.methods (map peer_object_shown m.methods) (map peer_object_shown after.methods)
+pub peer_preserved : (m after : PeerValue PeerObject)
+    → PreservesPeers m.vars.setup.methods (map peer_object_shown m.methods) (map peer_object_shown after.methods)
     → after.vars.setup.methods ≡ m.vars.setup.methods → peer_has_objects m ≡ true → peer_has_objects after ≡ true
 peer_preserved m after kept named has = rw (kept.kinds, named) has
 

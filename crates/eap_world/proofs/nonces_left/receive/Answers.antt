@@ -10,5 +10,6 @@ loop-back-init c =
 
 pub loop-back-preserved : goal.loop-back-preserved
 loop-back-preserved c =
-    c.receive_from.ensures ∙ received_more c.args.octets.now c.loop-back.back (waits c.args.nonces.now c.args.heard.now) (waits c.args.nonces.now c.loop-back.heard)
+    c.receive_from.ensures ∙ received_more c.args.octets.now c.loop-back.back
+    (waits c.args.nonces.now c.args.heard.now) (waits c.args.nonces.now c.loop-back.heard)
     c.loop-back-test.true c.loop-back.invariant

@@ -6,5 +6,6 @@ use Rattle.eap_world.proofs.world.World.start_brief.Goals as goal
 pub returns-clause-run : goal.returns-clause-run
 returns-clause-run g c =
     run_starts (now_of g.P.PeerMethod.peer_shown g.S.ServerMethod.server_shown c.args.self.now)
-    (now_of g.P.PeerMethod.peer_shown g.S.ServerMethod.server_shown c.start_by_table.new.self) (c.start_by_table.new.self ≡ c.args.self.now) c.start_by_table.result
+    (now_of g.P.PeerMethod.peer_shown g.S.ServerMethod.server_shown c.start_by_table.new.self)
+    (c.start_by_table.new.self ≡ c.args.self.now) c.start_by_table.result
     c.start_by_table.ensures.reported
