@@ -12,32 +12,33 @@ use crate::turn::{PeerAnswer, PeerTurn};
 use crate::values::{Credential, Report};
 use octet_lists::{Nonce, Packet};
 
-/// A method at a peer. Its ghost member says which method it is and its state.
+/// A method at a peer. Its ghost member says which method it is and its state. A *required* call is one that each method
+/// writes; a *provided* one has a body by the others, in whose place a method may write its own.
 pub trait PeerMethod: Drop {
     ghost use Rattle.eap_method.specs.Peer.{PeerShown};
 
     /// The method, and its state.
     ghost peer_shown: { Self → PeerShown };
 
-    /// The Type of the method, 47 or 51, the same for the object's whole life.
+    /// Required. The Type of the method, 47 or 51, the same for the object's whole life.
     fn kind(&self) -> u8
         ensures { result ≡ peer_kind (peer_shown self.now) };
 
-    /// Begins again, whatever the object's state before. The key has 16 octets for EAP-PSK, 32 to 64
-    /// for EAP-GPSK.
+    /// Required. Begins again, whatever the object's state before. The key has 16 octets for EAP-PSK, 32 to 64 for
+    /// EAP-GPSK.
     fn begin(&mut self, cred: &Credential, nonce: &Nonce)
         requires { IsTrue (is_valid_for (peer_kind (peer_shown self.old)) cred.now.psk) }
         ensures { peer_shown self.new ≡ started_peer cred.now nonce.now (peer_shown self.old) };
 
-    /// The turn for a Request of this Type with nothing past its Length. A Response leaves room for an Expanded Type: it has
-    /// at most 1,493 octets.
+    /// Required. The turn for a Request of this Type with nothing past its Length. A Response leaves room for an Expanded
+    /// Type: it has at most 1,493 octets.
     fn handle(&mut self, request: &[u8]) -> PeerTurn
         requires { IsRequest (peer_kind (peer_shown self.old)) request.now }
         ensures turn { peer_step (peer_shown self.old) request.now ≡ record { turn = peer_turn_of result; after = peer_shown self.new } }
         ensures capacity { PeerTurnHasCapacity result };
 
-    /// The same in place: the Response is written into `packet` in place of what was there, the records of its tags into
-    /// `tags`. A discard leaves no record, and `packet` is then unspecified.
+    /// Provided, by [`handle`](PeerMethod::handle): the same in place. The Response is written into `packet` in place of
+    /// what was there, the records of its tags into `tags`. A discard leaves no record, and `packet` is then unspecified.
     fn handle_into(&mut self, request: &[u8], packet: &mut Packet, tags: &mut Tags) -> PeerAnswer
         requires { IsRequest (peer_kind (peer_shown self.old)) request.now }
         ensures turn { peer_step (peer_shown self.old) request.now
@@ -48,7 +49,7 @@ pub trait PeerMethod: Drop {
         self.handle(request).put(packet, tags)
     }
 
-    /// The same, with no room for the records.
+    /// Provided, by [`handle_into`](PeerMethod::handle_into): the same, with no room for the records.
     fn handle_unrecorded(
         &mut self,
         request: &[u8],
@@ -67,7 +68,7 @@ pub trait PeerMethod: Drop {
         answer
     }
 
-    /// What the peer has after a login that succeeded; None before and after any other.
+    /// Required. What the peer has after a login that succeeded; None before and after any other.
     fn report(&self) -> Option<Report>
         ensures { result ≡ peer_report (peer_shown self.now) };
 }

@@ -13,30 +13,32 @@ use crate::values::{Report, ServerSide};
 use login_setup::Users;
 use octet_lists::{Nonce, Packet};
 
-/// A method at a server. Its ghost member says which method it is and its state.
+/// A method at a server. Its ghost member says which method it is and its state. A *required* call is one that each method
+/// writes; a *provided* one has a body by the others, in whose place a method may write its own.
 pub trait ServerMethod: Drop {
     ghost use Rattle.eap_method.specs.Server.{ServerShown};
 
     /// The method, and its state.
     ghost server_shown: { Self → ServerShown };
 
-    /// The Type of the method, 47 or 51, the same for the object's whole life.
+    /// Required. The Type of the method, 47 or 51, the same for the object's whole life.
     fn kind(&self) -> u8
         ensures { result ≡ server_kind (server_shown self.now) };
 
-    /// Begins again, whatever the object's state before. The suites are one or two of 1 and 2.
+    /// Required. Begins again, whatever the object's state before. The suites are one or two of 1 and 2.
     fn begin(&mut self, own: &ServerSide, nonce: &Nonce)
         requires { IsTrue (are_suites own.now.suites) }
         ensures { server_shown self.new ≡ started_server own.now nonce.now (server_shown self.old) };
 
-    /// The method's first Request, with this Identifier: at most 1,493 octets, so that an Expanded Type has room. The object
-    /// has begun and made none.
+    /// Required. The method's first Request, with this Identifier: at most 1,493 octets, so that an Expanded Type has room.
+    /// The object has begun and made none.
     fn first(&mut self, id: u8) -> Packet
         requires { has_initiated (server_shown self.old) ≡ true }
         ensures first { server_first_step (server_shown self.old) id ≡ record { packet = result; after = server_shown self.new } }
         ensures capacity { HasCapacity result };
 
-    /// The same in place: the Request is written into `packet` in place of what was there.
+    /// Provided, by [`first`](ServerMethod::first): the same in place. The Request is written into `packet` in place of
+    /// what was there.
     fn first_into(&mut self, id: u8, packet: &mut Packet)
         requires { has_initiated (server_shown self.old) ≡ true }
         ensures first { server_first_step (server_shown self.old) id ≡ record { packet = packet.new; after = server_shown self.new } }
@@ -45,9 +47,9 @@ pub trait ServerMethod: Drop {
         packet.set(self.first(id).as_slice());
     }
 
-    /// The turn for a Response of this Type with nothing past its Length. A Request that follows has the Identifier
-    /// `next_id` and leaves room for an Expanded Type: it has at most 1,493 octets. The users' keys have 16 octets for
-    /// EAP-PSK, 32 to 64 for EAP-GPSK.
+    /// Required. The turn for a Response of this Type with nothing past its Length. A Request that follows has the
+    /// Identifier `next_id` and leaves room for an Expanded Type: it has at most 1,493 octets. The users' keys have 16
+    /// octets for EAP-PSK, 32 to 64 for EAP-GPSK.
     fn handle(&mut self, response: &[u8], next_id: u8, users: &Users) -> ServerTurn
         requires response { IsResponse (server_kind (server_shown self.old)) response.now }
         requires keys { All (λ user. IsTrue (is_valid_for user.kind user.psk)) users.now }
@@ -55,8 +57,9 @@ pub trait ServerMethod: Drop {
             ≡ record { turn = server_turn_of result; after = server_shown self.new } }
         ensures capacity { ServerTurnHasCapacity result };
 
-    /// The same in place: a Request that follows is written into `packet` in place of what was there, the records of the
-    /// turn's tags into `tags`. A discard leaves no record; without a Request `packet` is unspecified.
+    /// Provided, by [`handle`](ServerMethod::handle): the same in place. A Request that follows is written into `packet` in
+    /// place of what was there, the records of the turn's tags into `tags`. A discard leaves no record; without a Request
+    /// `packet` is unspecified.
     fn handle_into(
         &mut self,
         response: &[u8],
@@ -75,7 +78,7 @@ pub trait ServerMethod: Drop {
         self.handle(response, next_id, users).put(packet, tags)
     }
 
-    /// The same, with no room for the records.
+    /// Provided, by [`handle_into`](ServerMethod::handle_into): the same, with no room for the records.
     fn handle_unrecorded(
         &mut self,
         response: &[u8],
@@ -97,7 +100,7 @@ pub trait ServerMethod: Drop {
         answer
     }
 
-    /// What the server has after a login that succeeded; None before and after any other.
+    /// Required. What the server has after a login that succeeded; None before and after any other.
     fn report(&self) -> Option<Report>
         ensures { result ≡ server_report (server_shown self.now) };
 }
