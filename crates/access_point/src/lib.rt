@@ -2,16 +2,18 @@
 //! reached by RADIUS (RFC 3579).
 #![tactic(auto)]
 
-ghost use Rattle.std.specs.Prelude.{◌≡◌, false, IfSome, IsSome, is_err};
-ghost use Rattle.pass_through.specs.PassTable.{identity_request, without_padding};
-ghost use Rattle.radius_carry.specs.Packet.{spelled};
-ghost use Rattle.radius_carry.specs.Fault.{packet_of};
+ghost use Rattle.std.specs.Prelude.{◌≡◌, ◌↔◌, [], replicate, if◌then◌else◌, IfSome, IfNone, IsSome};
+ghost use Rattle.eap_packet.specs.Fault.{packet_of};
+ghost use Rattle.pass_through.specs.Inputs.{pass_accepts, start};
+ghost use Rattle.pass_through.specs.PassTable.{identity_request, initial_pass, is_started, pass_from_backend, pass_from_peer, without_padding};
+ghost use Rattle.radius_carry.specs.Packet.{RadiusPacket, eap_of, spelled};
 ghost use Rattle.radius_carry.specs.Written.{request_of};
+ghost use Rattle.access_point.specs.Naming.{name_in};
 
-use eap_packet::decode;
+use eap_packet::{Code, decode};
 use octet_lists::{IDENTITY, Identity, Injected, Octets, Packet, Secret};
 use pass_through::PassThrough;
-use radius_carry::{RadiusKind, attribute, eap_of, read_radius, reply_good, write_request};
+use radius_carry::{attribute, eap_of, read_radius, reply_good, write_request};
 
 /// The attribute State (RFC 2865 section 5.24).
 const STATE: u8 = 24;
@@ -33,9 +35,11 @@ pub struct AccessPoint {
 }
 
 impl AccessPoint {
+    ghost use Rattle.access_point.specs.Carrying.{IsReplyTo, answered, asks};
+
     /// An access point that shares this secret with its server, without a station.
     pub fn new(secret: Secret) -> AccessPoint
-        ensures { result.secret ≡ secret }
+        ensures { result ≡ record { pass = initial_pass 0 4; secret = secret; user = []; state = []; id = 0; authenticator = replicate 16 0 } }
     {
         AccessPoint {
             pass: PassThrough::new(0, 4),
@@ -48,8 +52,10 @@ impl AccessPoint {
     }
 
     /// A station is there: the Identity Request for it, or None if one was there before.
+    #[tactic(auto, unfolding(pass_through::specs::PassTable::pass_start))]
     pub fn begin(&mut self) -> Option<Packet>
-        ensures { IfSome result (λ packet. packet ≡ identity_request self.old.pass.first_id) }
+        ensures once { result ≡ (if is_started self.old.pass.state then None else Some (identity_request self.old.pass.first_id)) }
+        ensures after { self.new ≡ record self.old { pass = (pass_accepts self.old.pass start).after } }
     {
         if self.pass.started() {
             None
@@ -60,12 +66,16 @@ impl AccessPoint {
 
     /// A packet has come from the station: the Access-Request for the server, with this Authenticator, which is random; None if
     /// the packet is silently discarded.
+    #[tactic(auto, using(crate::proofs::Forwarding::from_peer_forwards))]
     pub fn from_station(&mut self, packet: &[u8], authenticator: [u8; 16]) -> Option<Injected>
-        ensures { IfSome result (λ datagram. datagram ≡ spelled (request_of self.new.secret self.new.id authenticator
+        ensures passes { IsSome result ↔ IsSome (pass_from_peer self.old.pass packet.now).step.sent }
+        ensures sent { IfSome result (λ datagram. datagram ≡ spelled (request_of self.new.secret self.new.id authenticator
             self.new.user self.new.state (without_padding packet.now))) }
+        ensures after { IfSome result (λ datagram. self.new ≡ asks self.old packet.now authenticator) }
+        ensures unchanged { IfNone result (self.new ≡ self.old) }
     {
         let response = self.pass.from_peer(packet).to_server?;
-        if let Some(name) = name_in(response.as_slice()) {
+        if let Some(name) = name_in(packet) {
             self.user = name;
         }
         self.id = self.id.wrapping_add(1);
@@ -80,30 +90,35 @@ impl AccessPoint {
         ))
     }
 
-    /// A datagram has come from the server: the packet for the station; None if the datagram is no reply to the last request, or
-    /// what it carries is silently discarded.
+    /// A datagram has come from the server: the packet for the station; None if it isn't the reply to the last request, of one
+    /// who knows the secret and with a State of at most 64 octets, or if what it carries is silently discarded.
+    #[tactic(auto, unfolding(radius_carry::specs::Fault::value_of), using(crate::proofs::Forwarding::from_backend_forwards))]
     pub fn from_server(&mut self, datagram: &[u8]) -> Option<Packet>
-        ensures { IsSome result → is_err (packet_of datagram.now) ≡ false }
+        ensures good { IsSome result → (reply : RadiusPacket) × IsReplyTo self.old datagram.now reply }
+        ensures sent { (reply : RadiusPacket) → IsReplyTo self.old datagram.now reply
+            → result ≡ (pass_from_backend self.old.pass (eap_of reply.attributes)).step.sent }
+        ensures after { (reply : RadiusPacket) → IsReplyTo self.old datagram.now reply → IsSome result → self.new ≡ answered self.old reply }
+        ensures unchanged { IfNone result (self.new ≡ self.old) }
     {
         let reply = read_radius(datagram).ok()?;
-        if reply.kind == RadiusKind::Request || reply.id != self.id {
+        if reply.id != self.id || !reply_good(self.secret.as_slice(), &self.authenticator, &reply) {
             return None;
         }
-        if !reply_good(self.secret.as_slice(), &self.authenticator, &reply) {
-            return None;
-        }
-        if let Some(state) = attribute(&reply, STATE) {
-            self.state = Octets::from_slice(state)?;
-        }
-        self.pass.from_backend(eap_of(&reply).as_slice()).to_peer
+        let state = attribute(&reply, STATE).unwrap_or(self.state.as_slice());
+        let state = Octets::from_slice(state)?;
+        let packet = self.pass.from_backend(eap_of(&reply).as_slice()).to_peer?;
+        self.state = state;
+        Some(packet)
     }
 }
 
 /// The name in a Response of Type Identity.
-fn name_in(response: &[u8]) -> Option<Identity> {
-    let packet = decode(response).ok()?;
-    if packet.kind == IDENTITY {
-        Identity::from_slice(packet.body)
+fn name_in(packet: &[u8]) -> Option<Identity>
+    ensures { result ≡ name_in (packet_of packet.now) }
+{
+    let view = decode(packet).ok()?;
+    if view.code == Code::Response && view.kind == IDENTITY {
+        Identity::from_slice(view.body)
     } else {
         None
     }
