@@ -15,7 +15,7 @@ use answer_text::{
     LineBuffer, put_path, put_pieces, send, write_cause, write_nothing, write_pieces,
 };
 use eap_method::{PeerMethod, ServerMethod};
-use eap_packet::State;
+use eap_packet::{Path, State};
 use eap_world::{Brief, Counts, Named, SentNumber, Skip, Told, Verdict, World};
 use login_keys::key_name;
 use login_setup::{Mode, Party, Port};
@@ -296,41 +296,42 @@ fn write_skip<W: Sink>(sink: &mut W, event: u32, skip: Skip) -> Result<(), Faile
 }
 
 /// Writes the lines of an event, as [`write_event_brief`], of a result that has its packet.
-#[tactic(auto, unfolding(crate::specs::Run::told_text))]
 pub fn write_told<W: Sink>(sink: &mut W, told: &Told, names: bool) -> Result<(), Failed>
     ensures { Appends W.shown result sink.old sink.new (told_text names (packet_octets told.now.sent) (brief_of told.now)) }
 {
-    match told.skip {
-        None => write_acted_whole(sink, told, names),
-        Some(skip) => write_skip(sink, told.event, skip),
-    }
+    write_event_brief(sink, &brief_of(told), octets_sent(told), names)
 }
 
-/// Writes the lines of an event that wasn't skipped, of a result that has its packet.
-#[tactic(auto, using(answer_text::proofs::Fronts::appends_both, answer_text::proofs::Fronts::appends_front))]
-fn write_acted_whole<W: Sink>(sink: &mut W, told: &Told, names: bool) -> Result<(), Failed>
-    ensures { Appends W.shown result sink.old sink.new (acted_text names (packet_octets told.now.sent) (brief_of told.now)) }
+/// The result without the octets of its packet.
+fn brief_of(told: &Told) -> Brief
+    ensures { result ≡ brief_of told.now }
 {
-    let sent = number_sent(told);
-    let octets = octets_sent(told);
-    write_party(sink, told.event, told.party, told.path.as_slice())?;
-    write_cause(sink, told.event, told.cause)?;
-    write_sent(sink, told.event, octets, &sent)?;
-    write_octets(sink, told.event, octets, &sent, names)?;
-    write_keys(sink, told.event, &told.named, names)
-}
-
-/// The number and the port of the packet that was sent.
-fn number_sent(told: &Told) -> Option<SentNumber>
-    ensures { result ≡ (brief_of told.now).sent }
-{
-    match &told.sent {
-        None => None,
-        Some(sent) => Some(SentNumber {
+    Brief {
+        event: told.event,
+        party: told.party,
+        path: path_copy(&told.path),
+        cause: told.cause,
+        skip: told.skip,
+        sent: told.sent.as_ref().map(|sent| SentNumber {
             number: sent.number,
             port: sent.port,
         }),
+        named: told.named.as_ref().map(|named| Named {
+            party: named.party,
+            report: named.report.copy(),
+        }),
     }
+}
+
+/// An equal path.
+fn path_copy(path: &Path) -> Path
+    ensures { result ≡ path.now }
+{
+    let mut copied = Path::new();
+    for state in path.as_slice() {
+        copied.push(*state);
+    }
+    copied
 }
 
 /// The octets of the packet that was sent.
@@ -344,7 +345,6 @@ fn octets_sent(told: &Told) -> &[u8]
 }
 
 /// Writes the lines of the start, as [`write_start_brief`], of a result that has its packet.
-#[tactic(auto, using(answer_text::proofs::Fronts::appends_both, answer_text::proofs::Fronts::appends_front))]
 pub fn write_start<W: Sink>(
     sink: &mut W,
     mode: Mode,
@@ -353,9 +353,7 @@ pub fn write_start<W: Sink>(
 ) -> Result<(), Failed>
     ensures { Appends W.shown result sink.old sink.new (start_text mode names (packet_octets told.now.sent) (brief_of told.now)) }
 {
-    write_peer_start(sink)?;
-    write_told(sink, told, names)?;
-    write_server_start(sink, mode)
+    write_start_brief(sink, mode, &brief_of(told), octets_sent(told), names)
 }
 
 /// Writes the line of the peer's INITIALIZE (RFC 4137 section 4.5).
