@@ -6,7 +6,8 @@
 #
 #   bench/library_speed.sh [SOURCE]
 #
-# It takes the archive that TUV_LIBRARY names, as `rt lib` writes it, or proves and builds the library.
+# It takes the archive that TUV_LIBRARY names, as `rt lib` writes it, or proves and builds the library. Where chrt is allowed,
+# the programs run before all others, on the last processor.
 set -eu
 # shellcheck source=bench/common.sh
 . "$(dirname "$(readlink -f "$0")")/common.sh"
@@ -23,12 +24,15 @@ done
 [ $# = 1 ] || exit 0
 
 make -s -C "$work" -f "$here/c/hostapd/pairs.mk" "SOURCE=$(readlink -f "$1")" "HERE=$here/c/hostapd" "LIBRARY=$work"
+first="chrt -r 10 taskset -c $(($(nproc) - 1))"
+$first true 2>/dev/null || first=
+unset GLIBC_TUNABLES
+# shellcheck disable=SC2086
 for _ in $(seq 14); do
     for login in '51 1 gpsk' '47 0 psk' '51 2 gpsk2'; do
         for side in o h; do
-            # shellcheck disable=SC2086
             set -- $login
-            "$work/pairs" $side $side "$1" "$2" 1500 | sed -n "s/.*microseconds each /$3 $side /p"
+            $first "$work/pairs" $side $side "$1" "$2" 1500 | sed -n "s/.*microseconds each /$3 $side /p"
         done
     done
 done >"$work/times"
