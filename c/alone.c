@@ -20,6 +20,7 @@ static int fake_cpuid(unsigned int leaf, unsigned int part, unsigned int *a,
 #define __get_cpuid_count(...) fake_cpuid(__VA_ARGS__)
 #endif
 #include "machine.c"	/* NOLINT(bugprone-suspicious-include): the processor is another one here */
+#include "heap.h"
 #include <malloc.h>
 #include <stdio.h>
 #include <stdlib.h>
@@ -37,14 +38,6 @@ static void holds(bool is_so, const char *fault)
 }
 
 /* The heap. */
-struct block {
-	bool ok;
-	void *at;
-};
-
-struct block rattle_alloc(size_t size, size_t align);
-struct block rattle_realloc(void *at, size_t old_size, size_t size, size_t align);
-void rattle_dealloc(void *at);
 void alone_free(void *at);
 
 static unsigned int freed;

@@ -5,6 +5,7 @@
  * end of a handle. */
 #define _DEFAULT_SOURCE
 #include <string.h>
+#include "heap.h"
 #include "tuvaddri.h"
 
 #ifndef TAKES_SETTINGS	/* (else for the table alone) */
@@ -134,9 +135,6 @@ static bool report_by(reporter *whole_by, struct tuv_end *end, void *report)
 	{									\
 		return report_by(WHOLE_REPORT(name), end, report);		\
 	}
-
-/* heap.c's, pool.c's or the program's; it clears what it gives back. */
-void rattle_dealloc(void *at);
 
 void tuv_end_drop(struct tuv_end *end)
 {

@@ -41,6 +41,7 @@
 #include <sys/mman.h>
 #include <unistd.h>
 #include "fuzz.h"
+#include "heap.h"
 
 void *fuzz_malloc(size_t size);
 void fuzz_free(void *at);
@@ -1069,16 +1070,6 @@ static void try_limits(void)
 	at_limit(&later, 10, false);
 	behind = RANDOM;
 }
-
-/* heap.c's. */
-struct block {
-	bool ok;
-	void *at;
-};
-
-struct block rattle_alloc(size_t size, size_t align);
-struct block rattle_realloc(void *at, size_t old_size, size_t size, size_t align);
-void rattle_dealloc(void *at);
 
 /* A filled block moves, to more room and to less; where there is none it stays. */
 static void try_heap(void)

@@ -3,22 +3,10 @@
  * processor doesn't serve there is no memory: tuv_end_new answers false. */
 #define _DEFAULT_SOURCE
 #include <malloc.h>
-#include <stdbool.h>
-#include <stddef.h>
 #include <stdlib.h>
 #include <string.h>
+#include "heap.h"
 #include "tuvaddri.h"
-
-/* Whether there is memory, and where; the place is never null. */
-struct block {
-	bool ok;
-	void *at;
-};
-
-struct block rattle_alloc(size_t size, size_t align);
-struct block rattle_realloc(void *at, size_t old_size, size_t size,
-			    size_t align);
-void rattle_dealloc(void *at);
 
 static struct block block_at(void *at)
 {
@@ -36,8 +24,7 @@ struct block rattle_alloc(size_t size, size_t align)
 }
 
 /* The octets move to a new block: the old one is cleared, as realloc doesn't. */
-struct block rattle_realloc(void *at, size_t old_size, size_t size,
-			    size_t align)
+struct block rattle_realloc(void *at, size_t old_size, size_t size, size_t align)
 {
 	struct block block = rattle_alloc(size, align);
 

@@ -4,6 +4,7 @@
  * (c/library names the proved call of each line below proved_..) */
 #define _DEFAULT_SOURCE
 #include <string.h>
+#include "heap.h"
 #include "tuvaddri.h"
 
 #if UINTPTR_MAX == UINT32_MAX
@@ -153,15 +154,7 @@ REPORT(tuv_end_report)
 REPORT(tuv_peer_report)
 REPORT(tuv_server_report)
 
-/* --- the heap: heap.c's, pool.c's or the program's --- */
-
-struct block {
-	bool ok;
-	void *at;
-};
-
-struct block rattle_alloc(size_t size, size_t align);
-struct block rattle_realloc(void *at, size_t old_size, size_t size, size_t align);
+/* --- the heap --- */
 
 void tuv_wide_alloc(uint64_t answer[2], uint64_t size, uint64_t align);
 void tuv_wide_realloc(uint64_t answer[2], void *at, uint64_t old_size, uint64_t size,

@@ -2,24 +2,14 @@
  * no system, with TUV_POOL octets; a program compiles it itself for another size
  * (tuv_end_size() and some more for each end).  First fit; blocks that are given
  * back join their neighbours.  One thread. */
-#include <stdbool.h>
-#include <stddef.h>
 #include <stdint.h>
 #include <string.h>
+#include "heap.h"
 #include "tuvaddri.h"
 
 #ifndef TUV_POOL
 #define TUV_POOL 16384
 #endif
-
-struct block {
-	bool ok;
-	void *at;
-};
-
-struct block rattle_alloc(size_t size, size_t align);
-struct block rattle_realloc(void *at, size_t old_size, size_t size, size_t align);
-void rattle_dealloc(void *at);
 
 /* Before each block its size, with what stands before it, and whether it is taken. */
 struct head {

@@ -162,7 +162,7 @@ refuses "$work has no rlm_eap_gpsk.so; c/freeradius/build builds it" tools/insta
 # program finds by pkg-config. When a source has changed it isn't proved, and is refused, with nothing put in place.
 cp -R --parents tools/install tools/why tools/page tools/chart tools/capture-of tools/by-station tools/lib share docs/*.md \
     examples/keys.txt c/python c/rust c/examples c/hostapd/README.md c/hostapd/*.c \
-    c/tuvaddri.h c/README.md c/NOTICE c/spdx.json c/numbers.txt c/*.c "$copy"
+    c/README.md c/NOTICE c/spdx.json c/numbers.txt c/*.h c/*.c "$copy"
 mkdir -p "$copy/c/out"
 DESTDIR=$work/dest in_copy tools/install --prefix /opt/eap
 holds "install of a proved program" [ "$ended $(head -n 1 "$work/out")" = "0 $work/dest/opt/eap/bin/eap_login" ]
