@@ -1,5 +1,6 @@
 /* A peer on a machine without a system: it logs alice in at srv, with a heap in an
  * array (../pool.c) and what board.h asks of the board. */
+#define _DEFAULT_SOURCE
 #include <string.h>
 #include "board.h"
 
@@ -24,14 +25,6 @@ static bool succeeds(void)
 	return turn.state == TUV_STATE_SUCCESS && tuv_peer_report(&peer, &report);
 }
 
-static void clear(void *at, size_t len)
-{
-	volatile uint8_t *octet = at;
-
-	while (len--)
-		*octet++ = 0;
-}
-
 int main(void)
 {
 	if (!tuv_end_new(&peer.at))
@@ -46,10 +39,8 @@ int main(void)
 		if (tuv_peer_begin(&peer, &settings, nonce))
 			return 1;
 		board_ends(succeeds() ? &report : NULL);
-		clear(&report, sizeof(report));
+		explicit_bzero(&report, sizeof(report));
 	}
-	tuv_end_close(&peer);
-	clear(peer.at, tuv_end_size());
-	tuv_clear_stack();
+	tuv_end_drop(&peer);
 	return 0;
 }

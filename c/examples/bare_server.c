@@ -1,4 +1,5 @@
 /* A stand-alone server of one user on a machine without a system, as bare_peer.c. */
+#define _DEFAULT_SOURCE
 #include <string.h>
 #include "board.h"
 
@@ -27,14 +28,6 @@ static bool succeeds(void)
 	return turn.state == TUV_STATE_SUCCESS && tuv_server_report(&server, &report);
 }
 
-static void clear(void *at, size_t len)
-{
-	volatile uint8_t *octet = at;
-
-	while (len--)
-		*octet++ = 0;
-}
-
 int main(void)
 {
 	if (!tuv_end_new(&server.at))
@@ -49,10 +42,8 @@ int main(void)
 		if (tuv_server_begin(&server, &settings, nonce, 0, 4))
 			return 1;
 		board_ends(succeeds() ? &report : NULL);
-		clear(&report, sizeof(report));
+		explicit_bzero(&report, sizeof(report));
 	}
-	tuv_end_close(&server);
-	clear(server.at, tuv_end_size());
-	tuv_clear_stack();
+	tuv_end_drop(&server);
 	return 0;
 }

@@ -64,7 +64,7 @@ def tell(peer, turn):
 
 
 def serve(peer, port, silence):
-    state, until = "IDLE", 0.0
+    until = 0.0
     while True:
         packet = port.receive()
         turn = take(peer, packet) if packet else None
@@ -72,13 +72,12 @@ def serve(peer, port, silence):
             tell(peer, turn)
         if turn and turn.packet:
             port.send(EAP_PACKET, turn.packet)
-        if turn and not turn.cause:
-            state, until = turn.state, time.monotonic() + silence
-        elif time.monotonic() >= until:
-            if state != "SUCCESS":
-                peer.restart()
+        if not turn or turn.cause:
+            if time.monotonic() < until:
+                continue
+            peer.restart()
             port.send(EAPOL_START)
-            until = time.monotonic() + silence
+        until = time.monotonic() + silence
 
 
 def main(interface, name, silence="30"):
