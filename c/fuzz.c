@@ -22,9 +22,10 @@
  *   with the reasons that the header gives; then each end begins again by a
  *   restart, without memory or a report, and it ends as before.
  *
- * Whatever is handed in or written to ends before a page that can't be touched:
- * octets, nonces, rooms, reports, and settings of as many octets as their `size`
- * says (or of `size` alone, where it is over what the header reads).  Names,
+ * Whatever is handed in or written to ends before a page that can't be touched, and
+ * what lies before it stays: handles, octets, nonces, rooms, reports, and settings of
+ * as many octets as their `size` says (or of `size` alone, where it is over what the
+ * header reads).  Names,
  * keys, Identifiers, sizes and counts are at one of their limits in one of eight.
  *
  * heap.c is compiled with -Dmalloc=fuzz_malloc -Dfree=fuzz_free: in between each
@@ -62,7 +63,7 @@ struct turn {
 	uint8_t cause, state;
 };
 
-static struct tuv_end ends[HANDLES];
+static struct tuv_end *ends[HANDLES];
 struct model models[HANDLES];
 static uint8_t *before;		/* the block as it was before a call */
 static struct packet sent, kept[8];
@@ -95,28 +96,59 @@ static void fill(uint8_t *at, size_t len)
 		*at++ = any(256);
 }
 
+static bool is_filled(const uint8_t *at, uint8_t octet, size_t len)
+{
+	while (len--)
+		if (*at++ != octet)
+			return false;
+	return true;
+}
+
+static void fail(const char *why)
+{
+	printf("fuzz: %s, after %lu calls\n", why, calls);
+	exit(1);
+}
+
 /* Places that end before a page which can't be touched, each used again after
- * PLACES more: those of one call, and those of one login. */
-enum { PLACES = 64, ROOM = 8192 };
+ * PLACES more: those of one call, of one login, and of the handles. */
+enum { PLACES = 64, ROOM = 8192, FRONT = 32 };
+struct place {
+	uint8_t *at, *used;
+};
 struct pool {
-	uint8_t *places[PLACES];
+	struct place places[PLACES];
 	unsigned int next;
 };
-static struct pool passing, lasting;
+static struct pool passing, lasting, standing;
+
+static void hold_front(const struct place *place)
+{
+	if (place->used && !is_filled(place->used - FRONT, 0xa5, FRONT))
+		fail("what lies before a place is written");
+}
 
 static uint8_t *guarded(struct pool *pool, size_t len)
 {
-	uint8_t **at = &pool->places[pool->next++ % PLACES];
+	struct place *place = &pool->places[pool->next++ % PLACES];
 	size_t page = sysconf(_SC_PAGESIZE);
 	size_t room = ROOM > page ? ROOM : page;
 
-	if (!*at) {
-		*at = mmap(NULL, room + page, PROT_READ | PROT_WRITE,
-			   MAP_PRIVATE | MAP_ANONYMOUS, -1, 0);
-		if (*at == MAP_FAILED || mprotect(*at + room, page, PROT_NONE))
+	if (!place->at) {
+		place->at = mmap(NULL, room + page, PROT_READ | PROT_WRITE,
+				 MAP_PRIVATE | MAP_ANONYMOUS, -1, 0);
+		if (place->at == MAP_FAILED || mprotect(place->at + room, page, PROT_NONE))
 			exit(5);
 	}
-	return *at + room - len;
+	hold_front(place);
+	place->used = place->at + room - len;
+	memset(place->used - FRONT, 0xa5, FRONT);
+	return place->used;
+}
+
+static struct tuv_end *new_handle(struct pool *pool)
+{
+	return (void *) guarded(pool, sizeof(struct tuv_end));
 }
 
 /* Octets for one call. */
@@ -142,24 +174,10 @@ static struct tuv_octets new_octets(size_t len)
 	return (struct tuv_octets) { at, len };
 }
 
-static void fail(const char *why)
-{
-	printf("fuzz: %s, after %lu calls\n", why, calls);
-	exit(1);
-}
-
 static void remember(enum handle h)
 {
 	calls++;
-	memcpy(before, ends[h].at, tuv_end_size());
-}
-
-static bool is_filled(const uint8_t *at, uint8_t octet, size_t len)
-{
-	while (len--)
-		if (*at++ != octet)
-			return false;
-	return true;
+	memcpy(before, ends[h]->at, tuv_end_size());
 }
 
 void fuzz_free(void *at)
@@ -172,7 +190,7 @@ void fuzz_free(void *at)
 /* So many octets of the block may have changed. */
 static void same(enum handle h, size_t but, const char *why)
 {
-	const uint8_t *now = ends[h].at;
+	const uint8_t *now = ends[h]->at;
 	size_t i, size = tuv_end_size();
 
 	if (memcmp(before, now, size) == 0)
@@ -213,7 +231,7 @@ static struct tuv_turn restarted(enum handle h)
 	struct tuv_turn turn;
 
 	fill(nonce, sizeof(nonce));
-	turn = BY_ROLE(h, restart)(&ends[h], copied(nonce, sizeof(nonce)));
+	turn = BY_ROLE(h, restart)(ends[h], copied(nonce, sizeof(nonce)));
 	if (!turn.misplaced)
 		memcpy(models[h].nonce, nonce, sizeof(nonce));
 	return turn;
@@ -222,7 +240,7 @@ static struct tuv_turn restarted(enum handle h)
 static struct turn call_of(enum handle h, enum call c, const uint8_t *at,
 			   size_t len)
 {
-	struct tuv_end *end = &ends[h];
+	struct tuv_end *end = ends[h];
 
 	switch (c) {
 	case DELIVER: return of(BY_ROLE(h, deliver)(end, at, len));
@@ -268,12 +286,12 @@ static size_t ask(enum handle h, size_t (*which)(struct tuv_end *, uint8_t *, si
 	static const uint8_t untouched[3] = { 1, 2, 3 };
 	uint8_t *small = copied(untouched, sizeof(untouched)), *room;
 
-	packet->len = which(&ends[h], small, sizeof(untouched));
+	packet->len = which(ends[h], small, sizeof(untouched));
 	if (packet->len > TUV_PACKET_MAX ||
 	    memcmp(small, untouched, sizeof(untouched)) != 0)
 		fail("a packet is cut or lost");
 	room = guarded(&passing, packet->len);
-	if (which(&ends[h], room, packet->len) != packet->len)
+	if (which(ends[h], room, packet->len) != packet->len)
 		fail("a packet is lost");
 	memcpy(packet->octets, room, packet->len);
 	return packet->len;
@@ -346,7 +364,7 @@ static void ask_refused(enum handle h)
 	uint8_t *at = copied(&size, sizeof(size));
 
 	remember(h);
-	if (BY_ROLE(h, report)(&ends[h], (void *) at) || memcmp(at, &size, sizeof(size)) != 0)
+	if (BY_ROLE(h, report)(ends[h], (void *) at) || memcmp(at, &size, sizeof(size)) != 0)
 		fail("a report of a size that is none");
 	same(h, 0, "a report of a size that is none changes the end");
 }
@@ -362,7 +380,7 @@ static void ask_otherwise(enum handle h, bool has, const struct tuv_report *r)
 	memset(at, 0, known);
 	memcpy(at, &size, sizeof(size));
 	remember(h);
-	if (BY_ROLE(h, report)(&ends[h], (void *) at) != has)
+	if (BY_ROLE(h, report)(ends[h], (void *) at) != has)
 		fail("a report depends on its size");
 	if (memcmp(at, &size, sizeof(size)) != 0 ||
 	    memcmp(at + sizeof(size), (const uint8_t *) r + sizeof(size), known - sizeof(size)) != 0 ||
@@ -382,9 +400,9 @@ static bool report(enum handle h, struct tuv_report *r)
 	r->size = sizeof(*r);
 	at = (void *) copied(r, sizeof(*r));
 	remember(h);
-	if ((h == PEER ? tuv_server_report : tuv_peer_report)(&ends[h], at))
+	if ((h == PEER ? tuv_server_report : tuv_peer_report)(ends[h], at))
 		fail("a report of the other role");
-	has = BY_ROLE(h, report)(&ends[h], at);
+	has = BY_ROLE(h, report)(ends[h], at);
 	same(h, 0, "a report changes the end");
 	if (!has && memcmp(at, r, sizeof(*r)) != 0)
 		fail("a report is written where there is none");
@@ -413,8 +431,8 @@ static size_t identify(enum handle h, const struct tuv_report *r,
 	rooms[0] = copied(ids[0], sizeof(ids[0]));
 	rooms[1] = copied(ids[1], sizeof(ids[1]));
 	remember(h);
-	len = tuv_end_session_id(&ends[h], rooms[0]);
-	if (tuv_end_session_id_wpa(&ends[h], rooms[1]) != len)
+	len = tuv_end_session_id(ends[h], rooms[0]);
+	if (tuv_end_session_id_wpa(ends[h], rooms[1]) != len)
 		fail("Session-Ids of two lengths");
 	memcpy(ids[0], rooms[0], sizeof(ids[0]));
 	memcpy(ids[1], rooms[1], sizeof(ids[1]));
@@ -461,7 +479,7 @@ static void hold_reason(enum handle h)
 	struct tuv_failure why;
 
 	remember(h);
-	why = tuv_end_failure(&ends[h]);
+	why = tuv_end_failure(ends[h]);
 	same(h, 0, "asking for a reason changes the end");
 	if (why.reason > TUV_FAILURE_ENDED || why.code > 3)
 		fail("there is no such reason");
@@ -598,14 +616,14 @@ static uint8_t begin_of(enum handle h, const struct tuv_settings *s,
 			const uint8_t *nonce, uint8_t retries)
 {
 	switch (role_of(h)) {
-	case A_PASS: return tuv_pass_begin(&ends[h], among(0, 255), retries);
-	case A_PEER_METHOD: return tuv_peer_method_begin(&ends[h], s, nonce);
+	case A_PASS: return tuv_pass_begin(ends[h], among(0, 255), retries);
+	case A_PEER_METHOD: return tuv_peer_method_begin(ends[h], s, nonce);
 	case A_SERVER_METHOD:
-		return tuv_server_method_begin(&ends[h], s, nonce, among(0, 255));
-	case A_PEER: return tuv_peer_begin(&ends[h], s, nonce);
-	case A_BACKEND: return tuv_backend_begin(&ends[h], s, nonce);
+		return tuv_server_method_begin(ends[h], s, nonce, among(0, 255));
+	case A_PEER: return tuv_peer_begin(ends[h], s, nonce);
+	case A_BACKEND: return tuv_backend_begin(ends[h], s, nonce);
 	default:
-		return tuv_server_begin(&ends[h], s, nonce, among(0, 255), retries);
+		return tuv_server_begin(ends[h], s, nonce, among(0, 255), retries);
 	}
 }
 
@@ -647,8 +665,8 @@ static void give(enum handle h, const struct tuv_settings *s, bool by_method)
 
 	remember(h);
 	s = handed(s);
-	answer = by_method ? tuv_server_method_user(&ends[h], s)
-			   : tuv_server_user(&ends[h], s);
+	answer = by_method ? tuv_server_method_user(ends[h], s)
+			   : tuv_server_user(ends[h], s);
 	if (answer != judged_user(h, s, by_method))
 		fail("a user is refused otherwise than the header says");
 	if (answer != TUV_BEGUN) {
@@ -811,7 +829,7 @@ static void prepare(void)
 
 static bool ended_for(enum handle h, uint8_t reason, uint8_t code)
 {
-	struct tuv_failure why = tuv_end_failure(&ends[h]);
+	struct tuv_failure why = tuv_end_failure(ends[h]);
 
 	return why.reason == reason && why.code == code;
 }
@@ -875,7 +893,7 @@ static bool carry(unsigned int disturbances)
 		else {
 			enum handle h = any(HANDLES);
 
-			tuv_end_close(&ends[h]);
+			tuv_end_close(ends[h]);
 			memset(&models[h], 0, sizeof(models[h]));
 			hold_packets(h);
 		}
@@ -897,8 +915,8 @@ static void log_in_again(bool both)
 		call(PASS, PASS_RESTART, sent.octets, 0);
 	if (misplaced != places)
 		fail("a restart has no place");
-	if (tuv_end_report(&ends[PEER], &left) ||
-	    tuv_end_report(&ends[SERVER], &left))
+	if (tuv_end_report(ends[PEER], &left) ||
+	    tuv_end_report(ends[SERVER], &left))
 		fail("a restart leaves a report");
 	if (carry(0) != both)
 		fail("a login by a restart ends otherwise");
@@ -986,9 +1004,10 @@ static bool starved(enum handle h, struct tuv_end *end)
 static void starve(void)
 {
 	unsigned int refusals, h;
-	struct tuv_end end;
+	struct tuv_end *end;
 
 	prepare();
+	end = new_handle(&lasting);
 	setting = ALONE;
 	fails_at = 0;
 	do {
@@ -996,16 +1015,16 @@ static void starve(void)
 		fails_at++;
 		refusals = 0;
 		calls++;
-		if (!tuv_end_new(&end.at)) {
+		if (!tuv_end_new(&end->at)) {
 			refusals++;
-			if (!tuv_end_new(&end.at))
+			if (!tuv_end_new(&end->at))
 				fail("memory is refused twice");
 		}
 		for (h = 0; h < HANDLES; h++)
-			refusals += starved(h, &end);
+			refusals += starved(h, end);
 		if (refusals != (fails_at <= allocations))
 			fail("want of memory is not said");
-		drop(&end);
+		drop(end);
 	} while (refusals);
 	fails_at = 0;
 }
@@ -1103,7 +1122,8 @@ static void make_ends(void)
 	if (!before)
 		exit(5);
 	for (i = 0; i < HANDLES; i++) {
-		if (!tuv_end_new(&ends[i].at))
+		ends[i] = new_handle(&standing);
+		if (!tuv_end_new(&ends[i]->at))
 			exit(5);
 		if (taken != tuv_end_size())
 			fail("tuv_end_size is another than what tuv_end_new takes");
@@ -1134,7 +1154,12 @@ int main(int argc, char *argv[])
 			be_silent();
 	}
 	for (i = 0; i < HANDLES; i++)
-		drop(&ends[i]);
+		drop(ends[i]);
+	for (i = 0; i < PLACES; i++) {
+		hold_front(&passing.places[i]);
+		hold_front(&lasting.places[i]);
+		hold_front(&standing.places[i]);
+	}
 	free(before);
 	printf("fuzz: %lu calls, %lu logins, %lu by a restart, %lu that fail as they should, %lu discards, %lu out of place, %lu refused, none wrong\n",
 	       calls, logins, again, failed, discarded, misplaced, refused);
