@@ -1,7 +1,7 @@
 #!/bin/sh
 # A login by the library for C, both ends: its instructions, the difference of 60 logins and 20, by 40; each makes, begins,
 # reports, closes, clears and frees both handles, and clears the stack. And its processor time, by the clock: the least of
-# 14 times 1,500 logins. With SOURCE, the unpacked source package `wpa` 2.10, hostapd's library does the same logins in
+# 40 times 500 logins. With SOURCE, the unpacked source package `wpa` 2.10, hostapd's library does the same logins in
 # turns with ours, by the same program (c/hostapd/pairs.c). A virtual machine shows by time what instructions hide.
 #
 #   bench/library_speed.sh [SOURCE]
@@ -28,11 +28,11 @@ first="chrt -r 10 taskset -c $(($(nproc) - 1))"
 $first true 2>/dev/null || first=
 unset GLIBC_TUNABLES
 # shellcheck disable=SC2086
-for _ in $(seq 14); do
+for _ in $(seq 40); do
     for login in '51 1 gpsk' '47 0 psk' '51 2 gpsk2'; do
         for side in o h; do
             set -- $login
-            $first "$work/pairs" $side $side "$1" "$2" 1500 | sed -n "s/.*microseconds each /$3 $side /p"
+            $first "$work/pairs" $side $side "$1" "$2" 500 | sed -n "s/.*microseconds each /$3 $side /p"
         done
     done
 done >"$work/times"
