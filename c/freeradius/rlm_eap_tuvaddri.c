@@ -413,7 +413,6 @@ static void tell_end(struct session *s)
 	else tell(s, reason, reason == BAD_PACKET ? OTHER_TYPE : reasons[reason].text);
 }
 
-/* The library leaves octets of keys in its block. */
 static void give_back(void *opaque)
 {
 	struct session *s = opaque;
@@ -422,9 +421,7 @@ static void give_back(void *opaque)
 	if (s->is_listed) rbtree_deletebydata(stations, s);
 	pthread_mutex_unlock(&stations_mutex);
 	if (!s->is_told) tell_end(s);
-	tuv_end_close(&s->end);
-	explicit_bzero(s->end.at, tuv_end_size());
-	free(s->end.at);
+	tuv_end_drop(&s->end);
 	free(s);
 }
 
@@ -474,7 +471,7 @@ static int session_init(void *instance, eap_handler_t *handler)
 		return 0;
 	}
 	if (!note(s, handler) || !join_ring(handler)) {
-		free(s->end.at);
+		tuv_end_drop(&s->end);
 		free(s);
 		return 0;
 	}
