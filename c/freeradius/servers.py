@@ -191,7 +191,7 @@ def put_server(work: str, folder: pathlib.Path, told: Mapping[str, str]) -> None
 def put_site(work: str, folder: pathlib.Path, site: str, told: Mapping[str, str]) -> None:
     file = folder / "sites-enabled/tuvaddri"
     if site in AUTHORIZE:
-        edit(file, ("(?<=^\tauthorize {)\n\t\tfilter_username[^}]*}", f"\n\t\t{AUTHORIZE[site]}"))
+        edit(file, ("(?<=^\tauthorize {)\n\t\tif.*(\n\t\t.*)+", f"\n\t\t{AUTHORIZE[site]}"))
     if told["rule"]:
         edit(file, ("^\tpost-auth {", f'\tpost-auth {{\n\t\t{RULES[told["rule"]]}'))
     if site in ("proxy", "pool"):
