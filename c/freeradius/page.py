@@ -42,7 +42,19 @@ STORES = {
 }
 LOGINS, AT_ONCE = 5000, 64
 # Logins that nobody goes on with, and the real ones beside them.
-OPENED, BESIDE, MOST_MEGABYTES = 20000, 2000, 850
+OPENED, BESIDE, MOST_MEGABYTES = 160000, 2000, 850
+# A read replica of the database, by a port of its own, and a store that asks either.
+REPLICA = r"""main=$(echo /var/lib/postgresql/*/main)
+version=$(basename "$(dirname "$main")")
+pg_createcluster "$version" two
+rm -r "${main%main}two"
+runuser -u postgres -- pg_basebackup -R -D "${main%main}two"
+pg_ctlcluster "$version" two start
+cd /etc/freeradius/3.0
+sed 's/^sql {/sql two {/; s/radius_db = .*/radius_db = "port=5433 dbname=radius"/' mods-available/tuvaddri-sql >mods-enabled/two
+sed -i 's/^\t\t-sql$/redundant-load-balance {\nsql\ntwo\n}/' sites-available/tuvaddri
+systemctl restart freeradius
+"""
 
 
 def blocks(language: str) -> list[str]:
@@ -97,14 +109,16 @@ class Page:
     def last(self, pattern: str) -> bool:
         return bool(re.search(pattern, LOG.read_text("latin-1").splitlines()[-1]))
 
+    def database(self, name: str, *words: str) -> None:
+        subprocess.run(["pg_ctlcluster", *os.listdir("/usr/lib/postgresql"), name, *words], check=True)
+
     def lost_store(self) -> None:
         """The database stops, and comes back."""
-        cluster = subprocess.run(["pg_lsclusters", "-h"], stdout=subprocess.PIPE, text=True).stdout.split()[:2]
-        subprocess.run(["pg_ctlcluster", *cluster, "stop", "-m", "fast"], check=True)
+        self.database("main", "stop", "-m", "fast")
         done = self.station("more/carol.conf")
         is_told = self.last("user=.carol.* reason=no-store: ")
         self.that("no login without the database, which the log says", not done.is_good and is_told, done.said)
-        subprocess.run(["pg_ctlcluster", *cluster, "start"], check=True)
+        self.database("main", "start")
         # (retry_delay)
         time.sleep(6)
         done = self.station("more/carol.conf")
@@ -120,17 +134,40 @@ class Page:
         """Logins that nobody goes on with take none from others, and no memory for good."""
         users = servers.RADDB / "mods-config/files/authorize"
         users.write_text(users.read_text() + servers.keys_of(self.work, "freeradius"))
+        servers.edit(servers.RADDB / "mods-available/tuvaddri-eap", servers.MD5)
         self.store("PostgreSQL", "DELETE FROM radcheck WHERE username LIKE 'user%';\n")
         subprocess.run(["systemctl", "restart", "freeradius"], check=True)
+        words = ["systemctl", "show", "-P", "MainPID", "freeradius"]
+        pid = subprocess.run(words, stdout=subprocess.PIPE, text=True).stdout.strip()
         for named in servers.FLOODS:
+            pathlib.Path(f"/proc/{pid}/clear_refs").write_text("5")
+            done: list[servers.Load] = []
             with ThreadPoolExecutor() as beside:
                 other = beside.submit(servers.flood, self.work, named, OPENED)
-                done = servers.load(self.work, "GPSK 1", BESIDE, 8)
-            self.logins(f"beside {OPENED} {named} ({other.result().rate:.0f} a second)", done, BESIDE)
-        pid = subprocess.run(["systemctl", "show", "-P", "MainPID", "freeradius"], stdout=subprocess.PIPE, text=True).stdout.strip()
-        status = pathlib.Path(f"/proc/{pid}/status").read_text()
-        most = int(re.findall(r"VmHWM:\s+(\d+)", status)[0]) / 1000
-        self.that(f"the server has taken {most:.0f} MB at most", most < MOST_MEGABYTES, status)
+                while not (done and other.done()):
+                    done.append(servers.load(self.work, "GPSK 1", BESIDE, 8))
+            good, count = sum(it.good for it in done), BESIDE * len(done)
+            most = int(re.findall(r"VmHWM:\s+(\d+)", pathlib.Path(f"/proc/{pid}/status").read_text())[0]) / 1000
+            is_so = good == count and other.result().good == OPENED and not any(it.mismatches for it in done)
+            rate = f"{OPENED} {named}, {other.result().rate:.0f} a second"
+            lines = LOG.read_text("latin-1").splitlines()
+            lost = [it for it in lines if " : Error: " in it or ('station="02-00-00-' in it and " proved " not in it)]
+            said = "\n".join([*lost[-8:], other.result().said, *(it.said for it in done[-3:])])
+            self.that(f"beside {rate}, {good} of {count} logins are good, {most:.0f} MB", is_so and most < MOST_MEGABYTES, said)
+
+    def replicas(self) -> None:
+        """A database and a replica of it, each of which is lost once while logins go on."""
+        self.run(REPLICA, "a replica of the database is made")
+        for name in ("main", "two"):
+            with ThreadPoolExecutor() as beside:
+                done = beside.submit(servers.load, self.work, "GPSK 1", LOGINS, AT_ONCE, 4)
+                time.sleep(0.5)
+                self.database(name, "stop", "-m", "fast")
+            self.logins(f"by redundant-load-balance, while the database {name} is lost", done.result(), LOGINS)
+            self.that("a user of it alone logs in", self.station("more/carol.conf").is_good)
+            self.database(name, "start")
+            # (retry_delay)
+            time.sleep(6)
 
     def follow(self, source: str) -> None:
         commands = blocks("sh")
@@ -152,6 +189,7 @@ class Page:
         self.lost_store()
         self.reply()
         self.flood()
+        self.replicas()
         log = LOG.read_text("latin-1")
         for line in "".join(blocks("text")).splitlines():
             self.that(f"its line is in the log: {line[:40]}..", f" : Auth: {line}\n" in log, log[-2000:])
@@ -185,8 +223,10 @@ def main() -> int:
     if not 1 <= len(words) <= 2 or words[0].startswith("-"):
         sys.exit("usage: c/freeradius/page.py FOLDER [SOURCE]")
     again = [sys.executable, "-B", f"{HERE}/page.py", "inside", *map(os.path.realpath, words)]
+    told = {"EAP_LOGIN": ends.program(), "TUV_LIBRARY": os.environ.get("TUV_LIBRARY", "")}
+    environment = [f"{name}={word}" for name, word in told.items()]
     # (descriptor 9 may be the machine's network)
-    status = subprocess.run([f"{HERE}/apart", words[0], "env", f"EAP_LOGIN={ends.program()}", *again], close_fds=False).returncode
+    status = subprocess.run([f"{HERE}/apart", words[0], "env", *environment, *again], close_fds=False).returncode
     if status == 3:
         print("page: not run: docs/SERVERS.md: systemd can't be begun over a copy of this machine's files\npage: 0 passed, 0 failed")
         return 0

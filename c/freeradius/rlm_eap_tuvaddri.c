@@ -23,10 +23,10 @@
 #define KEY_SIZES "32 to 64 octets"
 #endif
 
-/* The keys that a store may have of a user: the old one and the new one; and how long
+/* The keys that a store may have of a user: the old one and the new one; how long
  * nobody has had a conversation that is given back, far longer than rlm_eap needs to
- * hand one on. */
-enum { KEYS = 2, MISSED_SECONDS = 3 };
+ * hand one on; and at how many one look is. */
+enum { KEYS = 2, MISSED_SECONDS = 3, LOOKED_AT = 8 };
 
 struct settings {
 	char const	*server_id;
@@ -91,9 +91,12 @@ static struct { char const *word, *text; } const reasons[REASONS] = {
 /* How many logins came to each, in all instances of the module. */
 static uint64_t counts[REASONS];
 
-/* A conversation. */
+/* A conversation.  Until its first Response has been taken it has an end only while
+ * the module is asked: each time the same one is begun, by what stands behind it. */
 struct session {
 	struct tuv_end	end;
+	uint8_t		nonce[TUV_NONCE_LEN], id;
+	char		*server;	/* a child of the handler */
 	eap_handler_t	*handler;
 	char		*user, *place;	/* as in the log: children of the handler */
 	char const	*text;		/* of the last BAD_PACKET */
@@ -319,23 +322,23 @@ static eap_handler_t *take_oldest(struct settings const *it, rlm_eap_t *eap)
 
 /* Whether nobody has a conversation, neither rlm_eap's list nor a request. (rlm_eap
  * takes it out of the list a few steps before a request has it.) */
-static bool is_missed(rlm_eap_t const *eap, struct place const *it)
+static bool is_missed(rlm_eap_t const *eap, eap_handler_t const *it)
 {
-	return it->handler->inst_holder == eap && !it->handler->request &&
-		rbtree_finddata(eap->session_tree, it->handler) != it->handler;
+	return it->inst_holder == eap && !it->request && !it->prev && !it->next && eap->session_head != it;
 }
 
 /* FreeRADIUS forgets a conversation whose Response has another Type than the Request,
  * or another User-Name (c/freeradius/UPSTREAM.md). One that has been missed for
- * MISSED_SECONDS is found here. Each new login looks at the next three. */
+ * MISSED_SECONDS is found here. Each new login looks twice, so that more are given
+ * back than it can leave. */
 static eap_handler_t *find_forgotten(rlm_eap_t const *eap)
 {
 	eap_handler_t *found = NULL;
 	time_t now = time(NULL);
 
 	pthread_mutex_lock(&stations_mutex);
-	for (int i = 0; ring && !found && i < 3; i++, ring = ring->next) {
-		if (!is_missed(eap, ring)) ring->missed = 0;
+	for (int i = 0; ring && !found && i < LOOKED_AT; i++, ring = ring->next) {
+		if (!is_missed(eap, ring->handler)) ring->missed = 0;
 		else if (!ring->missed) ring->missed = now;
 		else if (now - ring->missed >= MISSED_SECONDS) found = ring->handler;
 	}
@@ -355,7 +358,7 @@ static void make_room(struct settings const *it, struct session *s, rlm_eap_t *e
 	if (it->one_per_station && s->has_station) taken[0] = replace(eap, s);
 	for (int i = 1; i < 3; i++) taken[i] = take_oldest(it, eap);
 	/* (under the mutex: the other method's module may know this one too) */
-	talloc_free(find_forgotten(eap));
+	for (int i = 0; i < 2; i++) talloc_free(find_forgotten(eap));
 	pthread_mutex_unlock(&eap->session_mutex);
 	for (int i = 0; i < 3; i++) talloc_free(taken[i]);
 }
@@ -442,18 +445,16 @@ static int put_request(eap_handler_t *handler, struct session *s)
 	return request->type.data != NULL;
 }
 
-static bool begin(struct settings const *it, struct session *s, char const *server, uint8_t id)
+static bool begin(struct settings const *it, struct session *s)
 {
-	uint8_t nonce[TUV_NONCE_LEN];
 	struct tuv_settings const told = {
 		.size = sizeof(told),
-		.name = { (uint8_t const *) server, strlen(server) },
+		.name = { (uint8_t const *) s->server, strlen(s->server) },
 		.methods = { KIND },
 		.suites = { it->suites_told[0], it->suites_told[1] }
 	};
 
-	return getrandom(nonce, sizeof(nonce), 0) == sizeof(nonce) &&
-		tuv_server_method_begin(&s->end, &told, nonce, id) == TUV_BEGUN;
+	return tuv_end_new(&s->end.at) && tuv_server_method_begin(&s->end, &told, s->nonce, s->id) == TUV_BEGUN;
 }
 
 /* The first Request depends on no user: one is looked up when the first Response
@@ -463,15 +464,8 @@ static int session_init(void *instance, eap_handler_t *handler)
 	struct settings const *it = instance;
 	REQUEST *request = handler->request;
 	struct session *s = calloc(1, sizeof(*s));
-	char *server = NULL;
-	bool has_begun;
 
-	if (!s || !tuv_end_new(&s->end.at)) {
-		free(s);
-		return 0;
-	}
-	if (!note(s, handler) || !join_ring(handler)) {
-		tuv_end_drop(&s->end);
+	if (!s || !note(s, handler) || !join_ring(handler)) {
 		free(s);
 		return 0;
 	}
@@ -479,16 +473,20 @@ static int session_init(void *instance, eap_handler_t *handler)
 	handler->free_opaque = give_back;
 	s->trips = handler->trips;
 	s->timer_expire = it->timer_expire;
+	s->id = handler->eap_ds->response->id + 1;
+	/* (what fails here leaves a line of its own in the place of the login's) */
+	s->is_told = true;
 	/* (each realm may have a name of its own) */
-	s->is_told = radius_axlat(&server, request, it->server_id, NULL, NULL) < 0;
-	if (s->is_told) return 0;
-	has_begun = begin(it, s, server, handler->eap_ds->response->id + 1);
-	if (!has_begun) RERROR("%s can't begin: server_id is '%s', and has 1 to %i octets", NAME, server, TUV_NAME_MAX);
-	talloc_free(server);
+	if (radius_axlat(&s->server, request, it->server_id, NULL, NULL) < 0) return 0;
+	talloc_steal(handler, s->server);
+	if (getrandom(s->nonce, sizeof(s->nonce), 0) != sizeof(s->nonce) || !begin(it, s)) {
+		RERROR("%s can't begin: server_id is '%s', and has 1 to %i octets", NAME, s->server, TUV_NAME_MAX);
+		return 0;
+	}
 	handler->stage = PROCESS;
-	/* (else the line above is the login's) */
-	s->is_told = !has_begun || !put_request(handler, s);
-	if (s->is_told) return 0;
+	if (!put_request(handler, s)) return 0;
+	s->is_told = false;
+	tuv_end_drop(&s->end);
 	make_room(it, s, handler->inst_holder);
 	return 1;
 }
@@ -695,9 +693,10 @@ static int process(void *instance, eap_handler_t *handler)
 	int goes_on;
 
 	s->trips = handler->trips;
-	goes_on = take(handler, instance, s);
-	/* (a thread of the server serves other users next) */
-	tuv_clear_stack();
+	goes_on = (s->end.at || begin(instance, s)) && take(handler, instance, s);
+	/* (a thread of the server serves other users next, so either clears the stack) */
+	if (s->goes_on) tuv_clear_stack();
+	else tuv_end_drop(&s->end);
 	return goes_on;
 }
 

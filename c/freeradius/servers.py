@@ -20,8 +20,10 @@ SECRET, HOME_SECRET = "testing123", "homesecret"
 PORT, HOMES = 1812, ("127.0.0.2", "127.0.0.3")
 PAGE = ROOT / "docs/SERVERS.md"
 USERS = 1000
-# Logins that nobody goes on with, by `load begin`: their second packet is none, or a Response of a Type with an octet.
-FLOODS: dict[str, tuple[int, ...]] = {"left open": (), "of another Type": (4, 0), "left open by the other method": (3, 47)}
+# Logins that nobody goes on with, by `load begin`: their second packet is none, or a Response of a Type with an octet, which
+# is of no method, or a Nak to EAP-PSK, or to EAP-MD5 where MD5 is one of the server's methods.
+FLOODS: dict[str, tuple[int, ...]] = {"left open": (), "of another Type": (4, 0), "left open by PSK": (3, 47), "left open by MD5": (3, 4)}
+MD5 = ("^eap {", "eap {\n\tmd5 {\n\t}")
 
 
 def part(name: str) -> list[str]:
@@ -137,7 +139,8 @@ AUTHORIZE = {
 # Rules in `post-auth`.
 RULES = {"": "", "old-key": "if (&session-state:Tuvaddri-Key-Number == 1) {\n\t\t\treject\n\t\t}"}
 # What one server can differ in from another beside its site; window is in seconds.
-WORDS = {"first": "gpsk", "threads": "", "at": "", "rule": "", "secret": SECRET, "timer": "60", "sessions": "65536", "window": "20"}
+WORDS = {"first": "gpsk", "md5": "", "threads": "", "at": "", "rule": "", "secret": SECRET}
+WORDS |= {"timer": "60", "sessions": "24576", "window": "20"}
 
 
 def freeradius(
@@ -185,7 +188,8 @@ def put_server(work: str, folder: pathlib.Path, told: Mapping[str, str]) -> None
     edit(folder / "radiusd.conf", *edits)
     edit(folder / "clients.conf", ("testing123", told["secret"]))
     eap = f'default_eap_type = {told["first"]}\n\ttimer_expire = {told["timer"]}'
-    edit(folder / "mods-available/tuvaddri-eap", ("default_eap_type = gpsk", eap), ("65536", told["sessions"]))
+    also = [MD5] if told["md5"] else []
+    edit(folder / "mods-available/tuvaddri-eap", ("default_eap_type = gpsk", eap), ("24576", told["sessions"]), *also)
 
 
 def put_site(work: str, folder: pathlib.Path, site: str, told: Mapping[str, str]) -> None:
@@ -240,6 +244,11 @@ def hostapd(work: str, method: str, before: Sequence[str] = ()) -> Server:
     lines = ["driver=none", "interface=lo0", "eap_server=1", f"eap_user_file={users}", "server_id=srv"]
     lines += [f"radius_server_clients={clients}", f"radius_server_auth_port={PORT}"]
     return Server(work, "hostapd", [*before, "hostapd", programs.write(work, "hostapd.conf", *lines)], "AP-ENABLED")
+
+
+def home(work: str, number: int) -> Server:
+    """A server behind a proxy, which has another secret for it."""
+    return freeradius(work, f"file at={HOMES[number]} secret={HOME_SECRET}", name=f"home{number}")
 
 
 class Station(NamedTuple):
