@@ -2,9 +2,9 @@
 # is followed. Read with `here` set to the top of the repository and `me` to the name of the script.
 
 crate=$here/crates/eap_login_main
-# A program is kept as eap_login-proved, whose proofs were checked on this machine, as eap_login-unchecked, or, for ./test,
-# as eap_login-sanitized. Beside it stands its record, NAME.of: the kit's line, a sum of each source, and the program's own
-# sum.
+# A program is kept as eap_login-proved, whose proofs were checked on this machine, as eap_login-dist, assembled of dist/, as
+# eap_login-unchecked, or, for ./test, as eap_login-sanitized. Beside it stands its record, NAME.of: the kit's line, a sum of
+# each source, and the program's own sum.
 kept=$here/out
 work='' working='' begun=''
 
@@ -31,9 +31,9 @@ TEXT
     [ "${named##* logic }" = "${found##* logic }" ] || say "warning: the README names the toolchain $named, and this is $found"
 }
 
-# The lines of crates.txt for the crates that the program stands on, itself among them.
+# The lines of crates.txt for the crates that the program stands on, itself among them; or that these crates do.
 lines_below() {
-    awk '
+    awk -v above="${*:-eap_login_main}" '
         { line = $0; sub(/#.*/, "") }
         /:/ { name = $1; sub(/:$/, "", name); deps[name] = $0; sub(/^[^:]*:/, "", deps[name]); names[++all] = name; lines[all] = line }
         function take(name,    words, count, at) {
@@ -42,24 +42,31 @@ lines_below() {
             count = split(deps[name], words, " ")
             for (at = 1; at <= count; at++) take(words[at])
         }
-        END { take("eap_login_main"); for (at = 1; at <= all; at++) if (names[at] in taken) print lines[at] }
+        END {
+            top = split(above, tops, " ")
+            for (at = 1; at <= top; at++) take(tops[at])
+            for (at = 1; at <= all; at++) if (names[at] in taken) print lines[at]
+        }
     ' "$here/crates.txt"
 }
 
 # A sum of each file that decides what the program is: the sources, definitions and proofs of these crates, and
-# which crates stand on which. Tests, must-fail edits and stored runs decide nothing.
+# which crates stand on which. Tests, must-fail edits and stored runs decide nothing. Other words are another sum than
+# cksum, and the crates.
 sums_of_sources() {
     (
         cd "$here"
         set -f
-        lines=$(lines_below)
+        by=${1-cksum}
+        [ $# = 0 ] || shift
+        lines=$(lines_below "$@")
         printf '%s\n' "$lines"
-        folders=$(printf '%s\n' "$lines" | while IFS=: read -r name _; do
+        folders=$(printf '%s\n' "$lines" | while IFS=': ' read -r name _; do
             for part in src specs proofs; do
                 [ ! -d "crates/$name/$part" ] || echo "crates/$name/$part"
             done
         done)
-        find $folders -type f | LC_ALL=C sort | xargs cksum
+        find $folders -type f | LC_ALL=C sort | xargs "$by"
     )
 }
 
@@ -67,14 +74,18 @@ sums_of_sources() {
 # and its own.
 record_of() {
     printf '%s\n' "$sources"
-    [ "$1" = proved ] || cksum <"$here/.ci/front_end.py"
+    case $1 in
+    proved) ;;
+    dist) cat "$here/dist/MADE" "$here/dist/system.c" 2>/dev/null | cksum ;;
+    *) cksum <"$here/.ci/front_end.py" ;;
+    esac
     cksum <"$2"
 }
 
-# Finds what is kept of these sources, of these kinds, or a proved program before an unchecked one, and sets `kind` and
-# `program`.
+# Finds what is kept of these sources, of these kinds, or a proved program before one of dist/ and that before an unchecked
+# one, and sets `kind` and `program`.
 find_program() {
-    for kind in ${*:-proved unchecked}; do
+    for kind in ${*:-proved dist unchecked}; do
         program=$kept/eap_login-$kind
         if [ -x "$program" ] && [ -f "$program.of" ] && [ "$(sed 1d "$program.of")" = "$(record_of "$kind" "$program")" ]; then
             return 0
@@ -85,31 +96,42 @@ find_program() {
 }
 
 # Finds the program that was run last, where nothing that decides it has changed since: no file or folder has a later time
-# of change. Else it goes by the sums, and notes when it looked (a second before, since a file's time is coarser).
+# of change. Else it goes by the sums, assembles that of dist/ before it takes an unchecked one, and notes when it looked (a
+# second before, since a file's time is coarser).
 find_soon() {
     if [ -f "$kept/seen" ] && read -r kind <"$kept/seen"; then
         program=$kept/eap_login-$kind
-        newer=$(find "$program" "$program.of" "$here/.ci/front_end.py" "$here/crates.txt" "$here"/crates/*/src \
-            "$here"/crates/*/specs "$here"/crates/*/proofs -cnewer "$kept/seen" -print -quit 2>&1) || newer=unseen
+        set -- "$program" "$program.of" "$here/.ci/front_end.py" "$here/crates.txt"
+        [ ! -e "$here/dist/MADE" ] || set -- "$@" "$here/dist/MADE" "$here/dist/system.c"
+        newer=$(find "$@" "$here"/crates/*/src "$here"/crates/*/specs "$here"/crates/*/proofs -cnewer "$kept/seen" \
+            -print -quit 2>&1) || newer=unseen
         # (the times of these two tell that a crate, or all of them, stand in the place of others)
         for it in "$here" "$here/crates"; do [ ! "$it" -nt "$kept/seen" ] || newer=$it; done
         [ -n "$newer" ] || return 0
     fi
     looked=$(date -d '1 second ago' +@%s)
     sources=$(sums_of_sources)
-    find_program || return 1
+    find_program proved dist || build_dist || find_program unchecked || return 1
     { echo "$kind" >"$kept/seen.new.$$" && touch -d "$looked" "$kept/seen.new.$$" && mv "$kept/seen.new.$$" "$kept/seen"; } \
         2>/dev/null || true
 }
 
 can_keep() { mkdir -p "$kept" && (: >>"$kept/lock"); }
 
+# The kit that a program of this kind is built by.
+kit_of() {
+    case $1 in
+    dist) sed -n 's/^kit \(.*\) rattle .*/\1/p' "$here/dist/MADE" ;;
+    *) rt version ;;
+    esac
+}
+
 # Keeps the program $2 as one of the kind $1 that was built of the sources with the sums $3. The record comes last and
 # has the program's sum, so that half of both counts for nothing.
 keep() {
     program=$kept/eap_login-$1 sources=$3
     mkdir -p "$kept" && rm -f "$kept/seen" && cp "$2" "$program.new.$$" &&
-        { rt version && record_of "$1" "$2"; } >"$program.of.new.$$" &&
+        { kit_of "$1" && record_of "$1" "$2"; } >"$program.of.new.$$" &&
         mv "$program.new.$$" "$program" && mv "$program.of.new.$$" "$program.of" && kind=$1
 }
 
