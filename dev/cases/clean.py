@@ -12,7 +12,7 @@ from typing import Iterator, Optional
 
 from cases.lib.small import Run
 
-FOLDERS = (".", ".ci", "bench", "c", "c/hostapd", "c/python", "c/rust", "cases", "dev", "dev/cases", "examples", "live", "share", "tools", "tools/cases", "tools/cases/lib", "tools/lib")
+FOLDERS = (".", ".ci", "bench", "c", "c/hostapd", "c/python", "c/rust", "cases", "dev", "dev/cases", "dist", "examples", "live", "share", "tools", "tools/cases", "tools/cases/lib", "tools/lib")
 SHELL = ("#!/bin/sh", "# shellcheck shell=sh")
 
 
