@@ -465,7 +465,8 @@ enum { TUV_TEXT_MAX = 80 };
 void tuv_turn_text(struct tuv_turn turn, char room[TUV_TEXT_MAX]);
 
 /* The version of the interface and the commit, as in "tuvaddri 2 252dec7", and
- * behind them " unchecked" if no proof of the library was checked. */
+ * behind them " unchecked" if no proof of the library was checked, " dist" if it
+ * was assembled of dist/, and proved where that was made. */
 extern const char tuv_ident[];
 
 #ifdef __cplusplus

@@ -71,7 +71,7 @@ def faults():
         yield f"the cause {word} is in one of the header and docs/TEXTS.md alone"
     if f"#define TUV_VERSION {VERSION}\n" not in text_of("tuvaddri.h") or library.tuv_version() != VERSION:
         yield "tuv_version is another than the header's"
-    if not re.fullmatch(rf"tuvaddri {VERSION} ([0-9a-f]{{7,}}\+?|unknown)( unchecked)?", ident):
+    if not re.fullmatch(rf"tuvaddri {VERSION} ([0-9a-f]{{7,}}\+?|unknown)( unchecked| dist)?", ident):
         yield f"tuv_ident is {ident}"
 
 

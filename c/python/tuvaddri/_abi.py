@@ -95,7 +95,7 @@ def _path() -> str:
     if named:
         return named
     here = Path(__file__).resolve().parent
-    near = [here / it / NAME for it in (".", "../../..", "../../out", "../../out/unchecked")]
+    near = [here / it / NAME for it in (".", "../../..", "../../out", "../../out/dist", "../../out/unchecked")]
     prefix = [Path(sys.prefix, it, NAME) for it in ("lib", "lib64")]
     return next((str(it) for it in near + prefix if it.is_file()), NAME)
 
