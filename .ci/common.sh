@@ -116,6 +116,12 @@ find_soon() {
         2>/dev/null || true
 }
 
+# The version of packages of the sources with the sums `sources`, and the day of it: that of the commit, or of a release.
+set_version() {
+    day=$(date -u -d "@${SOURCE_DATE_EPOCH:-$(git -C "$here" log -1 --format=%ct 2>/dev/null || echo 946684800)}" +%Y%m%d)
+    version=0.$day+$(printf '%s\n' "$sources" | cksum | cut -d ' ' -f 1)
+}
+
 can_keep() { mkdir -p "$kept" && (: >>"$kept/lock"); }
 
 # The kit that a program of this kind is built by.

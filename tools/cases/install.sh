@@ -11,7 +11,7 @@ installed=$(head -n 1 "$work/put")
 name=${installed##*/}
 docs=$there/share/doc/$name
 without_kit() { env -i PATH="$there/bin:/usr/bin:/bin" "$@"; }
-case $(tools/prove status) in proved:*) wanted=eap_login ;; *) wanted=eap_login-unchecked ;; esac
+case $(tools/prove status) in proved:* | dist:*) wanted=eap_login ;; *) wanted=eap_login-unchecked ;; esac
 count=$((count + 1))
 [ "$name" = "$wanted" ] || fail "install names the program $name, and not $wanted"
 
@@ -124,7 +124,7 @@ if has dpkg-deb "install --deb" dpkg-deb; then
         fail "install --deb ends with a failure: $(head -n 1 "$work/errors")"
     package=tuvaddri
     [ "$name" = eap_login ] || package=tuvaddri-unchecked
-    for made in "$work/debs/$package"_0.*_amd64.deb; do
+    for made in "$work/debs/$package"_0.*_"$(dpkg --print-architecture)".deb; do
         has_line "$made" "install --deb"
         dpkg-deb -x "$made" "$work/unpacked"
         dpkg-deb -f "$made" Depends | tr , '\n' | sed 's/ *([^)]*)//; s/^ *//' | sort -u >"$work/depends"

@@ -162,7 +162,11 @@ def this_python() -> Iterator[None]:
             os.environ["PATH"] = path
 
 
-PROOFS = {"proved": "its proofs were checked on this machine", "unchecked": "its proofs were not checked on this machine"}
+PROOFS = {
+    "proved": "its proofs were checked on this machine",
+    "dist": "its proofs were checked where dist/ was made",
+    "unchecked": "its proofs were not checked on this machine",
+}
 
 
 def version() -> str:
@@ -170,6 +174,8 @@ def version() -> str:
     if (ROOT / "version").exists():  # of what was installed
         return (ROOT / "version").read_text().strip()
     commit = said_by("git", "log", "-1", "--format=commit %h of %cs") or "no commit"
+    if (ROOT / "COMMIT").exists():  # of a release
+        commit = f"commit {(ROOT / 'COMMIT').read_text().strip()}"
     if os.environ.get("EAP_LOGIN"):
         return f"Tuvaddri, {commit}; the program is the one that EAP_LOGIN names"
     kind, _, rest = said_by("tools/prove", "status").partition(":")
