@@ -25,6 +25,9 @@ checks() {
     holds "dist/check $*" [ "$ended $(cat "$work/out" "$work/said")" = "$told" ]
 }
 
+refuses "there is no folder $work/none" dev/release "$work/none"
+refuses "$work isn't the source of FreeRADIUS 3.2" dev/release "$work" "$work"
+
 # Neither the kit nor Python; what a compiler needs is where it is.
 mkdir "$work/bare"
 for tool in sh as awk cat cc cksum cp cut date dirname find grep head ld mkdir mktemp mv readlink rm sed sha256sum sort tail \
