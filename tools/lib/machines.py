@@ -146,14 +146,15 @@ class Next:
         f = self.frame
         its = (self.tap.frames.get(at) for at in range(f.place - ALIKE, f.place + ALIKE) if at != f.place)
         return next((it for it in its if it and it.is_down == f.is_down and it.id == f.id and is_near(it.octets, f.octets)
-                     and it.word in ("tag-good", "good")), None)
+                     and it.word not in MALFORMED), None)
 
     def token(self, name: str, *words: object) -> Token:
         return token(name, self.frame.place, *words)
 
     def since(self, before: Frame) -> str:
-        seconds = self.frame.at - before.at
-        return "later" if not self.tap.has_times else f"{seconds * 1000:.1f} ms later" if seconds < 1 else f"{seconds:.1f} s later"
+        seconds = abs(self.frame.at - before.at)
+        side = "later" if self.frame.at >= before.at else "earlier"
+        return side if not self.tap.has_times else f"{seconds * 1000:.1f} ms {side}" if seconds < 1 else f"{seconds:.1f} s {side}"
 
     def is_cut(self) -> bool:
         """Whether a frame of this login is cut."""
@@ -163,22 +164,22 @@ class Next:
     def opening(self) -> list[Token]:
         return [] if self.is_cut() else [self.token("begins")]
 
-    def unseen(self, name: str, of_server: bool) -> list[Token]:
-        """A message that isn't in the capture, by what hides it. (of what is cut is told by itself)"""
-        cost = 0 if (self.tap.hides_server if of_server else self.tap.hides_peer) else 2 if self.tap.is_unsure else None
+    def unseen(self, name: str, of_server: bool, is_first: bool = True) -> list[Token]:
+        """A message that isn't in the capture, by what hides it; one beside another costs less. (of what is cut is told by itself)"""
+        cost = 0 if (self.tap.hides_server if of_server else self.tap.hides_peer) else 2 if self.tap.is_unsure or not is_first else None
         return [] if self.is_cut() else [token("uncaptured", self.frame.place, name, cost=cost)]
 
-    def unseen_refused(self, is_begin: bool = False) -> Token:
-        return token("unseen-refused", self.frame.place, cost=0 if is_begin or self.is_cut() else None)
+    def unseen_refused(self, cost: Optional[int] = None) -> Token:
+        return token("unseen-refused", self.frame.place, cost=0 if self.is_cut() else cost)
 
     def is_explained(self, *frames: Frame) -> bool:
-        """Whether one of these frames is altered or forged in this world."""
+        """Whether one of these frames is altered, malformed or forged in this world."""
         places, trail = {it.place for it in frames}, self.world.trail
         for _ in range(SEEN):
             if trail is None:
                 break
             trail, last = trail
-            if last.name in ("altered", "altered-behind") and last.place in places:
+            if last.name in ("altered", "altered-behind", "bad-shape") and last.place in places:
                 return True
         return bool(places & {*self.world.forged})
 
@@ -208,6 +209,16 @@ class Next:
         if self.before and self.before[0].place != last.place and (not twice or f.at - self.before[0].at > DOUBLED):
             was = self.before[0]
             yield world, [self.token("copy" if f.at - was.at > DOUBLED else "twice", was.number, self.since(was))]
+        elif not self.before and self.is_over():
+            yield world, [self.token("stray")]
+
+    def is_over(self) -> bool:
+        """Whether a message is of a run that is over, though the capture doesn't have it before the end."""
+        f, server = self.frame, self.server
+        its = [it for it in self.world.seen if it.turn >= self.world.begun and it.stage]
+        is_asked = not f.is_down and bool(self.asked(f.id))
+        return server.message in ENDS and f.stage in (1, 2, 3) and not is_asked and (server.id - f.id) % 256 <= 2 and all(
+            it.stage != f.stage and it.is_of_run(f) for it in its)
 
     def is_other_reply(self, it: Frame) -> bool:
         """Whether a RADIUS packet is another reply than one with the same EAP packet."""
@@ -227,12 +238,17 @@ class Next:
     # ---- What a server sends.
 
     def of_server(self) -> Iterator[Way]:
-        f, server = self.frame, self.server
+        f, server, world = self.frame, self.server, self.world
+        waiting = (at for at in (*world.late, *range(world.first, f.place)) if at not in world.ahead)
+        if f.radius and f.radius.request and any(self.tap.frames[at].radius is f.radius.request for at in waiting):
+            return  # (a reply is behind its Request)
         if f.radius and f.radius.request is None and self.is_from_elsewhere():
             yield self.world, [self.token("other-address")]
         if server.octets and server.octets == f.octets and (f.radius or f.message not in ENDS):
             yield self.on, self.asked_again()
-        if server.place < 0 and (server.id, server.message) == (f.id, f.message) and f.message not in ENDS and f.at - server.at >= TIMER:
+        is_reply = f.radius and f.radius.request and any(it.radius is f.radius.request for it in self.near(False, 3))
+        if server.place < 0 and (server.id, server.message) == (f.id, f.message) and f.message not in ENDS and (
+                is_reply or f.at - server.at >= TIMER):
             yield self.on, []  # (the first of it isn't here)
             return
         if f.radius and f.radius.request and any(
@@ -251,7 +267,8 @@ class Next:
         elif f.message == "Notification":
             yield self.world._replace(server=server._replace(id=f.id, place=f.place, octets=f.octets, at=f.at, turn=f.turn)), self.order()
         elif f.message in FAILS:
-            yield self.on, [*self.needs(2, "Identity", "Nak"), self.token("ends-method", *self.code())]
+            if server.message not in ENDS and server.kind in ("", f.kind):
+                yield self.on, [*self.needs(2, "Identity", "Nak"), self.token("ends-method", *self.code())]
         elif f.stage == 1 or f.message.startswith("Type") or f.kind and not f.stage:
             yield from self.proposal()
         elif f.stage == 3:
@@ -272,7 +289,9 @@ class Next:
         """What it means that the server sends what it sent last."""
         f, server = self.frame, self.server
         if f.radius:
-            return [] if self.tap.hides_peer or any(it.turn > server.turn for it in self.near(False)) else [self.token("early", "no Request")]
+            if any(it.turn > server.turn for it in self.near(False)):
+                return []
+            return self.unseen("an Access-Request", False) if self.is_other_reply(self.before[0]) else [self.token("asked-behind")]
         was = next((it for it in self.world.seen if it.turn == server.turn), f)
         answers = self.answers(f.id, was.turn)
         is_refused = bool(answers) and all(it.word in MALFORMED for it in answers)
@@ -282,8 +301,8 @@ class Next:
             return [token("lost", answers[0].place, f.number, cost=0)]
         found = [] if f.at - was.at >= TIMER or any(it.word in MALFORMED for it in answers) else [self.token("early", self.since(was))]
         if answers:
-            return [*found, token("lost", answers[0].place, f.number)]
-        return [*found, token("unanswered", was.place, f.number, self.since(was))]
+            return [*found, token("lost", answers[0].place, f.number, cost=0 if self.is_explained(was) else None)]
+        return [*found, *[token("unanswered", was.place, f.number, self.since(was))] * (not self.is_cut())]
 
     def code(self) -> list[str]:
         """The Failure-Code of a message, and its name."""
@@ -318,15 +337,16 @@ class Next:
         f, server, peer, seen = self.frame, self.server, self.peer, self.world.seen
         here = [it for it in seen if it.turn >= self.world.begun]
         first = next((it.turn for it in here if it.is_down), f.turn)
-        asked = [it for it in here if it.message in ("Start", "Logoff") and it.turn > first and (
-            it.turn > server.turn or f.at - it.at < ANSWERED)]
+        starts = [it for it in seen if it.message in ("Start", "Logoff")]
+        asked = [it for it in starts if it.turn > max(first, self.world.begun) and (it.turn > server.turn or f.at - it.at < ANSWERED)
+                 and not any(x.message == it.message and x.turn < it.turn and it.at - x.at <= DOUBLED for x in starts)]
         fresh = self.anew(self.on.server)
         if server.is_idle:
             is_soon = server.message and (f.at - server.at < SOON or any(f.at - it.at < DOUBLED for it in self.before)) and not asked
             yield fresh, [self.token("soon")] if is_soon else []
-        elif self.before and self.before[0].place == server.place:
+        elif self.before and (self.before[0].place == server.place or f.at - self.before[0].at < DOUBLED):
             pass  # (it is that again)
-        elif server.message == "Identity" and (asked or not peer.message or peer.turn < server.turn):
+        elif server.message == "Identity" and (not peer.message or peer.turn < server.turn):
             yield fresh, []
         elif asked:
             yield fresh, [token("restart-peer", asked[0].place)] * (asked[0].message == "Start")
@@ -346,6 +366,10 @@ class Next:
             yield self.anew(self.on.server), self.unseen("the begin of this login", True)
         elif server.kind == f.kind and not f.stage:
             yield self.on, self.needs(f.message)
+        elif server.kind != f.kind and any(it.kind == server.kind and it.stage for it in self.answers(f.id - 1, self.world.begun)):
+            # (RFC 3748 section 2.1)
+            on = self.world._replace(server=server._replace(id=f.id, place=f.place, octets=f.octets, at=f.at, turn=f.turn))
+            yield on, [self.token("altered", ": its Type isn't that of the method that goes on")]
         elif server.kind != f.kind:
             yield self.on, [*self.needs("Nak"), *self.order()]
         else:
@@ -355,7 +379,7 @@ class Next:
 
     def third(self) -> Iterator[Way]:
         f, server = self.frame, self.server
-        if server.message in FAILS or server.message in THIRD and server.place >= 0:
+        if server.message in FAILS or server.message in THIRD and server.place >= 0 or server.message in ENDS and self.is_over():
             return
         if not server.message and not self.peer.message:
             yield self.on, self.opening()
@@ -374,7 +398,7 @@ class Next:
                 yield self.on, missing
         elif seconds and f.word == "tag-bad":
             yield self.on, [*missing, *self.order(), self.token("altered", ": its MAC is wrong, and that of the message before is right")]
-        elif (seconds or others) and (names := other_fields(f, (seconds or others)[0])):
+        elif (seconds or others) and (names := other_fields(f, (seconds or others)[0]) or "RAND_S" * (not seconds)):
             second = (seconds or others)[0]
             if f.word != "tag-good":
                 yield self.on, [*missing, self.token("altered", f": its {names} isn't that of packet {second.number}")]
@@ -382,7 +406,7 @@ class Next:
         elif seconds:
             yield self.on, [*missing, *self.order()]
         else:
-            yield self.on, [*missing, *self.unseen(name_of(f.kind, 2), False)]
+            yield self.on, [*missing, *self.unseen(name_of(f.kind, 2), False, not missing)]
 
     def success(self) -> Iterator[Way]:
         f, server, world = self.frame, self.server, self.world
@@ -394,6 +418,10 @@ class Next:
             yield self.on, self.opening()
         elif any(it.message.startswith("Type") or it.kind not in ("", "47", "51") for it in self.answers(server.id, server.turn - 4)):
             yield self.on, []
+        elif server.message in FAILS:
+            return
+        elif server.id >= 0 and (f.id - server.id) % 256 > 3:
+            yield self.on, [self.token("back", f.id, server.id)]
         else:
             fourths = [it for it in self.near(False) if it.stage == 4 and (server.id < 0 or it.id in (server.id, f.id))]
             fourths = [it for it in fourths if not any(x.message in ENDS and x.turn > it.turn and x.at - it.at > DOUBLED for x in world.seen)]
@@ -402,7 +430,7 @@ class Next:
                 is_odd = fourths[0].word == "tag-bad" and was is not None and was.word == "tag-good"
                 yield self.on, [token("altered", fourths[0].place, ": its MAC is wrong, and the server took it")] * is_odd
                 return
-            yield self.on, [x for it in self.missing(bool(fourths)) for x in self.unseen(name_of(server.kind, it), it % 2 == 1)]
+            yield self.on, [x for at, it in enumerate(self.missing(bool(fourths))) for x in self.unseen(name_of(server.kind, it), it % 2 == 1, not at)]
 
     def missing(self, has_fourth: bool) -> list[int]:
         """The stages that aren't there before a Success."""
@@ -417,6 +445,8 @@ class Next:
         """A Failure, or an Access-Reject without one."""
         f, server = self.frame, self.server
         if server.message in ENDS:
+            if self.before and f.at - self.before[0].at <= DOUBLED:
+                return
             if f.radius and server.message != "Success" and any(it.turn > server.turn for it in self.near(False)):
                 yield self.on, [self.token("forgotten")]
             yield self.anew(self.on.server), [self.unseen_refused()]
@@ -425,7 +455,7 @@ class Next:
             yield self.on, [self.token("rejected")]
             return
         if not server.message and not self.peer.message and f.message != "Reject":
-            yield self.on, [*self.opening(), self.unseen_refused(True)]
+            yield self.on, [*self.opening(), self.unseen_refused(0)]
             return
         answers = [it for it in self.near(False) if (server.place < 0 or it.turn > server.turn - 3)
                    and server.id in (-1, it.id) and it.id == f.id or f.radius and it.radius and it.radius is f.radius.request]
@@ -440,11 +470,15 @@ class Next:
     def given_up(self) -> list[Token]:
         """A Failure to an answer that isn't here."""
         f, server = self.frame, self.server
+        if server.id >= 0 and not server.is_idle and (f.id - server.id) % 256 > 3:
+            return [self.token("back", f.id, server.id), self.unseen_refused(0)]
         first = min((it.at for it in self.near(True) if it.octets == server.octets), default=server.at)
         if f.at - first >= GIVES_UP and f.id == server.id:
-            return [self.token("gave-up")]
+            is_answered = any(it.id == f.id and it.turn > self.world.begun for it in self.near(False))
+            return [token("no-answer", server.place)] * (
+                server.place >= 0 and not is_answered and not self.tap.hides_peer and not self.is_cut()) + [self.token("gave-up")]
         more = self.unseen("the Request before it", True) if not server.is_idle and server.id != f.id else []
-        return [*more, self.unseen_refused()]
+        return [*more, self.unseen_refused(4 if more else None)]
 
     def refusals(self, it: Frame) -> Iterator[list[Token]]:
         """Why a server can refuse an answer."""
@@ -457,7 +491,8 @@ class Next:
             yield from [[other]] * (not self.frame.radius)
         elif it.message == "Nak":
             yield [token("no-method", it.place, *self.proposed(it))]
-            yield [other]
+            sent = f", or sent another than packet {asked.number}" if asked else ""
+            yield [other._replace(words=(other.words[0] + sent,))]
         elif it.word == "malformed" or it.message in FAILS:
             yield []
         elif it.word == "tag-bad":
@@ -465,11 +500,11 @@ class Next:
             yield [token("some-key", it.place)] if it.stage == 2 and f"given-key {it.read.identity}" in self.world.facts else []
         elif it.stage == 2:
             is_other = self.outer() not in ("", it.read.identity) and it.word in ("tag-good", "no-key")
-            name = "outer-name" if is_other else "server-key" if it.word == "tag-good" else "some-key"
+            name = {"tag-good": "server-key", "no-context": "unjudged"}.get(it.word, "some-key") if not is_other else "outer-name"
             # (the name is told of where it is given)
             yield [] if is_other and it.word == "no-key" else [token(name, it.place, *[self.outer()] * is_other)]
             yield from [[other]] * (it.word == "tag-good")
-        elif it.stage == 4 and it.word != "tag-good":
+        elif it.word != "tag-good":
             yield [token("unjudged", it.place)]
         else:
             yield [token("policy", it.place)]
@@ -491,26 +526,36 @@ class Next:
             yield from ((self.on, found) for found in self.answered_again(was, asked))
             if asked or f.radius or len(self.asked(f.id)) > len(self.before):
                 return
-        if self.before and f.stage:
+        if self.before and f.stage or not self.before and self.is_over():
             return
         if f.word == "malformed":
             yield from ((self.on._replace(facts=self.on.facts | facts), found) for facts, found in self.misshaped())
             return
+        if f.radius and any(it.radius and it.radius.request is None and it.radius.octets[1] == f.radius.octets[1] and f.at - it.at > ORDERED
+                            for it in self.near(True, 3)):
+            yield self.on, []  # (it is sent again, and the first of it isn't here)
         requests = list(self.requests())
         if f.radius and f.message == "Identity" and requests[0][1]:
             fresh = self.anew(End("Identity", f.id, at=f.at, turn=f.turn))._replace(peer=self.on.peer)
             yield fresh, [] if self.server.is_idle else [self.token("restart-peer")]
             return
         other = self.other_answer()
-        if other and not self.asked(f.id, other.turn):
+        if other and (f.stage == 4 or not self.asked(f.id, other.turn)):
             return
         more = [self.token("restart-peer")] * bool(other)
         for missing, request in requests:
+            if request and f.stage and self.server.message in FAILS:
+                continue
             on = self.on
-            if request and (self.server.place < 0 or self.server.message in ENDS or request.message != self.server.message):
+            if request and f.message == "Identity" and self.server.message + self.peer.message:
+                on = self.anew(request)._replace(peer=on.peer)
+                if not self.server.is_idle and not self.tap.hides_server:
+                    missing = [self.token("gap")]
+            elif request and (self.server.place < 0 or self.server.message in ENDS or request.message != self.server.message):
                 on = on._replace(server=request)
+            crossing = [self.token("crossing")] * (self.server.message in ENDS and f.at - self.server.at <= ORDERED and not request)
             for facts, found in self.forms():
-                yield on._replace(facts=on.facts | facts), [*missing, *found, *more]
+                yield on._replace(facts=on.facts | facts), [*missing, *found, *more, *crossing]
 
     def answered_again(self, was: Frame, asked: list[Frame]) -> Iterator[list[Token]]:
         """What it means that a peer, or a RADIUS client, sends what it sent last."""
@@ -519,10 +564,10 @@ class Next:
             if asked or len(self.asked(f.id)) > len(self.before):
                 yield []
             elif f.at - was.at > DOUBLED:
-                yield [self.token("asked-behind")]
+                yield [] if self.tap.hides_server else [self.token("asked-behind")]
         elif asked and was.radius and was.radius.octets[:20] != f.radius.octets[:20]:
             yield []
-        elif f.at - was.at >= TIMER:
+        elif f.at - was.at > DOUBLED:
             replies = [it for it in self.near(True) if it.turn > was.turn]
             if replies and all(it.radius and it.radius.request is None for it in replies):
                 yield []  # (they came from another address, and are told so)
@@ -556,10 +601,12 @@ class Next:
             asked = self.asked(f.id) if f.kind == "47" else []
             if asked:
                 yield none, [token("altered-behind", asked[0].place, f"the MAC of its answer, packet {f.number}, is over another name")]
-        elif f.word == "tag-bad" and f.stage == 4 and not self.is_third_wrong():
+        elif f.word == "tag-bad" and f.stage == 4 and (others := self.judged_before()) and "tag-bad" not in others:
             yield none, [self.token("altered", ": its MAC is wrong, and the others are right")]
+        elif f.word == "tag-bad" and f.stage == 4 and not any(it.startswith("given-key") for it in facts):
+            return
         elif f.message in FAILS and self.server.message not in FAILS:
-            yield none, [self.token("peer-ends", *self.code())]
+            yield none, [self.token("peer-ends" if self.asked(f.id) else "ends", *self.code())]
         else:
             yield none, []
 
@@ -569,8 +616,10 @@ class Next:
             yield frozenset([f"{name} shape"]), [self.token(name, *given)._replace(
                 cost=0 if f"{name} shape" in self.world.facts else CHOICES[name].cost)]
 
-    def is_third_wrong(self) -> bool:
-        return next((it.word == "tag-bad" for it in self.near(True) if it.stage == 3), False)
+    def judged_before(self) -> list[str]:
+        """What was found of the last GPSK-2 and GPSK-3, where they were judged."""
+        its = (next((it.word for it in self.near(is_down) if it.stage == stage), "") for is_down, stage in ((False, 2), (True, 3)))
+        return [it for it in its if it in ("tag-good", "tag-bad")]
 
     def requests(self) -> Iterator[tuple[list[Token], Optional[End]]]:
         """The Request that a Response answers: what is out of the ordinary with it, and where it isn't here, what it was."""
@@ -578,7 +627,7 @@ class Next:
         wanted = {2: 1, 4: 3}.get(f.stage, f.stage) or f.message
         asked = self.asked(f.id)
         fits = [it for it in asked if (it.stage or it.message) == wanted and it.is_of_run(f)]
-        others = [it for it in asked if f.stage and it.stage == wanted and it.kind == f.kind]
+        others = [it for it in asked if f.stage and it.stage == wanted and it.kind == f.kind and it.turn >= self.world.begun]
         if f.message == "Nak":
             names = {name: kind for kind, name in words.METHODS.items()}
             desired = [names.get(it, it) for it in f.read.desired.split(", ")]
@@ -614,5 +663,6 @@ class Next:
         virtual = End(message, f.id, kind=f.kind, at=f.at)
         if not self.server.message and not self.peer.message:
             return self.opening(), virtual
-        name = message if f.stage else "the Request that it refuses" if f.message == "Nak" else f"the {f.message} Request"
+        names = {"Nak": "the Request that it refuses", **dict.fromkeys(FAILS, "the Request that it answers")}
+        name = message if f.stage else names.get(f.message, f"the {f.message} Request")
         return self.unseen(name, True), virtual

@@ -19,7 +19,7 @@ from lib.reasons import SENTENCES, Reason, Story, code_said, named, of_replay, s
 # The cut packets that are listed, those of one reason, and the seconds after which no answer comes any more.
 MOST_CUT, MOST_LISTED, LONG_SECONDS = 4, 12, 5
 # What says nothing of an end, and what is told together whatever the message.
-NOT_SENT, OF_ANY, OF_MAC = ("forged", "twice", "copy"), ("twice", "copy", "order", "uncaptured"), ("wrong-key", "given-key", "altered")
+NOT_SENT, OF_ANY, OF_MAC = ("forged", "twice", "copy", "stray"), ("twice", "copy", "order", "uncaptured"), ("wrong-key", "given-key", "altered")
 NONCES = {"GPSK-1": "RAND_Server", "PSK-1": "RAND_S", "GPSK-2": "RAND_Peer", "PSK-2": "RAND_P"}
 Nonces = dict[bytes, Frame]
 
@@ -113,7 +113,8 @@ def mac_of(login: Login, frame: Frame) -> str:
 def silence(login: Login, last: Frame) -> str:
     """Why no answer to the last packet is here."""
     until = login.capture.until
-    is_over = until is not None and until - last.at > LONG_SECONDS
+    is_over = until is not None and until - last.at > LONG_SECONDS or any(
+        it.place > last.place and it.octets and it.place not in login.unsure for it in login.own)
     lost = f"or {said('lost')}" if is_over else said("lost") + said("or ended")
     if last.radius and not last.is_down:
         again = sum(it.octets == last.octets for it in login.frames)

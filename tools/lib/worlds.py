@@ -5,7 +5,7 @@ cost are found, and those of one more: what all share is certain, and of what di
 from __future__ import annotations
 
 from dataclasses import dataclass
-from typing import Iterator, Optional, Sequence
+from typing import Any, Iterator, Optional, Sequence
 
 from lib.captures import Capture
 from lib.machines import ALIKE, CHOICES, FAILS, NOBODY, ORDERED, Chain, Next, Tap, Token, Way, World, token
@@ -15,7 +15,7 @@ from lib.observed import ENDS, Frame
 # behind it; the worlds of one state and of all
 # that are followed, and by how much they may cost more than the best; frames taken ahead and held back; the cost above which
 # the best worlds alone are followed.
-ONE, CLOSE, ODD, EQUAL, MOST, WORSE, AHEAD, BACK, TOO_MUCH, ALONE = 2, 6, 8, 6, 48, 12, 10, 3, 40, 2
+ONE, CLOSE, ODD, EQUAL, MOST, WORSE, AHEAD, BACK, TOO_MUCH, ALONE = 2, 6, 8, 6, 48, 12, 10, 3, 40, 6
 
 
 @dataclass
@@ -32,8 +32,8 @@ class Found:
     next: Optional[int] = None
 
 
-def listed(chain: Chain) -> list[Token]:
-    found: list[Token] = []
+def listed(chain: Chain) -> list[Any]:
+    found: list[Any] = []
     while chain:
         chain, last = chain
         found.append(last)
@@ -118,18 +118,16 @@ class Search:
         self.is_closed = self.is_closed and len(found) <= most
         return found[:most]
 
-    def shared(self) -> Optional[list[World]]:
-        """The worlds at the first begin of a login, where all have it at the same frame."""
-        firsts: dict[int, World] = {}
-        for w in [it for it in self.worlds if it.cost < self.worlds[0].cost + CLOSE]:
-            chain = w.begins
-            while chain and chain[0]:
-                chain = chain[0]
-            first = chain[1] if chain else None
-            if first is None or first.ahead or first.late or any(it.begun != first.begun for it in firsts.values()):
-                return None
-            firsts[id(first)] = first
-        return list(firsts.values())
+    def shared(self) -> list[World]:
+        """The worlds at the first begin of a login that all have at the same frame, without others out of order there."""
+        of_worlds = [{begin.seen[-1].place: begin for begin in listed(w.begins) if begin.begun > self.begin}
+                     for w in self.worlds if w.cost < self.worlds[0].cost + CLOSE]
+        for place, begin in of_worlds[0].items():
+            if not begin.ahead + begin.late and all(
+                    place in its and abs(its[place].begun - begin.begun) <= BACK for its in of_worlds):
+                its = [it[place] for it in of_worlds]
+                return list({id(it): it for it in its if it.begun == begin.begun and not it.ahead + it.late}.values())
+        return []
 
     # ---- One frame more.
 
@@ -158,10 +156,10 @@ class Search:
             if it is None or abs(it.at - front.at) > ORDERED:
                 break
             if at not in w.ahead:
-                yield from self.ways(w, it, token("order", at, front.number))
+                yield from self.ways(w, it, token("order", at, "late"))
         behind = self.frame(w.first + 1)
         if len(w.late) < BACK and behind is not None:
-            late = self.chosen(w, [token("order", behind.place, front.number)])
+            late = self.chosen(w, [token("order", front.place, "early")])
             yield from self.steps(passed(late, w.first)._replace(late=(*w.late, w.first)))
 
     def chosen(self, w: World, tokens: Sequence[Token]) -> World:
@@ -195,6 +193,9 @@ def silent(w: World, tap: Tap) -> list[Token]:
     last = max(server, peer, key=lambda it: (it.turn, it.place))
     if tap.is_unsure or tap.cut or server.message in (*ENDS, *FAILS) or server == peer == NOBODY or last.place < 0:
         return []
+    its = tap.frames[last.place].radius
+    if its and any(it.is_down and it.radius and it.radius.octets[1] == its.octets[1] and it.turn > last.turn for it in w.seen):
+        return []
     return [token("no-answer", last.place)]
 
 
@@ -217,6 +218,8 @@ def grouped(worlds: dict[frozenset[Token], int]) -> tuple[list[Token], list[list
             mine = its & group
             costs[mine] = min(cost, costs.get(mine, cost))
         ordered = sorted(costs, key=lambda it: (costs[it], len(it), sorted(it)))
+        # (what says the same as another and more besides says no more of what may be)
+        ordered = [it for it in ordered if not ordered[0] or not any(its < it for its in ordered)]
         parted.append([sorted(it, key=lambda t: t.place) for it in ordered])
     return sorted(best.difference(*groups), key=lambda t: t.place), parted
 
