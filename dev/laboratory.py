@@ -246,12 +246,12 @@ class Login:
             octets = act.octets if act.octets in (START, LOGOFF) else bytes([act.octets[0], out[0][1][1]]) + act.octets[2:]
             self.after(act.value, self.send, "forger", octets, packets.read(octets).message if octets[1:2] != b"" else "", False, act.is_down)
         elif act.kind in ("peer", "server"):
-            self.restarts.append((act.kind, self.now))
             self.after(act.value, self.restart, act.kind)
             return [] if act.place else out
         return out
 
     def restart(self, kind: str) -> None:
+        self.restarts.append((kind, self.now))
         if kind == "peer":
             self.set_ends("peer")
             self.send("peer", START, "Start")
