@@ -290,9 +290,9 @@ class Radius(Login):
 
     def __init__(self, plan: Plan, draw: Random, begin: float, station: int, tap: str, to_group: bool = False) -> None:
         super().__init__(plan, draw, begin, station, tap)
-        self.client = (bytes([10, 0, 0, 2 + draw.randrange(3)]), 40000 + station)
+        self.client = (bytes([10, 0, 0, 2 + draw.randrange(3)]), 40000)
         self.carriage = radius.Radius(SECRET)
-        self.state, self.identifier, self.waits = b"", draw.randrange(200), b""
+        self.state, self.identifier, self.waits = b"", 60 * station + draw.randrange(40), b""
 
     def run(self) -> None:
         self.place = SERVER.Server.__new__(SERVER.Server)

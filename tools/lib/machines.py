@@ -344,7 +344,7 @@ class Next:
         if server.is_idle:
             is_soon = server.message and (f.at - server.at < SOON or any(f.at - it.at < DOUBLED for it in self.before)) and not asked
             yield fresh, [self.token("soon")] if is_soon else []
-        elif self.before and (self.before[0].place == server.place or f.at - self.before[0].at < DOUBLED):
+        elif self.before and (any(it.place == server.place for it in self.before) or f.at - self.before[0].at < DOUBLED):
             pass  # (it is that again)
         elif server.message == "Identity" and (not peer.message or peer.turn < server.turn):
             yield fresh, []
@@ -443,9 +443,13 @@ class Next:
 
     def failure(self) -> Iterator[Way]:
         """A Failure, or an Access-Reject without one."""
-        f, server = self.frame, self.server
+        f, server, world = self.frame, self.server, self.world
         if server.message in ENDS:
             if self.before and f.at - self.before[0].at <= DOUBLED:
+                return
+            rejects = [it for it in world.seen if it.message == f.message == "Reject" and it.radius and f.radius and it.radius.octets == f.radius.octets]
+            if rejects:
+                yield world, [self.token("twice" if f.at - rejects[-1].at <= DOUBLED else "copy", rejects[-1].number, self.since(rejects[-1]))]
                 return
             if f.radius and server.message != "Success" and any(it.turn > server.turn for it in self.near(False)):
                 yield self.on, [self.token("forgotten")]
@@ -536,6 +540,8 @@ class Next:
             yield self.on, []  # (it is sent again, and the first of it isn't here)
         requests = list(self.requests())
         if f.radius and f.message == "Identity" and requests[0][1]:
+            if self.before and f.at - self.before[0].at <= DOUBLED:
+                return
             fresh = self.anew(End("Identity", f.id, at=f.at, turn=f.turn))._replace(peer=self.on.peer)
             yield fresh, [] if self.server.is_idle else [self.token("restart-peer")]
             return
