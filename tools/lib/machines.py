@@ -231,8 +231,8 @@ class Next:
         if as_sent:
             sent = End(f.message, f.id, as_sent.place, as_sent.kind, as_sent.octets, f.at, f.turn)
             world = self.on._replace(server=sent) if f.is_down else self.on._replace(peer=sent)
-            places = ", ".join(f"octet {at} is {one:02x} and there {other:02x}" for at, (one, other) in enumerate(zip(f.octets, as_sent.octets))
-                               if one != other)
+            places = ", ".join(f"octet {at} is {one:02x} and there {other:02x}"
+                               for at, (one, other) in enumerate(zip(f.octets, as_sent.octets)) if one != other)
             yield world, [self.token("altered", f": packet {as_sent.number} is as it was sent ({places})")]
 
     # ---- What a server sends.
@@ -259,13 +259,12 @@ class Next:
         if f.word == "malformed":
             for facts, found in self.misshaped():
                 # (of what was altered the message isn't known, but which Request it was)
-                known = server._replace(id=f.id, place=f.place, octets=f.octets, at=f.at, turn=f.turn)
-                world = self.on if found[0].name == "bad-shape" else self.world._replace(server=known)
-                yield world._replace(facts=world.facts | facts), found
+                on = self.on if found[0].name == "bad-shape" else self.unread()
+                yield on._replace(facts=on.facts | facts), found
         elif f.message == "Identity":
             yield from self.first_request()
         elif f.message == "Notification":
-            yield self.world._replace(server=server._replace(id=f.id, place=f.place, octets=f.octets, at=f.at, turn=f.turn)), self.order()
+            yield self.unread(), self.order()
         elif f.message in FAILS:
             if server.message not in ENDS and server.kind in ("", f.kind):
                 yield self.on, [*self.needs(2, "Identity", "Nak"), self.token("ends-method", *self.code())]
@@ -280,6 +279,11 @@ class Next:
         elif f.message == "Nothing":
             yield self.world, []
 
+    def unread(self) -> World:
+        """The server sent a Request that says nothing of where the method is."""
+        f = self.frame
+        return self.world._replace(server=self.server._replace(id=f.id, place=f.place, octets=f.octets, at=f.at, turn=f.turn))
+
     def is_from_elsewhere(self) -> bool:
         its = self.frame.radius
         return its is not None and any(it.radius and it.radius.octets[1] == its.octets[1] and it.radius.source == its.to
@@ -291,17 +295,17 @@ class Next:
         if f.radius:
             if any(it.turn > server.turn for it in self.near(False)):
                 return []
-            return self.unseen("an Access-Request", False) if self.is_other_reply(self.before[0]) else [self.token("asked-behind")]
+            is_other = any(map(self.is_other_reply, self.before[:1]))
+            return self.unseen("an Access-Request", False) if is_other else [self.token("asked-behind")]
         was = next((it for it in self.world.seen if it.turn == server.turn), f)
         answers = self.answers(f.id, was.turn)
-        is_refused = bool(answers) and all(it.word in MALFORMED for it in answers)
+        refused = [it for it in answers if it.word in MALFORMED]
         if any(it.turn > was.turn and it.message == "Start" for it in self.world.seen):
             return []
-        if is_refused:
-            return [token("lost", answers[0].place, f.number, cost=0)]
-        found = [] if f.at - was.at >= TIMER or any(it.word in MALFORMED for it in answers) else [self.token("early", self.since(was))]
+        found = [] if f.at - was.at >= TIMER or refused else [self.token("early", self.since(was))]
         if answers:
-            return [*found, token("lost", answers[0].place, f.number, cost=0 if self.is_explained(was) else None)]
+            is_free = len(refused) == len(answers) or self.is_explained(was)
+            return [*found, token("lost", answers[0].place, f.number, cost=0 if is_free else None)]
         return [*found, *[token("unanswered", was.place, f.number, self.since(was))] * (not self.is_cut())]
 
     def code(self) -> list[str]:
@@ -368,8 +372,7 @@ class Next:
             yield self.on, self.needs(f.message)
         elif server.kind != f.kind and any(it.kind == server.kind and it.stage for it in self.answers(f.id - 1, self.world.begun)):
             # (RFC 3748 section 2.1)
-            on = self.world._replace(server=server._replace(id=f.id, place=f.place, octets=f.octets, at=f.at, turn=f.turn))
-            yield on, [self.token("altered", ": its Type isn't that of the method that goes on")]
+            yield self.unread(), [self.token("altered", ": its Type isn't that of the method that goes on")]
         elif server.kind != f.kind:
             yield self.on, [*self.needs("Nak"), *self.order()]
         else:
@@ -447,10 +450,10 @@ class Next:
         if server.message in ENDS:
             if self.before and f.at - self.before[0].at <= DOUBLED:
                 return
-            rejects = [it for it in world.seen if it.message == f.message == "Reject" and it.radius and f.radius and it.radius.octets == f.radius.octets]
-            if rejects:
-                yield world, [self.token("twice" if f.at - rejects[-1].at <= DOUBLED else "copy", rejects[-1].number, self.since(rejects[-1]))]
-                return
+            for it in world.seen[::-1]:
+                if it.message == f.message == "Reject" and it.radius and f.radius and it.radius.octets == f.radius.octets:
+                    yield world, [self.token("twice" if f.at - it.at <= DOUBLED else "copy", it.number, self.since(it))]
+                    return
             if f.radius and server.message != "Success" and any(it.turn > server.turn for it in self.near(False)):
                 yield self.on, [self.token("forgotten")]
             yield self.anew(self.on.server), [self.unseen_refused()]
