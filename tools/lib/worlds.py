@@ -251,6 +251,8 @@ def of_conversation(capture: Capture, more: Iterator[Frame], part: Sequence[int]
     before: Optional[Found] = None
     for begin, end, worlds, is_closed in search.logins():
         sure, groups = grouped(tokens_of(worlds))
+        # (what is cut could say otherwise)
+        is_closed = is_closed and not any(search.frames[begin].number <= it <= search.frames[end - 1].number for it in cut)
         told = {it.place for it in sure}.union(it.place for group in groups for its in group for it in its)
         found = Found([search.frames[it] for it in range(begin, end)], {it: search.frames[it] for it in told}, sure, groups, is_closed)
         if before:
