@@ -78,9 +78,9 @@ def files() -> Iterator[tuple[str, bytes, str, str]]:
     """The files of captures, each by its name, with what is to be said of it and the words of `why`."""
     key = "alice 51 " + KEY.hex()
     for name, words, wanted, *users in rows_of("reasons.logins"):
-        user, _, its_key = (users or ["alice 51 key"])[0].rpartition(" ")
+        given = (users or ["alice 51 key"])[0].split()
         items = [it for word in words.split() for it in packets_of(word)]
-        yield name, wire.pcap(framed(*items)), wanted, user and f"{user} {KEYS[its_key].hex()}"
+        yield name, wire.pcap(framed(*items)), wanted, " ".join(KEYS[it].hex() if it in KEYS else it for it in given if it != "-")
     wrong = framed(*WRONG)
     broken = (STATION_FRAME, b"\1\0\0\x99" + BAD.gpsk2)
     yield "a Failure in the middle of what is cut", wire.pcap(framed(*BAD.front, FAILURE, broken, BAD.gpsk3)), "fragment, unseen, forged end", key

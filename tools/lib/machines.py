@@ -397,7 +397,7 @@ class Next:
         seconds = [it for it in self.near(False) if it.stage == 2 and it.is_of_run(f)]
         others = [it for it in self.near(False) if it.stage == 2 and it.kind == f.kind and it.id == server.id]
         if seconds and seconds[0].word == "tag-bad" and f.word != "tag-good":
-            if f"given-key {seconds[0].read.identity}" in self.world.facts:
+            if {f"{it} {seconds[0].read.identity}" for it in ("given-key", "other-key")} & self.world.facts:
                 yield self.on, missing
         elif seconds and f.word == "tag-bad":
             yield self.on, [*missing, *self.order(), self.token("altered", ": its MAC is wrong, and that of the message before is right")]
@@ -602,12 +602,13 @@ class Next:
                 yield none, [self.token("altered", f": its name is nearly {self.outer()}")]
         elif f.word == "tag-bad" and f.stage == 2:
             # (what was so before costs nothing)
-            for name in ("wrong-key", "given-key"):
+            owner = f.finding.partition(" ")[2]
+            for name in ["other-key"] if owner else ["wrong-key", "given-key"]:
                 fact = f"{name} {f.read.identity}"
-                yield frozenset([fact]), [self.token(name)._replace(cost=0 if fact in facts else CHOICES[name].cost)]
-            yield none, [self.token("altered", "")]
+                yield frozenset([fact]), [self.token(name, owner)._replace(cost=0 if fact in facts else CHOICES[name].cost)]
+            yield from [(none, [self.token("altered", "")])] * (not owner)
             # (MAC_P is over the server's name, too, which PSK-2 doesn't repeat)
-            asked = self.asked(f.id) if f.kind == "47" else []
+            asked = self.asked(f.id) if f.kind == "47" and not owner else []
             if asked:
                 yield none, [token("altered-behind", asked[0].place, f"the MAC of its answer, packet {f.number}, is over another name")]
         elif f.word == "tag-bad" and f.stage == 4 and (others := self.judged_before()) and "tag-bad" not in others:

@@ -143,7 +143,7 @@ class Judge:
     """Asks the program of the messages of many conversations at once, with their users."""
 
     def __init__(self, users: Sequence[User] = ()) -> None:
-        self.users, self.asked, self.places = list(users), Packets(), list[tuple[Frame, int]]()
+        self.users, self.asked, self.places = list(users), Packets(), list[tuple[Frame, range]]()
 
     def may_add(self, users: Sequence[User], count: int) -> bool:
         return len({*self.users, *users}) <= MOST_USERS and len(self.asked) + 3 * count <= MOST_AT_ONCE * 3
@@ -162,17 +162,30 @@ class Judge:
                 self.put(it)
 
     def put(self, *its: Frame) -> None:
+        begin = len(self.asked)
         for it in its:
             self.asked.append(len(self.asked) + 1, it.octets[:1] != b"\2", it.octets, 0.0)
-        self.places.append((its[-1], len(self.asked) - 1))
+        self.places.append((its[-1], range(begin, len(self.asked))))
 
     def found(self) -> dict[int, str]:
-        """The findings of the frames that were taken up, by their identity; the best of those in several contexts."""
-        said = findings_of(self.asked, self.users) if self.places else []
-        found: dict[int, str] = {}
-        for it, at in self.places:
+        """The findings of the frames that were taken up, by their identity; the best of those in several contexts. Behind the one
+        of a wrong tag stands the user under whose key it is right."""
+        found = self.ask(self.places, self.users)
+        wrong = [(it, part) for it, part in self.places if found[id(it)] == "tag-bad" and it.stage == 2]
+        for user, kind, key in self.users if wrong else []:
+            its = [(it, part) for it, part in wrong if it.kind == kind and it.read.user != user]
+            names = dict.fromkeys(it.read.user for it, _ in its)
+            under = self.ask(its, [(name, kind, key) for name in names])
+            found.update((it, f"tag-bad {user}") for it, finding in under.items() if finding.startswith("tag-good"))
+        return found
+
+    def ask(self, places: list[tuple[Frame, range]], users: list[User]) -> dict[int, str]:
+        said = findings_of(asked := self.asked.of(part for _, part in places), users) if places else []
+        found, end = dict[int, str](), 0
+        for it, part in places:
+            end += len(part)
             if not found.get(id(it), "").startswith("tag-good"):
-                found[id(it)] = said[at]
+                found[id(it)] = said[end - 1]
         return found
 
 

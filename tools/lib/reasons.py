@@ -7,7 +7,7 @@ from typing import Iterator, Optional, Sequence
 
 from lib import words
 from lib.ladder import Row
-from lib.packets import Reading
+from lib.packets import SECOND, Reading
 from lib.replays import Replay
 
 TABLES = words.tables_of("reasons.txt")
@@ -152,7 +152,9 @@ def of_broken(replay: Replay, rows: Sequence[Row]) -> Iterator[Reason]:
     """The MAC that nobody made in this run."""
     if "tags broken" in replay.end:
         row = next((it for it in rows if it.event == replay.end["tags broken"]), None)
-        yield Reason(row, said("broken", party=party_name(row.receiver) if row else "an end"))
+        user = row.reading.user if row and row.reading.message in SECOND else ""
+        is_other = user != replay.setting("peer-name") and replay.setting("user", user, row.reading.kind if row else "")
+        yield Reason(row, said("of another user" if is_other else "broken", party=party_name(row.receiver) if row else "an end", user=user))
 
 
 def of_nonces(replay: Replay, rows: Sequence[Row]) -> Iterator[Reason]:

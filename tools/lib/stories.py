@@ -19,7 +19,8 @@ from lib.reasons import SENTENCES, Reason, Story, code_said, named, of_replay, s
 # The cut packets that are listed, those of one reason, and the seconds after which no answer comes any more.
 MOST_CUT, MOST_LISTED, LONG_SECONDS = 4, 12, 5
 # What says nothing of an end, and what is told together whatever the message.
-NOT_SENT, OF_ANY, OF_MAC = ("forged", "twice", "copy", "stray"), ("twice", "copy", "order", "uncaptured"), ("wrong-key", "given-key", "altered")
+NOT_SENT, OF_ANY = ("forged", "twice", "copy", "stray"), ("twice", "copy", "order", "uncaptured")
+OF_MAC = ("wrong-key", "given-key", "other-key", "altered")
 NONCES = {"GPSK-1": "RAND_Server", "PSK-1": "RAND_S", "GPSK-2": "RAND_Peer", "PSK-2": "RAND_P"}
 Nonces = dict[bytes, Frame]
 
