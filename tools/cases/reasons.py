@@ -127,18 +127,52 @@ def files() -> Iterator[tuple[str, bytes, str, str]]:
     yield "RADIUS, refused by another Identifier", wire.pcap(framed(asked, wire.radius(3, 0, eap(4, 9)))), "at once", key
     hops = [(head, ip[:12] + ends + ip[20:]) for it in wire.by_radius(WRONG[1:]) for head, ip in [it] for ends in passed(ip[15])]
     yield "RADIUS through a proxy", wire.pcap(framed(*hops)), REFUSED + ", proxy", key
-    yield "RADIUS at another server", wire.pcap(framed(asked, 3.0, (asked[0], asked[1][:19] + b"\3" + asked[1][20:]))), "radius silent", key
+    for name, items, wanted in paths():
+        yield name, wire.pcap(framed(*items)), wanted, key
+    yield "RADIUS at another server", wire.pcap(framed(asked, 3.0, (asked[0], asked[1][:19] + b"\3" + asked[1][20:]))), "radius silent, radius down", key
     odd = (asked[0], asked[1][:-17] + b"\x20" + asked[1][-16:])
     yield "RADIUS, an attribute that is too long", wire.pcap(framed(odd)), "odd radius, radius silent, ended", key + " --secret x"
     yield "RADIUS in a UDP packet that is too short", wire.pcap(framed((asked[0], asked[1][:24] + b"\0\x0a" + asked[1][26:]), *BAD.front)), (
         "no gpsk2, ended"), key
-    yield "RADIUS is down", wire.pcap(framed(asked, 3.0, asked)), "radius silent", key
+    yield "RADIUS is down", wire.pcap(framed(asked, 3.0, asked)), "radius silent, radius down", key
     yield "RADIUS, one request", wire.pcap(framed(asked)), "radius silent, ended", key
     first, answer, *_ = wire.by_radius([GOOD.named, GOOD.gpsk1])
     ignored = wire.radius(11, 2, GOOD.gpsk1, (101, struct.pack(">I", 202)))
     last = [wire.radius(1, 3, BAD.gpsk2), wire.radius(3, 3, FAILURE)]
     yield "RADIUS, an answer that is ignored", wire.pcap(framed(first, answer, wire.radius(1, 2, BAD.gpsk2), ignored, *last)), (
         REFUSED + ", ignored"), key
+
+
+def at_both(packets: list[bytes], station: bytes = b"02-00-00-00-00-02", stops: int = 99) -> list[Item]:
+    """The packets of a login over EAPOL and in RADIUS packets, as from the access point; from one on as far as that alone."""
+    found: list[Item] = [packets[0]]
+    for at, (it, (head, ip)) in enumerate(zip(packets[1:], wire.by_radius(packets[1:], station=station)), 1):
+        hops: list[Item] = [it, (head, ip)] if it[:1] == b"\2" else [(head, ip), it]
+        found += hops[: 1 if at >= stops else 2]
+    return found
+
+
+def unreached(asked: tuple[bytes, bytes], code: int) -> tuple[bytes, bytes]:
+    """What ICMP says of a packet (RFC 792): its header, and the first octets of the packet."""
+    head, ip = asked
+    return head[6:12] + head[:6] + head[12:], struct.pack(">BBHHHBBH", 0x45, 0, 84, 0, 0, 64, 1, 0) + ip[16:20] + ip[12:16] + bytes([3, code]) + bytes(6) + ip[:56]
+
+
+def paths() -> Iterator[tuple[str, list[Item], str]]:
+    """What goes from hop to hop, and where it stops."""
+    bad = [*BAD.front, BAD.gpsk2, FAILURE]
+    asked, again = wire.radius(1, 1, GOOD.named), 3.0
+    yield "at both sides of the access point", at_both(bad), REFUSED + ", both"
+    yield "the same without a Calling-Station-Id", at_both(bad, b""), REFUSED + ", both"
+    yield "a good login at both", at_both(GOOD.whole), "good, both"
+    yield "a GPSK-2 that the access point keeps", [*at_both(GOOD.whole[:4], stops=3), again, GOOD.gpsk1, GOOD.gpsk2], "kept by ap, again answered, both"
+    yield "a Challenge that the access point keeps", [*at_both(GOOD.whole[:3], stops=2), again, asked, wire.radius(11, 1, GOOD.gpsk1)], "kept by ap, client again, both"
+    yield "a RADIUS server that isn't there", [*at_both(GOOD.whole[:2]), unreached(asked, 3), again, asked, unreached(asked, 3)], "no port, both, radius down"
+    yield "a server's host that isn't there", [asked, unreached(asked, 1), again, asked], "no host, radius down"
+    yield "a Reject without EAP, and a Failure for it", [*at_both(GOOD.whole[:2]), wire.radius(3, 1, b""), eap(4, 1)], "rejected, both"
+    yield "a Failure of the access point", [*at_both(GOOD.whole[:3]), eap(4, 2)], "by itself, both, no gpsk2, ended"
+    hops = [(head, ip[:12] + ends + ip[20:]) for it in wire.by_radius(GOOD.whole[1:3]) for head, ip in [it] for ends in passed(ip[15])]
+    yield "an answer that a proxy keeps", [*hops[:3], again, *hops[:3]], "kept by proxy, client again, proxy"
 
 
 def stations(is_silent: bool = False) -> list[tuple[float, bytes]]:

@@ -9,7 +9,7 @@ from collections import Counter
 from dataclasses import dataclass, field
 from typing import BinaryIO, Iterable, Iterator, NamedTuple, Optional, Sequence
 
-from lib import frames, sessions
+from lib import frames, paths, sessions
 from lib.common import Refused, ask, run
 from lib.texts import comments_of, lines_of, packet_of
 from lib.words import MOST_OCTETS
@@ -37,10 +37,10 @@ class Packets:
     def __init__(self) -> None:
         self.numbers, self.times, self.ways = array("I"), array("d"), bytearray()
         self.octets: list[bytes] = []
-        # (of each packet or of none)
-        self.radius: list[frames.Radius] = []
+        # (of each packet, none over EAPOL, or of no packet at all)
+        self.radius: list[Optional[frames.Radius]] = []
 
-    def append(self, number: int, is_to_peer: bool, octets: bytes, at: float, *radius: frames.Radius) -> None:
+    def append(self, number: int, is_to_peer: bool, octets: bytes, at: float, *radius: Optional[frames.Radius]) -> None:
         self.radius += radius
         self.numbers.append(number)
         self.times.append(at)
@@ -75,7 +75,8 @@ class Capture:
     access point, and what was left out of a file. Of frames without a whole EAP packet: those that are cut, by number, octets kept and octets
     on the wire, the EAPOL-Starts and the EAPOL-Logoffs, by number and time, and how many other ones of several stations can be
     of this one; the numbers of all frames, with the file's first capture those that came at another interface again, and the
-    time of its last. Over RADIUS `parts` has the places of the packets of each login."""
+    time of its last. Over RADIUS `parts` has the places of the packets of each login, and `facts` what is certain of a packet by the
+    others around it, by its number: a choice and its words."""
 
     packets: Packets
     users: list[User] = field(default_factory=list)
@@ -87,6 +88,7 @@ class Capture:
     starts: list[tuple[int, float]] = field(default_factory=list)
     logoffs: list[tuple[int, float]] = field(default_factory=list)
     parts: list[list[int]] = field(default_factory=list)
+    facts: list[paths.Fact] = field(default_factory=list)
     unsure: int = 0
     name: str = ""
     numbers: array[int] = field(default_factory=lambda: array("I"))
@@ -159,6 +161,9 @@ class Reading:
     radius: Packets = field(default_factory=Packets)
     cut: dict[int, tuple[int, int]] = field(default_factory=dict)
     left: Counter[str] = field(default_factory=Counter)
+    # (the last of the RADIUS packets with the same addresses, and Identifier; and what ICMP says of these, by their numbers)
+    latest: dict[tuple[object, ...], int] = field(default_factory=dict)
+    unreached: dict[int, tuple[str, ...]] = field(default_factory=dict)
     twice: frames.Twice = field(default_factory=frames.Twice)
     # (of frames with a whole packet, as they come again and again: the flow and the packet)
     known: dict[bytes, tuple[int, bytes]] = field(default_factory=dict)
@@ -178,12 +183,21 @@ class Reading:
                 self.take_eapol(record, frame.to + frame.source, frame.payload)
             return
         found = frames.radius_of(frame, ports)
-        if found is None:
+        if found is None and (unreached := frames.unreached_of(frame)):
+            self.take_unreached(record.number, unreached)
+        elif found is None:
             self.left["without EAP"] += 1
         elif interface < 0 or not self.twice.is_again((found.source[0], found.octets), record, interface):
             if found.is_cut:
                 self.cut[record.number] = len(octets), record.wire
             self.radius.append(record.number, not found.is_request, found.eap, record.at, found)
+            self.latest.update({(found.source, found.to, it): record.number for it in (b"", found.octets[:2])})
+
+    def take_unreached(self, number: int, found: frames.Unreached) -> None:
+        """Takes what ICMP says of a packet that was sent just before."""
+        source, (to, port), octets = found.udp
+        if asked := self.latest.get((source, (to, port), octets[:2])):
+            self.unreached[asked] = f"port {port} of {paths.address(to)}", paths.address(found.by), str(number), found.why
 
     def take_eapol(self, record: frames.Record, addresses: bytes, payload: bytes) -> None:
         flow = self.flows.get(addresses)
@@ -302,30 +316,56 @@ class Reading:
         self.left["to a group address, meant for no pair alone"] += sum(alone.values())
         return pairs, alone
 
-    def by_radius(self) -> list[Capture]:
-        """The captures of RADIUS packets that carry EAP, one for each station, with the packets of each login."""
-        stations: dict[str, Capture] = {}
-        parts, passed = sessions.of_packets(self.radius)
-        for part in parts:
-            its = [self.radius.radius[at] for at in part]
-            asked = next((it for it in its if it.is_request), its[0])
-            name = (asked.get(frames.CALLING_STATION) or asked.get(frames.USER_NAME)).decode("latin-1")
-            client = ".".join(map(str, (asked.source if asked.is_request else asked.to)[0]))
+    def by_radius(self, stations: Sequence[Capture]) -> list[Capture]:
+        """The captures of RADIUS packets that carry EAP, one for each station, with the packets of each login; those of a station over
+        EAPOL are put into its capture."""
+        found: dict[str, Capture] = {}
+        owners = sessions.Owners(stations)
+        joined: dict[int, tuple[Capture, list[Packet]]] = {}
+        for part in sessions.of_packets(self.radius):
+            its = [self.radius[at] for at in part]
+            owner = owners.of(self.radius, part)
+            first = next((it.radius for it in its if it.radius and it.radius.is_request), its[0].radius)
+            name = (first.get(frames.CALLING_STATION) or first.get(frames.USER_NAME)).decode("latin-1") if first else ""
+            client = paths.address(paths.hop_of(its[0])[0])
             file = "radius_" + re.sub("[^A-Za-z0-9.-]", "_", name)
-            station = stations.setdefault(name, Capture(Packets(), station=name, other=client, name=file))
-            station.parts.append([])
-            for at, it in zip(part, its):
-                packet = self.radius[at]
-                if at in passed or not packet.octets and it.octets[0] != 3 and not it.is_cut:
-                    self.left["of RADIUS that a proxy passed on, as those before them" if at in passed else "of RADIUS without EAP"] += 1
-                    continue
-                station.numbers.append(packet.number)
-                if it.is_cut:
-                    station.cut.append((packet.number, *self.cut[packet.number]))
-                else:
-                    station.parts[-1].append(len(station.packets))
-                    station.packets.append(packet.number, packet.is_to_peer, packet.octets, packet.at or 0.0, it)
-        return [it for it in stations.values() if it.numbers]
+            station = owner or found.setdefault(name, Capture(Packets(), station=name, other=client, name=file))
+            whole = self.whole_of(its, station)
+            if owner:
+                joined.setdefault(id(owner), (owner, []))[1].extend(whole)
+            elif whole:
+                station.parts.append([*range(len(station.packets), len(station.packets) + self.put_path(station, whole))])
+        for owner, whole in joined.values():
+            whole += owner.packets
+            owner.packets = Packets()
+            self.put_path(owner, sorted(whole, key=lambda it: it.number))
+        return [it for it in found.values() if it.numbers]
+
+    def whole_of(self, its: list[Packet], station: Capture) -> list[Packet]:
+        """The packets that carry EAP, or refuse without, and aren't cut."""
+        whole = []
+        for it in its:
+            if it.radius and it.radius.is_cut:
+                station.cut.append((it.number, *self.cut[it.number]))
+            elif it.octets or it.radius and it.radius.octets[0] == 3:
+                whole.append(it)
+            else:
+                self.left["of RADIUS without EAP"] += 1
+                continue
+            station.numbers.append(it.number)
+        return whole
+
+    def put_path(self, station: Capture, whole: list[Packet]) -> int:
+        """Puts the packets of a login at all hops, each once; and how many these are."""
+        path = paths.Path(whole)
+        text, kept = path.text, sorted((it.kept for it in path.passed), key=lambda it: it.number)
+        for it in kept:
+            if it.radius:
+                it.radius.path = text
+            station.packets.append(it.number, it.is_to_peer, it.octets, it.at or 0.0, it.radius)
+        station.facts += [*path.facts(), *((it.kept.number, "unreached", self.unreached[number]) for it in path.passed
+                                           for number in {seen.number for seen in it.seen.values()} & self.unreached.keys())]
+        return len(kept)
 
     def notes(self) -> list[str]:
         """What is left out."""
@@ -337,9 +377,9 @@ class Reading:
         return found + [f"left out: frames {what}: {count}" for what, count in sorted(self.left.items()) if count]
 
 
-def of_records(records: Iterable[frames.Record], ports: Sequence[int] = ()) -> tuple[list[Capture], str]:
-    """The captures of records, one for each station, what is left out being noted with the first; and why these weren't
-    read to their end, if so."""
+def of_records(records: Iterable[frames.Record], ports: Sequence[int] = (), is_joined: bool = True) -> tuple[list[Capture], str]:
+    """The captures of records, one for each station, also where it is seen over EAPOL and in RADIUS packets, if these are to be joined;
+    what is left out being noted with the first; and why these weren't read to their end, if so."""
     reading, reason, until = Reading(), "", None
     try:
         for record in records:
@@ -347,7 +387,8 @@ def of_records(records: Iterable[frames.Record], ports: Sequence[int] = ()) -> t
             until = record
     except Refused as fault:
         reason = str(fault)
-    found = reading.by_eapol() + reading.by_radius()
+    found = reading.by_eapol()
+    found += reading.by_radius(found if is_joined else [])
     for it in found:
         it.until = until.at if until else None
     if found:
@@ -358,9 +399,9 @@ def of_records(records: Iterable[frames.Record], ports: Sequence[int] = ()) -> t
     return found, reason
 
 
-def of_file(file: BinaryIO, ports: Sequence[int] = ()) -> tuple[list[Capture], str]:
+def of_file(file: BinaryIO, ports: Sequence[int] = (), is_joined: bool = True) -> tuple[list[Capture], str]:
     """The captures of an open file."""
-    return of_records(frames.of_file(file)[1], ports)
+    return of_records(frames.of_file(file)[1], ports, is_joined)
 
 
 def starts_said(it: Capture) -> str:
@@ -384,7 +425,7 @@ def of_pcap(octets: bytes, ports: Sequence[int] = ()) -> list[Capture]:
 
 def judge_radius(captures: list[Capture], secret: str) -> None:
     """Asks `radius` of the authenticators of each packet, each reply behind its request."""
-    packets = [it for capture in captures for it in capture.packets.radius]
+    packets = [it for capture in captures for it in capture.packets.radius if it]
     lines, asked = ["eap-radius 1", f"secret {secret.encode('utf-8', 'surrogateescape').hex()}"], []
     for it in packets:
         if it.request:

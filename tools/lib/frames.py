@@ -264,14 +264,14 @@ IGNORED = (202).to_bytes(4, "big")
 
 class Radius:
     """A RADIUS packet that UDP carries: from where to where, and what is in it; `verdict` is what `radius` says of its
-    authenticators, where that was asked."""
+    authenticators, where that was asked, and `path` has the hops of its login in words."""
 
-    __slots__ = ("source", "to", "octets", "request", "verdict")
+    __slots__ = ("source", "to", "octets", "request", "verdict", "path")
 
     def __init__(self, source: tuple[bytes, int], to: tuple[bytes, int], octets: bytes) -> None:
         self.source, self.to, self.octets = source, to, octets
         self.request: Optional[Radius] = None
-        self.verdict = ""
+        self.verdict = self.path = ""
 
     @property
     def attributes(self) -> Iterator[tuple[int, bytes]]:
@@ -306,17 +306,52 @@ class Radius:
         return client, server, self.octets[1]
 
 
-def radius_of(frame: Frame, more: Sequence[int] = ()) -> Optional[Radius]:
-    """The RADIUS packet of a frame, where it has one, at its ports or at others that are named. A later fragment has none."""
-    octets = frame.payload
-    if frame.kind == IPV4 and len(octets) >= 20 and octets[9] == 17 and not int.from_bytes(octets[6:8], "big") & 0x1FFF:
+# A UDP packet: from where to where, and what it carries.
+Udp = tuple[tuple[bytes, int], tuple[bytes, int], bytes]
+
+
+def udp_of(kind: int, octets: bytes) -> Optional[Udp]:
+    """The UDP packet in one of IP, where it has one. A later fragment has none."""
+    if kind == IPV4 and len(octets) >= 20 and octets[9] == 17 and not int.from_bytes(octets[6:8], "big") & 0x1FFF:
         one, other, udp = octets[12:16], octets[16:20], octets[4 * (octets[0] & 15) : int.from_bytes(octets[2:4], "big")]
-    elif frame.kind == IPV6 and len(octets) >= 40 and octets[6] == 17:
+    elif kind == IPV6 and len(octets) >= 40 and octets[6] == 17:
         one, other, udp = octets[8:24], octets[24:40], octets[40:]
     else:
         return None
-    ports = struct.unpack(">HH", udp[:4]) if len(udp) >= 8 else ()
-    if not {*ports} & {*RADIUS_PORTS, *more}:
+    if len(udp) < 8:
         return None
-    octets = udp[8 : int.from_bytes(udp[4:6], "big") or None]
-    return Radius((one, ports[0]), (other, ports[1]), octets) if len(octets) >= 20 else None
+    ports = struct.unpack(">HH", udp[:4])
+    return (one, ports[0]), (other, ports[1]), udp[8 : int.from_bytes(udp[4:6], "big") or None]
+
+
+def radius_of(frame: Frame, more: Sequence[int] = ()) -> Optional[Radius]:
+    """The RADIUS packet of a frame, where it has one, at its ports or at others that are named."""
+    found = udp_of(frame.kind, frame.payload)
+    if not found or not {found[0][1], found[1][1]} & {*RADIUS_PORTS, *more} or len(found[2]) < 20:
+        return None
+    return Radius(*found)
+
+
+class Unreached(NamedTuple):
+    """What ICMP says of a UDP packet: who says it, why it didn't arrive, and as much of the packet as is there."""
+
+    by: bytes
+    why: str
+    udp: Udp
+
+
+# Why a packet doesn't arrive, by type and code (RFC 792, RFC 4443 section 3).
+UNREACHED = {IPV4: {(3, 0): "network unreachable", (3, 1): "host unreachable", (3, 3): "port unreachable", (3, 4): "it is too long",
+                    (3, 9): "prohibited", (3, 10): "prohibited", (3, 13): "prohibited", (11, 0): "too many hops"},
+             IPV6: {(1, 0): "network unreachable", (1, 1): "prohibited", (1, 3): "host unreachable", (1, 4): "port unreachable",
+                    (2, 0): "it is too long", (3, 0): "too many hops"}}
+
+
+def unreached_of(frame: Frame) -> Optional[Unreached]:
+    """What a frame with ICMP says of a UDP packet, whose begin it has."""
+    octets, is_4 = frame.payload, frame.kind == IPV4
+    begin = 4 * (octets[0] & 15) if is_4 and octets else 40
+    if len(octets) < begin + 8 or frame.kind not in UNREACHED or octets[9 if is_4 else 6] != (1 if is_4 else 58):
+        return None
+    why, udp = UNREACHED[frame.kind].get((octets[begin], octets[begin + 1])), udp_of(frame.kind, octets[begin + 8 :])
+    return Unreached(octets[12:16] if is_4 else octets[8:24], why, udp) if why and udp else None

@@ -26,7 +26,8 @@ def filter_of(interface: str, ports: Sequence[int]) -> str:
     """What tcpdump is to capture. (`vlan` stands last, since it moves what is behind it; a cooked link has none.)"""
     radius = [f"udp port {it}" for it in (*frames.RADIUS_PORTS, *ports)]
     vlan = [] if interface == "any" else ["(vlan and ether proto 0x888e)"]
-    return " or ".join(["ether proto 0x888e", *radius, *vlan])
+    icmp = ["icmp[icmptype] == icmp-unreach", "icmp6[icmp6type] == icmp6-destinationunreach"]
+    return " or ".join(["ether proto 0x888e", *radius, *icmp, *vlan])
 
 
 def records_of(interface: str, ports: Sequence[int]) -> Iterator[Optional[frames.Record]]:
@@ -72,10 +73,10 @@ def read(begun: subprocess.Popen[bytes], found: queue.Queue[Optional[frames.Reco
 
 
 def is_of_login(record: frames.Record, ports: Sequence[int]) -> bool:
-    """Whether a frame has EAPOL, or EAP or a refusal in a RADIUS packet."""
+    """Whether a frame has EAPOL, EAP or a refusal in a RADIUS packet, or what ICMP says of a packet."""
     frame = frames.of_record(record)
     found = frames.radius_of(frame, ports) if frame.kind != frames.EAPOL else None
-    return frame.kind == frames.EAPOL or found is not None and bool(found.eap or found.octets[0] == 3)
+    return frame.kind == frames.EAPOL or bool(found and (found.eap or found.octets[0] == 3) or frames.unreached_of(frame))
 
 
 def is_over(it: Capture, last: float, now: float) -> bool:

@@ -93,13 +93,14 @@ Way = tuple[World, list[Token]]
 @dataclass
 class Tap:
     """What the place of capturing hides: whether a direction isn't captured, the numbers of the frames that are cut, whether
-    frames are left out; whether frames have times; and the frames around."""
+    frames are left out; whether frames have times; the numbers of those that no packet of the server brought; and the frames around."""
 
     hides_server: bool = False
     hides_peer: bool = False
     cut: list[int] = field(default_factory=list)
     is_unsure: bool = False
     has_times: bool = True
+    alone: frozenset[int] = frozenset()
     frames: dict[int, Frame] = field(default_factory=dict)
 
 
@@ -447,6 +448,9 @@ class Next:
     def failure(self) -> Iterator[Way]:
         """A Failure, or an Access-Reject without one."""
         f, server, world = self.frame, self.server, self.world
+        if f.number in self.tap.alone:
+            yield world, []
+            return
         if server.message in ENDS:
             if self.before and f.at - self.before[0].at <= DOUBLED:
                 return

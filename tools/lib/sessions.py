@@ -1,14 +1,18 @@
 """Which RADIUS packets belong to one login: a Request and its reply, whichever of both is captured first, a Request that comes
-again, what has one State (RFC 2865 section 5.24), and what a proxy passes on."""
+again, what has one State (RFC 2865 section 5.24), and what a proxy passes on; and which of them are of a station's login over
+EAPOL."""
 
 from __future__ import annotations
 
-from typing import TYPE_CHECKING, Optional
+import re
+from collections import Counter
+from typing import TYPE_CHECKING, Optional, Sequence
 
 from lib import frames
+from lib.common import grouped
 
 if TYPE_CHECKING:
-    from lib.captures import Packets
+    from lib.captures import Capture, Packets
 
 # How much earlier than its Request a reply may be captured, in seconds, how far back a Request may be for a reply that comes
 # from another address, the pause after which a Request whose State nobody gave begins a login, and how long a proxy may take.
@@ -27,8 +31,6 @@ class Sessions:
         self.states: dict[object, int] = {}
         self.latest: dict[object, int] = {}
         self.last: dict[object, int] = {}
-        # (those that a proxy passed on, as others before them)
-        self.passed: set[int] = set()
 
     def root(self, at: int) -> int:
         while self.joined[at] != at:
@@ -56,9 +58,13 @@ class Sessions:
         self.latest[self.client_of(it)] = at
         kind = it.octets[0], self.packets.octets[at]
         before, self.last[kind] = self.last.get(kind), at
-        if before is not None and self.its[before].to[0] == it.source[0] != it.to[0] and self.at(at) - self.at(before) < PASSES:
+        if before is not None and self.is_passed_on(self.its[before], it) and self.at(at) - self.at(before) < PASSES:
             self.join(at, before)
-            self.passed.add(at)
+
+    def is_passed_on(self, before: frames.Radius, it: frames.Radius) -> bool:
+        """Whether a proxy passes on a packet, perhaps from another of its addresses."""
+        name = it.get(frames.CALLING_STATION) if it.is_request and it.source[0] != before.source[0] else b""
+        return before.to[0] == it.source[0] != it.to[0] or bool(name) and name == before.get(frames.CALLING_STATION)
 
     def client_of(self, it: frames.Radius) -> object:
         asked = it if it.is_request else it.request
@@ -101,12 +107,28 @@ class Sessions:
         return its[0] if its else None
 
 
-def of_packets(packets: Packets) -> tuple[list[list[int]], set[int]]:
-    """The places of the packets of each login, and of those that a proxy passed on."""
+def of_packets(packets: Packets) -> list[list[int]]:
+    """The places of the packets of each login."""
     found = Sessions(packets)
     for at in range(len(packets)):
         found.add(at)
-    parts: dict[int, list[int]] = {}
-    for at in range(len(packets)):
-        parts.setdefault(found.root(at), []).append(at)
-    return list(parts.values()), found.passed
+    return list(grouped((found.root(at), at) for at in range(len(packets))).values())
+
+
+class Owners:
+    """The stations over EAPOL to which logins in RADIUS packets can belong: by the Calling-Station-Id, or by what they sent."""
+
+    def __init__(self, stations: Sequence[Capture]) -> None:
+        self.stations = stations
+        self.named = grouped((it.station.replace("-", ""), at) for at, it in enumerate(stations))
+        self.sent = grouped((octets, (at, when)) for at, it in enumerate(stations)
+                            for octets, when in zip(it.packets.octets, it.packets.times) if len(octets) > 5)
+
+    def of(self, packets: Packets, part: list[int]) -> Optional[Capture]:
+        asked = next((it for at in part if (it := packets.radius[at]) and it.is_request), None)
+        name = re.sub("[^0-9a-f]", "", asked.get(frames.CALLING_STATION).decode("latin-1").lower())[:12] if asked else ""
+        count = Counter(at for place in part for at, when in self.sent.get(packets.octets[place], [])
+                        if abs(when - packets.times[place]) < PASSES and (packets.octets[place][4:5] != b"\1" or len(name) < 12))
+        its = self.named.get(name) or list(count)
+        likely = [at for at in its if count[at] == max(count[it] for it in its)]
+        return self.stations[likely[0]] if len(likely) == 1 else None

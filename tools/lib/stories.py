@@ -11,7 +11,7 @@ from lib import frames, macs, observed, packets, words, worlds
 from lib.captures import Capture
 from lib.common import grouped
 from lib.ladder import Ladder, Row
-from lib.machines import CHOICES, ORDERED, Token
+from lib.machines import CHOICES, ORDERED, Token, token
 from lib.observed import ENDS, Frame
 from lib.packets import FIRST, SECOND, Reading
 from lib.reasons import SENTENCES, Reason, Story, code_said, named, of_replay, said
@@ -31,6 +31,11 @@ class Login:
     def __init__(self, capture: Capture, found: worlds.Found) -> None:
         self.capture, self.found, self.frames = capture, found, found.frames
         self.places = {**found.places, **{it.place: it for it in self.frames}}
+        places = {it.number: it.place for it in self.frames}
+        found.sure += [token(name, places[number], *words) for number, name, words in capture.facts if number in places]
+        # (where it is told where a packet stopped, nothing more is known of its answer)
+        stopped = {self.places[it.place].octets for it in found.sure if it.name in ("not-passed", "unreached")}
+        found.sure = [it for it in found.sure if it.name != "no-answer" or self.places[it.place].octets not in stopped]
         out = {it.place for it in (*found.sure, *(it for group in found.groups for it in group[0])) if it.name in NOT_SENT}
         self.own = [it for it in self.frames if it.octets and it.place not in out]
         # (what isn't sent by its end in one of the alternatives that are said)
@@ -71,7 +76,8 @@ class Login:
     def front(self) -> str:
         user, kind, first, last = self.user, self.kind, self.frames[0].number, self.frames[-1].number
         front = (f"the login of {user}" if user else "a login") + (f" by {words.METHODS[kind]}" if kind else "")
-        return front + (f", packet {first}" if first == last else f", packets {first} to {last}")
+        path = next((it.radius.path for it in self.frames if it.radius), "")
+        return front + (f", packet {first}" if first == last else f", packets {first} to {last}") + path
 
 
 # ---- Choices in words.
@@ -190,7 +196,7 @@ def of_worlds(login: Login) -> Iterator[tuple[int, Reason]]:
         if group[0] or any(CHOICES[it.name].verdict for it in group[1]):
             yield (group[0] or group[1])[0].place, alternatives_of(login, group)
     shown = shown_tokens(login)
-    login.tries += [it for it in dict.fromkeys(CHOICES[it.name].advice for it in shown) if it]
+    login.tries += [it for it in dict.fromkeys(CHOICES[it.name].advice.format(*it.words) for it in shown) if it]
 
 
 # ---- What the program judges.

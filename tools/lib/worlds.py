@@ -247,7 +247,8 @@ def of_conversation(capture: Capture, more: Iterator[Frame], part: Sequence[int]
     ways = {its.ways[at] for at in part}
     goes_on = any(its.octets[at][:1] == b"\1" and its.octets[at][4:5] != b"\1" for at in part)
     cut = [number for number, _, _ in capture.cut]
-    search = Search(more, Tap(ways == {0}, ways == {1} and goes_on, cut, bool(capture.unsure), its[0].at is not None if len(its) else True))
+    search = Search(more, Tap(ways == {0}, ways == {1} and goes_on, cut, bool(capture.unsure), its[0].at is not None if len(its) else True,
+                              frozenset(number for number, name, _ in capture.facts if name == "by-itself")))
     before: Optional[Found] = None
     for begin, end, worlds, is_closed in search.logins():
         sure, groups = grouped(tokens_of(worlds))

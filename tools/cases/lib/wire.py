@@ -151,11 +151,10 @@ def by_ipv6(item: tuple[bytes, bytes]) -> tuple[bytes, bytes]:
     return head[:12] + b"\x86\xdd", struct.pack(">IHBB", 6 << 28, len(ip) - 20, 17, 64) + ends + ip[20:]
 
 
-def by_radius(packets: Iterable[bytes], port: int = 1812) -> list[Item]:
+def by_radius(packets: Iterable[bytes], port: int = 1812, station: bytes = b"02-00-00-00-00-02") -> list[tuple[bytes, bytes]]:
     """The packets of a login, each Response in an Access-Request, each other one in its answer."""
-    found: list[Item] = []
-    identifier = 0
+    found, identifier = list[tuple[bytes, bytes]](), 0
     for it in packets:
         identifier += it[0] == 2
-        found.append(radius({1: 11, 2: 1, 3: 2, 4: 3}[it[0]], identifier, it, port=port))
+        found.append(radius({1: 11, 2: 1, 3: 2, 4: 3}[it[0]], identifier, it, port=port, station=station))
     return found
