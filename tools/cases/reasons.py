@@ -106,6 +106,15 @@ def files() -> Iterator[tuple[str, bytes, str, str]]:
         yield f"monitor mode, QoS {has_qos}", wire.pcap([(at, wire.in_air(it, has_qos)) for at, it in wrong], link=127), REFUSED, key
     for tags in (["81000005"], ["88a80007", "81000005"]):
         yield f"VLAN {tags}", wire.pcap([(at, wire.tagged(it, *tags)) for at, it in wrong]), REFUSED, key
+    for name in wire.in_tunnels(wrong[0][1]):
+        yield name, wire.pcap([(at, wire.in_tunnels(it)[name]) for at, it in wrong]), REFUSED, key
+    radius = [(at, it[14:]) for at, it in framed(*wire.by_radius(WRONG[1:]))]
+    for link, head in ((101, b""), (0, b"\2\0\0\0"), (108, b"\0\0\0\2")):
+        yield f"RADIUS on a link of the type {link}", wire.pcap([(at, head + it) for at, it in radius], link=link), REFUSED, key
+    exchange = [(at, ends + b"\x88\x8e\1\3\0\x5f" + bytes(95)) for at, ends in enumerate([STATION_FRAME[6:12] + SWITCH, STATION_FRAME[:12]] * 2)]
+    yield "key frames alone", wire.pcap([(100.0 + at, it) for at, it in exchange]), "keys alone", key
+    encrypted = [(at, it[:9] + bytes([it[9] | 0x40]) + it[10:]) for at, it in ((at, wire.in_air(it)) for at, it in wrong)]
+    yield "encrypted Wi-Fi", wire.pcap(encrypted, link=127), "encrypted", key
     yield "padded", wire.pcap([(at, it.ljust(60, b"\0")) for at, it in wrong]), REFUSED, key
     yield "a file that ends in the middle", wire.pcap(wrong)[:-10], "server silent, ended, end of file, wrong key, received", key
     yield "three stations to a group", wire.pcap(stations()), "good, wrong key, received, at once, behind, given", key + " bob 51 " + KEY.hex()

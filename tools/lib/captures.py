@@ -73,7 +73,7 @@ class Packets:
 class Capture:
     """Packets in their order; the users, as the words NAME, KIND and KEY; what the text says of itself; the station, its
     access point, and what was left out of a file. Of frames without a whole EAP packet: those that are cut, by number, octets kept and octets
-    on the wire, the EAPOL-Starts and the EAPOL-Logoffs, by number and time, and how many other ones of several stations can be
+    on the wire, how many EAPOL-Keys, the EAPOL-Starts and the EAPOL-Logoffs, by number and time, and how many other ones of several stations can be
     of this one; the numbers of all frames, with the file's first capture those that came at another interface again, and the
     time of its last. Over RADIUS `parts` has the places of the packets of each login, and `facts` what is certain of a packet by the
     others around it, by its number: a choice and its words."""
@@ -85,6 +85,7 @@ class Capture:
     other: str = ""
     notes: list[str] = field(default_factory=list)
     cut: list[tuple[int, int, int]] = field(default_factory=list)
+    keys: int = 0
     starts: list[tuple[int, float]] = field(default_factory=list)
     logoffs: list[tuple[int, float]] = field(default_factory=list)
     parts: list[list[int]] = field(default_factory=list)
@@ -186,7 +187,7 @@ class Reading:
         if found is None and (unreached := frames.unreached_of(frame)):
             self.take_unreached(record.number, unreached)
         elif found is None:
-            self.left["without EAP"] += 1
+            self.left["of Wi-Fi that are encrypted" if frame.kind == frames.ENCRYPTED else "without EAP"] += 1
         elif interface < 0 or not self.twice.is_again((found.source[0], found.octets), record, interface):
             if found.is_cut:
                 self.cut[record.number] = len(octets), record.wire
@@ -246,7 +247,8 @@ class Reading:
             votes[flow[-6:]] += vote
         addresses = {*votes, *(it[:6] for it in self.flows if len(it) > 6 and not it[0] & 1)}
         if 0 < len(addresses) <= 2:
-            station, other = [*sorted(votes, key=lambda it: -votes[it]), b""][:2]
+            # (of key frames the first goes to the station)
+            station, other = [*sorted(votes if any(votes.values()) else [*votes][::-1], key=lambda it: -votes[it]), b""][:2]
             return [self.capture(range(len(self.of_flow)), station, other)]
         parted, alone = self.pairs(votes)
         found = []
@@ -269,6 +271,8 @@ class Reading:
                 found.cut.append((number, *self.cut[number]))
             elif at not in self.kinds:
                 packets.append(number, bool(whole.ways[at]), whole.octets[at], whole.times[at])
+            elif self.kinds[at] == frames.KEY:
+                found.keys += 1
             elif self.kinds[at] in (frames.START, frames.LOGOFF):
                 (found.starts if self.kinds[at] == frames.START else found.logoffs).append((number, whole.times[at]))
         return found
@@ -377,9 +381,12 @@ class Reading:
         return found + [f"left out: frames {what}: {count}" for what, count in sorted(self.left.items()) if count]
 
 
-def of_records(records: Iterable[frames.Record], ports: Sequence[int] = (), is_joined: bool = True) -> tuple[list[Capture], str]:
+Parted = tuple[list[Capture], list[str], str]
+
+
+def of_records(records: Iterable[frames.Record], ports: Sequence[int] = (), is_joined: bool = True) -> Parted:
     """The captures of records, one for each station, also where it is seen over EAPOL and in RADIUS packets, if these are to be joined;
-    what is left out being noted with the first; and why these weren't read to their end, if so."""
+    what is left out, which is noted with the first too; and why these weren't read to their end, if so."""
     reading, reason, until = Reading(), "", None
     try:
         for record in records:
@@ -391,15 +398,15 @@ def of_records(records: Iterable[frames.Record], ports: Sequence[int] = (), is_j
     found += reading.by_radius(found if is_joined else [])
     for it in found:
         it.until = until.at if until else None
+    notes = [reason] * bool(reason) + reading.notes()
     if found:
-        found[0].notes = [reason] * bool(reason) + reading.notes()
-        found[0].again = reading.twice.numbers
+        found[0].notes, found[0].again = notes, reading.twice.numbers
     elif reason:
         raise Refused(reason)
-    return found, reason
+    return found, notes, reason
 
 
-def of_file(file: BinaryIO, ports: Sequence[int] = (), is_joined: bool = True) -> tuple[list[Capture], str]:
+def of_file(file: BinaryIO, ports: Sequence[int] = (), is_joined: bool = True) -> Parted:
     """The captures of an open file."""
     return of_records(frames.of_file(file)[1], ports, is_joined)
 
@@ -410,11 +417,16 @@ def starts_said(it: Capture) -> str:
             "were lost or aren't captured")
 
 
+def keys_said(it: Capture) -> str:
+    return (f"station {it.station} exchanged keys with {it.other} ({it.keys} EAPOL-Keys) without EAP: both have a key already, as by a "
+            "password of Wi-Fi (WPA-PSK) or from an earlier login, or the login is before the capture")
+
+
 def of_pcap(octets: bytes, ports: Sequence[int] = ()) -> list[Capture]:
     """The captures of a file that have an EAP packet; of the other stations it is noted what they have."""
-    found = of_file(io.BytesIO(octets), ports)[0]
-    notes = [it for capture in found for it in capture.notes]
+    found, notes, _ = of_file(io.BytesIO(octets), ports)
     notes += [starts_said(it) for it in found if it.starts and not it.packets and not it.cut]
+    notes += [keys_said(it) for it in found if it.keys and not it.packets and not it.cut]
     captures = [it for it in found if it.packets]
     if not captures:
         raise Refused("; ".join(["no frame has a whole EAP packet: by EAPOL (EtherType 888e, type 0), or in a RADIUS packet by "

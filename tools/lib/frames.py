@@ -1,5 +1,6 @@
 """Files of captured frames: pcap, pcapng and snoop, the frames in them, and the EAP packets that these carry, by EAPOL or
-by RADIUS. A tag of a VLAN is passed over; a cooked link (`tcpdump -i any`) is read, and Wi-Fi in monitor mode."""
+by RADIUS. Tags of VLANs and tunnels are passed over; a cooked link (`tcpdump -i any`), packets of IP without frames, and Wi-Fi in
+monitor mode are read."""
 
 from __future__ import annotations
 
@@ -13,14 +14,20 @@ PAE_GROUP = bytes.fromhex("0180c2000003")
 AUTHENTICATOR = bytes.fromhex("020000000001")
 STATION = bytes.fromhex("020000000002")
 EAPOL, IPV4, IPV6 = 0x888E, 0x0800, 0x86DD
-VLANS = (0x8100, 0x88A8)
+VLANS, PPPOE, BRIDGED, ERSPAN_2, ERSPAN_3 = (0x8100, 0x88A8), 0x8864, 0x6558, 0x88BE, 0x22EB
 ETHERNET, COOKED, COOKED_2, WIFI, RADIOTAP = 1, 113, 276, 105, 127
+# Links of IP alone, by the octets before a packet.
+IP_LINKS = {0: 4, 101: 0, 108: 4, 228: 0, 229: 0}
+# (in the place of a type, which is over 1,535)
+ENCRYPTED = 1
+ICMP, GRE, UDP, ICMP_6, IN_IP = 1, 47, 17, 58, {4: IPV4, 41: IPV6}
+VXLAN_PORTS = (4789, 8472)
 # The ports of RADIUS, the later one and the earlier one (RFC 2865 section 3).
 RADIUS_PORTS = (1812, 1645)
 MOST_FRAME = 262144
 MAGICS = {"a1b2c3d4": (">", 1000000), "d4c3b2a1": ("<", 1000000), "a1b23c4d": (">", 10**9), "4d3cb2a1": ("<", 10**9)}
 PCAPNG, SNOOP = "0a0d0d0a", "736e6f6f70000000"
-START, LOGOFF = 1, 2
+START, LOGOFF, KEY = 1, 2, 3
 
 
 class Record(NamedTuple):
@@ -85,9 +92,9 @@ def of_file(file: BinaryIO) -> tuple[str, Iterator[Record]]:
 
 
 def is_read(link: int) -> None:
-    if link not in (ETHERNET, COOKED, COOKED_2, WIFI, RADIOTAP):
-        raise Refused(f"it was captured on a link of the type {link}, and these are read: Ethernet (1), cooked links (113, 276) "
-                      "and Wi-Fi (105, 127): capture at the interface of the station or of the access point")
+    if link not in (ETHERNET, COOKED, COOKED_2, WIFI, RADIOTAP, *IP_LINKS):
+        raise Refused(f"it was captured on a link of the type {link}, and these are read: Ethernet (1), cooked links (113, 276), IP "
+                      "(0, 101, 108) and Wi-Fi (105, 127): capture at the interface of the station or of the access point")
 
 
 def taken(file: BinaryIO, size: int, number: int) -> bytes:
@@ -183,7 +190,7 @@ class Frame(NamedTuple):
     to: bytes
     kind: int
     payload: bytes
-    has_vlan: bool = False
+    is_inside: bool = False
     interface: int = 0
 
 
@@ -191,7 +198,7 @@ def of_wifi(octets: bytes) -> tuple[bytes, bytes, bytes, bytes]:
     """To whom, from whom, the type and the payload of a data frame that isn't encrypted (IEEE 802.11 section 9.2)."""
     flags = octets[1] if len(octets) > 1 else 0
     if len(octets) < 32 or octets[0] & 0x0C != 8 or flags & 0x40:
-        return b"", b"", b"", b""
+        return b"", b"", ENCRYPTED.to_bytes(2, "big") if octets[:1] and octets[0] & 0x0C == 8 and flags & 0x40 else b"", b""
     at = 24 + 6 * (flags & 3 == 3) + 2 * (octets[0] >> 7)
     one, two, three = octets[4:10], octets[10:16], octets[16:22]
     to, source = (three, two) if flags & 1 else (one, three) if flags & 2 else (one, two)
@@ -203,8 +210,49 @@ def of_wifi(octets: bytes) -> tuple[bytes, bytes, bytes, bytes]:
 COOKED_AT = {COOKED: (slice(6, 12), slice(14, 16), slice(0, 2), 16), COOKED_2: (slice(12, 18), slice(0, 2), slice(4, 8), 20)}
 
 
+def ip_of(kind: int, octets: bytes) -> tuple[int, bytes, bytes, bytes]:
+    """What is in a packet of IP: its protocol, from where, to where, and the payload. A later fragment has none."""
+    if kind == IPV4 and len(octets) >= 20 and not int.from_bytes(octets[6:8], "big") & 0x1FFF:
+        return octets[9], octets[12:16], octets[16:20], octets[4 * (octets[0] & 15) : int.from_bytes(octets[2:4], "big")]
+    if kind == IPV6 and len(octets) >= 40:
+        return octets[6], octets[8:24], octets[24:40], octets[40:]
+    return -1, b"", b"", b""
+
+
+# What is in a tunnel: the addresses of a frame, where it is one, the type, and the payload.
+Inside = tuple[bytes, int, bytes]
+
+
+def frame_in(octets: bytes) -> Inside:
+    return octets[:12], int.from_bytes(octets[12:14], "big"), octets[14:]
+
+
+def inside(kind: int, octets: bytes) -> Optional[Inside]:
+    """What a VLAN, PPPoE (RFC 2516), GRE (RFC 2784), ERSPAN, VXLAN (RFC 7348) or IP in IP carries."""
+    if kind in VLANS:
+        return b"", int.from_bytes(octets[2:4], "big"), octets[4:]
+    if kind == PPPOE:
+        protocol, octets = int.from_bytes(octets[6:8], "big"), octets[8:]
+        eapol = b"\1\0" + octets[2:4] + octets if protocol == 0xC227 else octets
+        return b"", {0x21: IPV4, 0x57: IPV6, 0xC227: EAPOL}.get(protocol, 0), eapol
+    carries, _, _, rest = ip_of(kind, octets)
+    if carries in IN_IP:
+        return b"", IN_IP[carries], rest
+    if carries == UDP and int.from_bytes(rest[2:4], "big") in VXLAN_PORTS:
+        return frame_in(rest[16:])
+    if carries != GRE or len(rest) < 4:
+        return None
+    # (a sum, a key and a number may follow; ERSPAN of type I has no number, and no header)
+    begin, inner = 4 + 4 * bin(rest[0] & 0xB0).count("1"), int.from_bytes(rest[2:4], "big")
+    if inner == ERSPAN_2:
+        begin += 8 * (rest[0] >> 4 & 1)
+    elif inner == ERSPAN_3:
+        begin += 12 + 8 * (int.from_bytes(rest[begin + 8 : begin + 12], "big") & 1)
+    return frame_in(rest[begin:]) if inner in (BRIDGED, ERSPAN_2, ERSPAN_3) else (b"", inner, rest[begin:])
+
+
 def of_record(record: Record) -> Frame:
-    octets, interface, to = record.frame, record.interface, b""
+    octets, interface, to, source = record.frame, record.interface, b"", b""
     if record.link == ETHERNET:
         to, source, kind, rest = octets[:6], octets[6:12], octets[12:14], octets[14:]
     elif record.link in COOKED_AT:
@@ -212,22 +260,27 @@ def of_record(record: Record) -> Frame:
         *places, begin = COOKED_AT[record.link]
         source, kind, seen, rest = (*(octets[it] for it in places), octets[begin:])
         interface = int.from_bytes(seen, "big")
+    elif record.link in IP_LINKS:
+        rest = octets[IP_LINKS[record.link] :]
+        kind = b"\x86\xdd" if rest[:1] >= b"\x60" else b"\x08\0"
     else:
         at = int.from_bytes(octets[2:4], "little") if record.link == RADIOTAP else 0
         to, source, kind, rest = of_wifi(octets[at:])
-    number, has_vlan = int.from_bytes(kind, "big"), False
-    while number in VLANS:
-        has_vlan, number, rest = True, int.from_bytes(rest[2:4], "big"), rest[4:]
-    return Frame(source, b"" if to and to[0] & 1 else to, number, rest, has_vlan, interface)
+    number, is_inside = int.from_bytes(kind, "big"), False
+    while found := inside(number, rest):
+        addresses, number, rest = found
+        is_inside = True
+        to, source = (addresses[:6], addresses[6:]) if addresses else (to, source)
+    return Frame(source, b"" if to and to[0] & 1 else to, number, rest, is_inside, interface)
 
 
 def plain(record: Record) -> bytes:
-    """The frame of a record as Ethernet has it, without the tags of VLANs."""
+    """The frame of a record as Ethernet has it, without the tags of VLANs, and without tunnels."""
     frame = of_record(record)
-    if record.link == ETHERNET and not frame.has_vlan:
+    if record.link == ETHERNET and not frame.is_inside:
         return record.frame
-    to = record.frame[:6] if record.link == ETHERNET else frame.to or PAE_GROUP
-    return to + frame.source + frame.kind.to_bytes(2, "big") + frame.payload
+    is_outer = record.link == ETHERNET and record.frame[6:12] == frame.source
+    return (record.frame[:6] if is_outer else frame.to or PAE_GROUP) + frame.source + frame.kind.to_bytes(2, "big") + frame.payload
 
 
 TWICE_SECONDS, MOST_KEPT = 0.05, 1000
@@ -311,14 +364,9 @@ Udp = tuple[tuple[bytes, int], tuple[bytes, int], bytes]
 
 
 def udp_of(kind: int, octets: bytes) -> Optional[Udp]:
-    """The UDP packet in one of IP, where it has one. A later fragment has none."""
-    if kind == IPV4 and len(octets) >= 20 and octets[9] == 17 and not int.from_bytes(octets[6:8], "big") & 0x1FFF:
-        one, other, udp = octets[12:16], octets[16:20], octets[4 * (octets[0] & 15) : int.from_bytes(octets[2:4], "big")]
-    elif kind == IPV6 and len(octets) >= 40 and octets[6] == 17:
-        one, other, udp = octets[8:24], octets[24:40], octets[40:]
-    else:
-        return None
-    if len(udp) < 8:
+    """The UDP packet in one of IP, where it has one."""
+    protocol, one, other, udp = ip_of(kind, octets)
+    if protocol != UDP or len(udp) < 8:
         return None
     ports = struct.unpack(">HH", udp[:4])
     return (one, ports[0]), (other, ports[1]), udp[8 : int.from_bytes(udp[4:6], "big") or None]
@@ -349,9 +397,8 @@ UNREACHED = {IPV4: {(3, 0): "network unreachable", (3, 1): "host unreachable", (
 
 def unreached_of(frame: Frame) -> Optional[Unreached]:
     """What a frame with ICMP says of a UDP packet, whose begin it has."""
-    octets, is_4 = frame.payload, frame.kind == IPV4
-    begin = 4 * (octets[0] & 15) if is_4 and octets else 40
-    if len(octets) < begin + 8 or frame.kind not in UNREACHED or octets[9 if is_4 else 6] != (1 if is_4 else 58):
+    protocol, by, _, octets = ip_of(frame.kind, frame.payload)
+    if protocol not in (ICMP, ICMP_6) or len(octets) < 8:
         return None
-    why, udp = UNREACHED[frame.kind].get((octets[begin], octets[begin + 1])), udp_of(frame.kind, octets[begin + 8 :])
-    return Unreached(octets[12:16] if is_4 else octets[8:24], why, udp) if why and udp else None
+    why, udp = UNREACHED[frame.kind].get((octets[0], octets[1])), udp_of(frame.kind, octets[8:])
+    return Unreached(by, why, udp) if why and udp else None

@@ -122,6 +122,23 @@ def cooked(frame: bytes, way: int = 0, interface: Optional[int] = None) -> bytes
     return frame[12:14] + bytes(2) + struct.pack(">IHBB", interface, 1, way, 6) + source + rest
 
 
+def in_ip(protocol: int, octets: bytes, source: int = 7) -> bytes:
+    """A packet of IP in a frame, from one host to another."""
+    ends = bytes([10, 9, 0, source, 10, 9, 0, 8])
+    return SWITCH + STATION + struct.pack(">HBBHHHBBH", 0x0800, 0x45, 0, 20 + len(octets), 0, 0, 64, protocol, 0) + ends + octets
+
+
+def in_tunnels(frame: bytes) -> dict[str, bytes]:
+    """A frame in a tunnel: GRE (RFC 2784) without and with a key and a number (RFC 2890), ERSPAN of the types I, II and III
+    (draft-foschiano-erspan), VXLAN (RFC 7348), an EAP packet in PPPoE (RFC 2516, RFC 3748 section 3)."""
+    gre = {"GRE": "00006558", "GRE, key and number": "300065580000000700000001", "ERSPAN I": "000088be",
+           "ERSPAN II": "100088be00000001" + "1001000000000000", "ERSPAN III": "100022eb00000001" + "2001000000000000" + "00000001" + "00" * 8}
+    vxlan = struct.pack(">HHHH", 50000, 4789, 16 + len(frame), 0) + b"\x08" + bytes(7) + frame
+    found = {name: in_ip(47, bytes.fromhex(head) + frame) for name, head in gre.items()}
+    pppoe = struct.pack(">HBBHHH", 0x8864, 0x11, 0, 1, len(frame) - 16, 0xC227) + frame[18:]
+    return {**found, "VXLAN": in_ip(17, vxlan), "GRE in IP in IP": in_ip(4, found["GRE"][14:]), "PPPoE": frame[:12] + pppoe}
+
+
 def in_air(frame: bytes, has_qos: bool = False) -> bytes:
     """A frame as monitor mode has it: a radiotap header of 8 octets, data of IEEE 802.11 to or from the access point, of a
     kind with two octets of QoS or without."""
