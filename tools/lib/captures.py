@@ -185,7 +185,7 @@ class Reading:
             return
         found = frames.radius_of(frame, ports)
         if found is None and (unreached := frames.unreached_of(frame)):
-            self.take_unreached(record.number, unreached)
+            self.add_unreached(record.number, unreached)
         elif found is None:
             self.left["of Wi-Fi that are encrypted" if frame.kind == frames.ENCRYPTED else "without EAP"] += 1
         elif interface < 0 or not self.twice.is_again((found.source[0], found.octets), record, interface):
@@ -194,7 +194,7 @@ class Reading:
             self.radius.append(record.number, not found.is_request, found.eap, record.at, found)
             self.latest.update({(found.source, found.to, it): record.number for it in (b"", found.octets[:2])})
 
-    def take_unreached(self, number: int, found: frames.Unreached) -> None:
+    def add_unreached(self, number: int, found: frames.Unreached) -> None:
         """Takes what ICMP says of a packet that was sent just before."""
         source, (to, port), octets = found.udp
         if asked := self.latest.get((source, (to, port), octets[:2])):
@@ -362,12 +362,12 @@ class Reading:
     def put_path(self, station: Capture, whole: list[Packet]) -> int:
         """Puts the packets of a login at all hops, each once; and how many these are."""
         path = paths.Path(whole)
-        text, kept = path.text, sorted((it.kept for it in path.passed), key=lambda it: it.number)
+        text, kept = path.text, sorted((it.chosen for it in path.passed), key=lambda it: it.number)
         for it in kept:
             if it.radius:
                 it.radius.path = text
             station.packets.append(it.number, it.is_to_peer, it.octets, it.at or 0.0, it.radius)
-        station.facts += [*path.facts(), *((it.kept.number, "unreached", self.unreached[number]) for it in path.passed
+        station.facts += [*path.facts(), *((it.chosen.number, "unreached", self.unreached[number]) for it in path.passed
                                            for number in {seen.number for seen in it.seen.values()} & self.unreached.keys())]
         return len(kept)
 
@@ -417,7 +417,7 @@ def starts_said(it: Capture) -> str:
             "were lost or aren't captured")
 
 
-def keys_said(it: Capture) -> str:
+def keys_note(it: Capture) -> str:
     return (f"station {it.station} exchanged keys with {it.other} ({it.keys} EAPOL-Keys) without EAP: both have a key already, as by a "
             "password of Wi-Fi (WPA-PSK) or from an earlier login, or the login is before the capture")
 
@@ -426,7 +426,7 @@ def of_pcap(octets: bytes, ports: Sequence[int] = ()) -> list[Capture]:
     """The captures of a file that have an EAP packet; of the other stations it is noted what they have."""
     found, notes, _ = of_file(io.BytesIO(octets), ports)
     notes += [starts_said(it) for it in found if it.starts and not it.packets and not it.cut]
-    notes += [keys_said(it) for it in found if it.keys and not it.packets and not it.cut]
+    notes += [keys_note(it) for it in found if it.keys and not it.packets and not it.cut]
     captures = [it for it in found if it.packets]
     if not captures:
         raise Refused("; ".join(["no frame has a whole EAP packet: by EAPOL (EtherType 888e, type 0), or in a RADIUS packet by "

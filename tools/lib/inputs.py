@@ -4,7 +4,7 @@ from __future__ import annotations
 
 import re
 import sys
-from argparse import Namespace
+from argparse import ArgumentTypeError, Namespace
 from pathlib import Path
 from typing import Optional
 
@@ -20,12 +20,12 @@ FINDINGS = re.compile(rb"(packets|records) \d+ .*findings \d+\n?\Z")
 
 
 def form_of(octets: bytes) -> str:
-    """The word of the program that reads an input, or `pcap`, `gzip`, `end`, `trace`, `findings`; nothing where it is of
+    """The word of the program that reads an input, or `pcap`, `odd`, `end`, `trace`, `findings`; nothing where it is of
     no form that is known."""
     if frames.is_file(octets):
         return "pcap"
-    if octets[:2] == b"\x1f\x8b":
-        return "gzip"
+    if refusals.odd(octets):
+        return "odd"
     front = octets.removeprefix(b"\xef\xbb\xbf").lstrip().lower()
     for header, form in HEADERS.items():
         if front.startswith(header):
@@ -41,14 +41,26 @@ def form_of(octets: bytes) -> str:
 # ---- Words.
 
 
+def port(text: str) -> int:
+    if not text.isdecimal() or not 0 < int(text) < 65536:
+        raise ArgumentTypeError(f"{text} is no port: 1 to 65535")
+    return int(text)
+
+
+def secret(text: str) -> str:
+    if not text:
+        raise ArgumentTypeError("the secret is empty")
+    return text
+
+
 def parser_of(text: Optional[str]) -> Parser:
     """The words of a tool that reads a login, with its help."""
     parser = Parser(text)
     parser.add_argument("words", metavar="WORD", nargs="*", help="[FILE] [NAME KIND HEX ..]: a file, - or nothing for "
                         "standard input; of what has no keys itself, its users as for `pcap`, or one key in hex alone")
     parser.add_argument("--users", metavar="FILE", help="takes the users from the lines `user` of a text")
-    parser.add_argument("--secret", metavar="TEXT", help="the secret of RADIUS, which judges its authenticators")
-    parser.add_argument("--port", metavar="N", type=int, action="append", help="a port of RADIUS besides 1812 and 1645")
+    parser.add_argument("--secret", metavar="TEXT", type=secret, help="the secret of RADIUS, which judges its authenticators")
+    parser.add_argument("--port", metavar="N", type=port, action="append", help="a port of RADIUS besides 1812 and 1645")
     parser.add_argument("--station", metavar="NAME", help="of several stations in a file, this one")
     return parser
 
@@ -61,8 +73,12 @@ def is_key(given: list[str]) -> bool:
 def take_file(given: list[str], parser: Parser) -> tuple[str, list[str]]:
     """The name of the file, `-` where none is given, and the other words."""
     if given and (given[0] == "-" or Path(given[0]).exists()):
+        if len(given) % 3 == 2 and Path(given[1]).is_file():
+            parser.error(f"{given[1]} is a second file, and one is read")
         return given[0], given[1:]
     if len(given) == 1 and not is_key(given):
+        if re.fullmatch("([0-9a-fA-F]{2}){4,}", given[0]):
+            parser.error(f"{given[0]} is no file, and packets in hex come from standard input: `echo HEX | ..`")
         return given[0], []
     if late := next((it for it in given if Path(it).is_file()), ""):
         parser.error(f"{late} is a file, and stands first: FILE NAME KIND HEX")
@@ -115,7 +131,7 @@ def captures_of(octets: bytes, given: Namespace, rest: list[str]) -> list[Captur
         found = [captures.of_capture(octets)]
     else:
         found = [captures.of_packets(octets)]
-    stations = ", ".join(it.station for it in found)
+    stations = ", ".join(it.station or "one without a name" for it in found)
     found = [it for it in found if named(it, given.station or "")]
     if not found:
         raise Refused(f"there is no station {given.station}; there are {stations}")
@@ -142,9 +158,7 @@ def ladders_of(octets: bytes, given: Namespace, rest: list[str]) -> list[ladder.
         return [ladder.of_a_replay(readers[form](octets))]
     if form in ("pcap", "check", "decode"):
         return [ladder.of_a_capture(it) for it in captures_of(octets, given, rest)]
-    if form == "gzip":
-        raise Refused("it is packed by gzip: `gzip -dc FILE | ..`")
-    raise Refused("it is no pcap file, capture, scenario, trace or text of `peer` or `server`"
+    raise Refused(refusals.odd(octets) or "it is no pcap file, capture, scenario, trace or text of `peer` or `server`"
                   + (f": it is {refusals.named(form)}" if form else ": its first line is none's"))
 
 

@@ -35,13 +35,13 @@ class Passed:
     seen: dict[int, Packet]
 
     @property
-    def kept(self) -> Packet:
+    def chosen(self) -> Packet:
         """As the RADIUS client, the access point, has it, where it is in a RADIUS packet."""
         return self.seen[min((it for it in self.seen if it), default=0)]
 
-    def takes(self, rank: int, it: Packet) -> bool:
+    def accepts(self, rank: int, it: Packet) -> bool:
         """Whether a packet with these octets can be this one, behind or before the hops at which it was seen."""
-        after = (it.at or 0.0) - (self.kept.at or 0.0)
+        after = (it.at or 0.0) - (self.chosen.at or 0.0)
         is_next = rank < min(self.seen) if self.is_to_peer else rank > max(self.seen)
         return rank not in self.seen and after < (PASSES if is_next else EARLY)
 
@@ -71,7 +71,7 @@ class Path:
         rank, octets = self.rank(it), it.octets or (it.radius.octets[:1] if it.radius else b"")
         # (an access point makes a Failure of a Reject without EAP)
         keys = [octets, *[b"\3"] * (octets[:1] == b"\4" and not it.radius)]
-        found = next((its for key in keys for its in self.alike.get((key, it.is_to_peer), [])[::-1] if its.takes(rank, it)), None)
+        found = next((its for key in keys for its in self.alike.get((key, it.is_to_peer), [])[::-1] if its.accepts(rank, it)), None)
         if found:
             found.seen[rank] = it
         else:
@@ -104,7 +104,7 @@ class Path:
         for it, then in zip(self.passed, [*self.passed[1:], None]):
             key = (it.octets, it.is_to_peer)
             ranks = {rank for its in self.alike.get(key, [it]) for rank in its.seen}
-            low, high, number = min(ranks), max(ranks), it.kept.number
+            low, high, number = min(ranks), max(ranks), it.chosen.number
             if key in told or told.add(key) or self.is_answered(it, then, low if it.is_to_peer else high):
                 continue
             if not it.is_to_peer and high in paired:

@@ -11,7 +11,7 @@ from lib import frames, words
 from lib.texts import shown
 from lib.words import FAULTS, METHODS, PCAP_FAULTS, TEXTS, Field
 
-PACKED = {"\xfd7zXZ": "xz", "(\xb5/\xfd": "zstd", "BZh": "bzip2", "\x04\"M\x18": "lz4"}
+PACKED = {b"\x1f\x8b": "gzip -dc", b"\xfd7zXZ": "xz -dc", b"(\xb5/\xfd": "zstd -dc", b"BZh": "bzip2 -dc", b"\4\"M\x18": "lz4 -dc", b"PK\3\4": "unzip -p"}
 NUMBER = re.compile("0|[1-9][0-9]*")
 HEX = re.compile("[0-9a-fA-F]*")
 PASSPHRASE = "of a passphrase whose octets are the key, `printf %s PASS | xxd -p -c 64` writes the hex"
@@ -175,8 +175,8 @@ class Refusal:
         """What the whole input is, where it is of another form."""
         if frames.is_file(self.octets):
             return "it is a file of captured frames: `tools/why FILE NAME KIND HEX ..` reads it, and `eap_login pcap` most of them"
-        if self.octets[:2] == b"\x1f\x8b":
-            return f"it is packed by gzip: `gzip -dc FILE | ./eap_login {self.form}`"
+        if is_odd := odd(self.octets):
+            return is_odd
         first = self.lines[0].strip() if self.lines else ""
         for form, text in TEXTS.items():
             if first in text.headers and first not in self.text.headers:
@@ -208,12 +208,6 @@ class Refusal:
             return "a mark of UTF-8 (ef bb bf) stands before it: `tail -c +4 FILE` leaves it out"
         if first.strip() in self.text.headers:
             return f"a space or another sign stands beside it: line 1 is just {wanted}"
-        if packed := next((name for magic, name in PACKED.items() if first.startswith(magic)), ""):
-            return f"it is packed: `{packed} -dc FILE | ..`"
-        if first[:2] in ("\xff\xfe", "\xfe\xff") or any(first[it:8:2] == "\0" * 4 for it in (0, 1)):
-            return "it has octets 00, as text in UTF-16 has: `iconv -f UTF-16 -t ASCII FILE` makes plain text of it"
-        if "\0" in first:
-            return "it has octets 00, so it is no text, nor a file of pcap, pcapng or snoop: `editcap -F pcap IN OUT` may make one of it"
         return "nothing stands before the header: " * (first == "" or first.startswith("#")) + f"line 1 is {wanted}"
 
     def word(self) -> str:
@@ -296,6 +290,19 @@ class Refusal:
         return list(filter(None, (f"line {self.number}: {where}", self.specific(), self.allowed(), rule)))
 
 
+def odd(octets: bytes) -> str:
+    """What octets are that are neither a text nor a file of frames."""
+    front = octets[:8]
+    if packed := next((command for magic, command in PACKED.items() if octets.startswith(magic)), ""):
+        return f"it is packed: `{packed} FILE | ..`"
+    if front[:2] in (b"\xff\xfe", b"\xfe\xff") or any(front[it::2] == bytes(4) and all(front[1 - it :: 2]) for it in (0, 1)):
+        return "it has octets 00, as text in UTF-16 has: `iconv -f UTF-16 -t ASCII FILE` makes plain text of it"
+    if re.match(rb"[0-9a-fA-F]{4,}[: ] ?([0-9a-fA-F]{2,4} ){4}", octets):
+        return "it is a hex dump: `text2pcap -F pcap IN OUT` makes a file of it"
+    is_text = frames.is_file(octets) or b"\0" not in octets.partition(b"\n")[0]
+    return "" if is_text else "it has octets 00, so it is no text, nor a file of pcap, pcapng or snoop: `editcap -F pcap IN OUT` may make one of it"
+
+
 # ---- A file of frames.
 
 
@@ -313,9 +320,7 @@ def file_help(octets: bytes, fault: str) -> str:
             return f"it is a pcapng file: {plain}; `editcap -F pcap IN OUT` does too"
         if magic in frames.MAGICS:
             return f"its times are in nanoseconds: {plain}; `editcap -F pcap IN OUT` does too"
-        if magic.startswith("1f8b"):
-            return "it is packed by gzip: `gzip -dc FILE | ./eap_login pcap NAME KIND HEX ..`"
-        return file_of_text(octets)
+        return odd(octets) or file_of_text(octets)
     if fault == "BadLink" and len(octets) >= 24:
         link = int.from_bytes(octets[20:24], "big" if magic.startswith("a1") else "little")
         if link in (frames.COOKED, frames.COOKED_2):
@@ -333,8 +338,6 @@ def file_of_text(octets: bytes) -> str:
     for form, text in TEXTS.items():
         if first in text.headers:
             return f"it is {text.named}: `eap_login {form}` reads it"
-    if re.fullmatch("[0-9a-fA-F]{4,}[: ] ?([0-9a-fA-F]{2,4} ?)+.*", first):
-        return "it is a hex dump: `text2pcap -F pcap IN OUT` makes a file of it"
     return "it isn't what `tcpdump -w` writes"
 
 

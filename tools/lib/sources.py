@@ -358,7 +358,7 @@ class Repository:
         files = sorted({it.file for it in found})
         if not found:
             names = [it for _, it in self.of] if crate not in self.crates else [f"{crate}::{it}" for its, it in self.of if its == crate]
-            near = [f"; is {it} meant?" for it in difflib.get_close_matches(name, names, 1)]
+            near = [f"; is {it} meant?" for it in difflib.get_close_matches(name, [*names, *self.crates], 1)]
             raise Refused(f"there is no definition, type or contract {name}{''.join(near)}")
         if len({it.crate for it in found}) > 1:
             raise Refused(f"{name} stands in several crates ({', '.join(files)}): CRATE::NAME says which")
