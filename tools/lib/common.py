@@ -102,7 +102,7 @@ def answer(words: Sequence[str], octets: bytes) -> tuple[int, list[str]]:
     return answer_of(os.environ.get("EAP_LOGIN") or str(ROOT / "eap_login"), tuple(words), octets)
 
 
-@functools.lru_cache(maxsize=None)
+@functools.lru_cache(maxsize=1024)
 def answer_of(program: str, words: tuple[str, ...], octets: bytes) -> tuple[int, list[str]]:
     """The same, which is asked once."""
     status, written = run(words, octets, program)

@@ -26,7 +26,7 @@ def filter_of(interface: str, ports: Sequence[int]) -> str:
     """What tcpdump is to capture. (`vlan` stands last, since it moves what is behind it; a cooked link has none.)"""
     radius = [f"udp port {it}" for it in (*frames.RADIUS_PORTS, *ports)]
     vlan = [] if interface == "any" else ["(vlan and ether proto 0x888e)"]
-    icmp = ["icmp[icmptype] == icmp-unreach", "icmp6[icmp6type] == icmp6-destinationunreach"]
+    icmp = ["icmp[0] == 3", "(icmp6 and ip6[40] == 1)"]
     return " or ".join(["ether proto 0x888e", *radius, *icmp, *vlan])
 
 
@@ -38,7 +38,7 @@ def records_of(interface: str, ports: Sequence[int]) -> Iterator[Optional[frames
         begun = subprocess.Popen(words, stdout=subprocess.PIPE, stderr=subprocess.PIPE, env={**os.environ, "PATH": PATH})
     except OSError as fault:
         raise Refused(f"tcpdump can't be run: {fault.strerror}: install it, or give a file that was captured elsewhere")
-    found: queue.Queue[Optional[frames.Record]] = queue.Queue()
+    found: queue.Queue[Optional[frames.Record]] = queue.Queue(MOST_RECORDS)
     said: list[str] = []
     reader = threading.Thread(target=read, args=(begun, found, said), daemon=True)
     reader.start()
@@ -84,8 +84,8 @@ def is_over(it: Capture, last: float, now: float) -> bool:
     return now - last > (END_SECONDS if end in (b"\3", b"\4") else SILENT_SECONDS)
 
 
-def logins(interface: str, ports: Sequence[int]) -> Iterator[Capture]:
-    """What each station did, when it is over, until the capturing ends; at the last also what isn't."""
+def logins(interface: str, ports: Sequence[int]) -> Iterator[list[Capture]]:
+    """What stations did, when it is over, until the capturing ends; at the last also what isn't."""
     kept: list[frames.Record] = []
     count, due = 0, 0.0
     print(f"why: capturing at {interface} by tcpdump, and waiting for a login over EAPOL or RADIUS; Ctrl-C ends it", file=sys.stderr,
@@ -101,12 +101,13 @@ def logins(interface: str, ports: Sequence[int]) -> Iterator[Capture]:
         kept = [it for it in kept[-MOST_RECORDS:] if kept[-1].at - it.at < MOST_SECONDS]
         times = {it.number: it.at for it in kept}
         found = captures.of_records(kept, ports)[0] if kept else []
+        # (where frames wait to be read, it is as late as they say)
+        over = [it for it in found if is_over(it, max(times[at] for at in it.numbers), record.at if record else begun)]
+        if over:
+            gone = found[0].again.union(*(it.numbers for it in over))
+            kept = [it for it in kept if it.number not in gone]
+            for it in over:
+                it.until = begun
+            yield over
         due = time.time() + max(TICK_SECONDS, time.time() - begun)
-        for it in found:
-            # (where frames wait to be read, it is as late as they say)
-            if is_over(it, max(times[number] for number in it.numbers), record.at if record else time.time()):
-                gone = {*it.numbers, *found[0].again}
-                kept = [its for its in kept if its.number not in gone]
-                it.until = time.time()
-                yield it
-    yield from captures.of_records(kept, ports)[0] if kept else []
+    yield captures.of_records(kept, ports)[0] if kept else []
