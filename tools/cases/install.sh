@@ -88,7 +88,7 @@ TEXT
 # The tools in Python by their command, without the repository: each word is answered by --help with status 0, the bad ones
 # aren't; they call the program beside them, and each other by the names that they have there.
 command=$there/bin/tuvaddri
-words='why page chart capture-of by-station'
+words='why page chart capture-of by-station decode-fields keys-of'
 # (compiled once, and not by each call)
 python3 -m compileall -q "$there/share/tuvaddri/tools/lib"
 for it in '' $words; do
@@ -102,7 +102,7 @@ for it in '' nothing lib ../tools/why --other; do
     "$command" $it >"$work/out" 2>"$work/said" || ended=$?
     holds "tuvaddri $it ends with $ended" [ "$ended $(wc -l <"$work/said") $(wc -c <"$work/out")" = '1 1 0' ]
 done
-holds "what is installed names a tool of the repository" [ -z "$(grep -rlE '(^|[^/a-z])tools/(why|page|chart|capture-of|by-station)|\./eap_login' "$there/share/tuvaddri/tools")" ]
+holds "what is installed names a tool of the repository" [ -z "$(grep -rlE '(^|[^/a-z])tools/(why|page|chart|capture-of|by-station|decode-fields|keys-of)|\./eap_login' "$there/share/tuvaddri/tools")" ]
 (cd "$work" && env -u EAP_LOGIN "$command" why "$OLDPWD/examples/login.pcap") >"$work/out" 2>"$work/errors" || fail "tuvaddri why fails: $(head -n 1 "$work/errors")"
 tools/why examples/login.pcap 2>/dev/null | sed "s#tools/why#tuvaddri why#g; s#\\./eap_login#$name#g" >"$work/wanted"
 cp "$work/out" "$work/said"
@@ -160,7 +160,7 @@ refuses "$work has no rlm_eap_gpsk.so; c/freeradius/build builds it" tools/insta
 
 # The stand-in's program is proved: it is installed by its own name, below DESTDIR, with the library, which another
 # program finds by pkg-config. When a source has changed it isn't proved, and is refused, with nothing put in place.
-cp -R --parents tools/install tools/why tools/page tools/chart tools/capture-of tools/by-station tools/lib share docs/*.md \
+cp -R --parents tools/install tools/why tools/page tools/chart tools/capture-of tools/by-station tools/decode-fields tools/keys-of tools/lib share docs/*.md \
     examples/keys.txt c/python c/rust c/examples c/hostapd/README.md c/hostapd/*.c \
     c/README.md c/NOTICE c/spdx.json c/numbers.txt c/*.h c/*.c "$copy"
 mkdir -p "$copy/c/out"
@@ -228,6 +228,22 @@ fi
 for it in lib/python3/dist-packages/tuvaddri/__init__.py share/tuvaddri/rust/src/lib.rs; do
     holds "install of $it" [ -s "$work/with/$it" ]
 done
+# A library whose proofs weren't checked is in packages of names of their own, which stand in for the others.
+if has dpkg-deb "install --deb" dpkg-deb; then
+    mkdir -p "$copy/c/out/unchecked" "$work/of-library"
+    mv "$copy"/c/out/libtuvaddri.* "$copy/c/out/unchecked"
+    # (the stand-in's program is a script)
+    mkdir "$work/stubs"
+    ln -s /bin/true "$work/stubs/strip"
+    PATH=$work/stubs:$PATH
+    DPKG_DEB_COMPRESSOR_LEVEL=1 in_copy tools/install --unchecked --deb "$work/of-library"
+    for it in "libtuvaddri$number" libtuvaddri-dev; do
+        made=$(echo "$work/of-library/$it-unchecked"_0.*_amd64.deb)
+        holds "the package $it-unchecked stands in for the proved one" [ "$(dpkg-deb -f "$made" Package Conflicts | tr '\n' ' ')" = "Package: $it-unchecked Conflicts: $it " ]
+        holds "the package $it-unchecked says what it is" sh -c "dpkg-deb -f '$made' Description | tr -d '\n' | grep -q 'were not *checked'"
+        holds "no package has the name $it" [ "$(echo "$work/of-library/$it"_*)" = "$work/of-library/${it}_*" ]
+    done
+fi
 echo >>"$copy/crates/octet_lists/src/lib.rt"
 in_copy tools/install --prefix "$work/not-proved"
 holds "install takes a program that isn't proved" [ "$ended $(test -e "$work/not-proved" && echo there)" = '2 ' ]
