@@ -100,12 +100,11 @@ class Path:
     def facts(self) -> Iterator[Fact]:
         """Which packets weren't passed on, or begin on the way, between hops both of which have one."""
         paired = {rank for it in self.passed for rank in it.seen if rank + 1 in it.seen}
-        told = set[tuple[bytes, bool]]()
         for it, then in zip(self.passed, [*self.passed[1:], None]):
-            key = (it.octets, it.is_to_peer)
-            ranks = {rank for its in self.alike.get(key, [it]) for rank in its.seen}
+            alike = self.alike[it.octets, it.is_to_peer]
+            ranks = {rank for its in alike for rank in its.seen}
             low, high, number = min(ranks), max(ranks), it.chosen.number
-            if key in told or told.add(key) or self.is_answered(it, then, low if it.is_to_peer else high):
+            if alike[0] is not it or self.is_answered(it, then, low if it.is_to_peer else high):
                 continue
             if not it.is_to_peer and high in paired:
                 yield number, "not-passed", (self.who(high), self.server(high + 1))
