@@ -75,8 +75,8 @@ class Capture:
     access point, and what was left out of a file. Of frames without a whole EAP packet: those that are cut, by number, octets kept and octets
     on the wire, how many EAPOL-Keys, the EAPOL-Starts and the EAPOL-Logoffs, by number and time, and how many other ones of several stations can be
     of this one; the numbers of all frames, with the file's first capture those that came at another interface again, and the
-    time of its last. Over RADIUS `parts` has the places of the packets of each login, and `facts` what is certain of a packet by the
-    others around it, by its number: a choice and its words."""
+    time of its last. Over RADIUS `parts` has the places of the packets of each login, and `facts` what is certain of a packet by
+    the others around it, by its number: a choice and its words."""
 
     packets: Packets
     users: list[User] = field(default_factory=list)
@@ -321,8 +321,8 @@ class Reading:
         return pairs, alone
 
     def by_radius(self, stations: Sequence[Capture]) -> list[Capture]:
-        """The captures of RADIUS packets that carry EAP, one for each station, with the packets of each login; those of a station over
-        EAPOL are put into its capture."""
+        """The captures of RADIUS packets that carry EAP, one for each station, with the packets of each login; those of a station
+        over EAPOL are put into its capture."""
         found: dict[str, Capture] = {}
         owners = sessions.Owners(stations)
         joined: dict[int, tuple[Capture, list[Packet]]] = {}
@@ -385,8 +385,8 @@ Parted = tuple[list[Capture], list[str], str]
 
 
 def of_records(records: Iterable[frames.Record], ports: Sequence[int] = (), is_joined: bool = True) -> Parted:
-    """The captures of records, one for each station, also where it is seen over EAPOL and in RADIUS packets, if these are to be joined;
-    what is left out, which is noted with the first too; and why these weren't read to their end, if so."""
+    """The captures of records, one for each station, also where it is seen over EAPOL and in RADIUS packets, if these are to be
+    joined; what is left out, which is noted with the first too; and why these weren't read to their end, if so."""
     reading, reason, until = Reading(), "", None
     try:
         for record in records:
@@ -418,8 +418,8 @@ def starts_said(it: Capture) -> str:
 
 
 def keys_note(it: Capture) -> str:
-    return (f"station {it.station} exchanged keys with {it.other} ({it.keys} EAPOL-Keys) without EAP: both have a key already, as by a "
-            "password of Wi-Fi (WPA-PSK) or from an earlier login, or the login is before the capture")
+    return (f"station {it.station} exchanged keys with {it.other} ({it.keys} EAPOL-Keys) without EAP: both have a key already, as by "
+            "a password of Wi-Fi (WPA-PSK) or from an earlier login, or the login is before the capture")
 
 
 def of_pcap(octets: bytes, ports: Sequence[int] = ()) -> list[Capture]:

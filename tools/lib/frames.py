@@ -93,8 +93,8 @@ def of_file(file: BinaryIO) -> tuple[str, Iterator[Record]]:
 
 def is_read(link: int) -> None:
     if link not in (ETHERNET, COOKED, COOKED_2, WIFI, RADIOTAP, *IP_LINKS):
-        raise Refused(f"it was captured on a link of the type {link}, and these are read: Ethernet (1), cooked links (113, 276), IP "
-                      "(0, 101, 108) and Wi-Fi (105, 127): capture at the interface of the station or of the access point")
+        raise Refused(f"it was captured on a link of the type {link}, and these are read: Ethernet (1), cooked links (113, 276), "
+                      "IP (0, 101, 108) and Wi-Fi (105, 127): capture at the interface of the station or of the access point")
 
 
 def taken(file: BinaryIO, size: int, number: int) -> bytes:

@@ -93,7 +93,8 @@ Way = tuple[World, list[Token]]
 @dataclass
 class Tap:
     """What the place of capturing hides: whether a direction isn't captured, the numbers of the frames that are cut, whether
-    frames are left out; whether frames have times; the numbers of those that no packet of the server brought; and the frames around."""
+    frames are left out; whether frames have times; the numbers of those that no packet of the server brought; and the frames
+    around."""
 
     hides_server: bool = False
     hides_peer: bool = False

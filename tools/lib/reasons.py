@@ -154,7 +154,8 @@ def of_broken(replay: Replay, rows: Sequence[Row]) -> Iterator[Reason]:
         row = next((it for it in rows if it.event == replay.end["tags broken"]), None)
         user = row.reading.user if row and row.reading.message in SECOND else ""
         is_other = user != replay.setting("peer-name") and replay.setting("user", user, row.reading.kind if row else "")
-        yield Reason(row, said("of another user" if is_other else "broken", party=party_name(row.receiver) if row else "an end", user=user))
+        party = party_name(row.receiver) if row else "an end"
+        yield Reason(row, said("of another user" if is_other else "broken", party=party, user=user))
 
 
 def of_nonces(replay: Replay, rows: Sequence[Row]) -> Iterator[Reason]:

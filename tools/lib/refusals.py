@@ -11,7 +11,8 @@ from lib import frames, words
 from lib.texts import shown
 from lib.words import FAULTS, METHODS, PCAP_FAULTS, TEXTS, Field
 
-PACKED = {b"\x1f\x8b": "gzip -dc", b"\xfd7zXZ": "xz -dc", b"(\xb5/\xfd": "zstd -dc", b"BZh": "bzip2 -dc", b"\4\"M\x18": "lz4 -dc", b"PK\3\4": "unzip -p"}
+PACKED = {b"\x1f\x8b": "gzip -dc", b"\xfd7zXZ": "xz -dc", b"(\xb5/\xfd": "zstd -dc", b"BZh": "bzip2 -dc", b"\4\"M\x18": "lz4 -dc",
+          b"PK\3\4": "unzip -p"}
 NUMBER = re.compile("0|[1-9][0-9]*")
 HEX = re.compile("[0-9a-fA-F]*")
 PASSPHRASE = "of a passphrase whose octets are the key, `printf %s PASS | xxd -p -c 64` writes the hex"
@@ -299,8 +300,9 @@ def odd(octets: bytes) -> str:
         return "it has octets 00, as text in UTF-16 has: `iconv -f UTF-16 -t ASCII FILE` makes plain text of it"
     if re.match(rb"[0-9a-fA-F]{4,}[: ] ?([0-9a-fA-F]{2,4} ){4}", octets):
         return "it is a hex dump: `text2pcap -F pcap IN OUT` makes a file of it"
-    is_text = frames.is_file(octets) or b"\0" not in octets.partition(b"\n")[0]
-    return "" if is_text else "it has octets 00, so it is no text, nor a file of pcap, pcapng or snoop: `editcap -F pcap IN OUT` may make one of it"
+    if frames.is_file(octets) or b"\0" not in octets.partition(b"\n")[0]:
+        return ""
+    return "it has octets 00, so it is no text, nor a file of pcap, pcapng or snoop: `editcap -F pcap IN OUT` may make one of it"
 
 
 # ---- A file of frames.
