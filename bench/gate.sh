@@ -39,9 +39,16 @@ git clone -q "$here" "$work/repository"
 # rt ci runs the checker once for each crate, once for its tests and, in a folder of its own each time, for each
 # must-fail edit. A checker forks further processes, and a parent's count takes in the children that have ended.
 log=$work/log
-python3 - "$work/repository" "$log" <<'END'
+python3 -B - "$work/repository" "$log" <<'END'
 import collections, glob, os, re, resource, subprocess, sys, time
 
+sys.path.append(sys.argv[1] + "/tools")
+from lib.common import Refused, need_rt_by_crate
+
+try:
+    need_rt_by_crate()
+except Refused as why:
+    sys.exit(f"bench/gate.sh: {why}")
 TICK = os.sysconf("SC_CLK_TCK")
 
 

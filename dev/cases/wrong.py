@@ -34,6 +34,10 @@ def case_tries(run: Run) -> Iterator[Optional[str]]:
                 status, out, errors = run(words.split(), root=small.root)
             return holds(status == wanted and line in (out + errors).splitlines(), f"{words} ends with {status}: {out}{errors}")
 
+        yield tells(2, "wrong small", "wrong: this kit has no `rt ci NAME`, as that of README has: run `rt verdict` and `rt must-fail` in the crate's folder",
+                    HELP="usage: rt new FOLDER")
+        table = "wrong/refused.txt"
+        yield holds((small.root / table).read_text() == small.texts[table], "wrong writes of what it can't try")
         yield tells(0, "wrong small", "dev/wrong: small: 1 of 1 refused")
         yield tells(1, "wrong status", "edits refused on today's sources: 1 passed, 1 failed")
         yield tells(0, "wrong", "wrong: 2 passed, 0 failed")

@@ -5,6 +5,7 @@ from __future__ import annotations
 import argparse
 import functools
 import os
+import shutil
 import subprocess
 import sys
 import tempfile
@@ -19,6 +20,15 @@ Value = TypeVar("Value")
 
 class Refused(Exception):
     """Why a tool can't go on, in a line."""
+
+
+def need_rt_by_crate() -> None:
+    """Refuses where rt isn't there, or is of a kit that proves no crate by its name."""
+    if not shutil.which("rt"):
+        raise Refused("the toolchain's command rt isn't there")
+    said = subprocess.run(["rt", "help"], stdin=subprocess.DEVNULL, capture_output=True, text=True, check=False)
+    if "rt ci NAME" not in said.stdout + said.stderr:
+        raise Refused("this kit has no `rt ci NAME`, as that of README has: run `rt verdict` and `rt must-fail` in the crate's folder")
 
 
 class Parser(argparse.ArgumentParser):
