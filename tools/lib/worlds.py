@@ -219,7 +219,7 @@ def grouped(worlds: dict[frozenset[Token], int]) -> tuple[list[Token], list[list
             costs[mine] = min(cost, costs.get(mine, cost))
         ordered = sorted(costs, key=lambda it: (costs[it], len(it), sorted(it)))
         # (what says the same as another and more besides says no more of what may be)
-        ordered = [it for it in ordered if not ordered[0] or not any(its < it for its in ordered)]
+        ordered = [it for it in ordered if not ordered[0] or not any(its and its < it for its in ordered)]
         parted.append([sorted(it, key=lambda t: t.place) for it in ordered])
     return sorted(best.difference(*groups), key=lambda t: t.place), parted
 
