@@ -179,7 +179,7 @@ def paths() -> Iterator[tuple[str, list[Item], str]]:
     yield "a RADIUS server that isn't there", [*at_both(GOOD.whole[:2]), unreached(asked, 3), again, asked, unreached(asked, 3)], "no port, both, radius down"
     yield "a server's host that isn't there", [asked, unreached(asked, 1), again, asked], "no host, radius down"
     yield "a Reject without EAP, and a Failure for it", [*at_both(GOOD.whole[:2]), wire.radius(3, 1, b""), eap(4, 1)], "rejected, both"
-    yield "a Failure of the access point", [*at_both(GOOD.whole[:3]), eap(4, 2)], "by itself, both, no gpsk2, ended"
+    yield "a Failure of the access point", [*at_both(GOOD.whole[:3]), eap(4, 2)], "by itself, both, no gpsk2"
     hops = [(head, ip[:12] + ends + ip[20:]) for it in wire.by_radius(GOOD.whole[1:3]) for head, ip in [it] for ends in passed(ip[15])]
     yield "an answer that a proxy keeps", [*hops[:3], again, *hops[:3]], "kept by proxy, client again, proxy"
 
