@@ -1,0 +1,2 @@
+-- Octets for which a server sends nothing change nothing.
+pub mod Silent
