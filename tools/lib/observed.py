@@ -180,7 +180,7 @@ class Judge:
         return found
 
     def ask(self, places: list[tuple[Frame, range]], users: list[User]) -> dict[int, str]:
-        said = findings_of(asked := self.asked.of(part for _, part in places), users) if places else []
+        said = findings_of(self.asked.of(part for _, part in places), users) if places else []
         found, end = dict[int, str](), 0
         for it, part in places:
             end += len(part)
