@@ -195,6 +195,19 @@ def whole_commands(lines: List[str]) -> Iterator[Tuple[str, str]]:
             yield command.strip(), comment.strip()
 
 
+def commands_of_tables(prose: Lines) -> Iterator[Block]:
+    """What stands in code in a column `You run`, each as a block."""
+    at = None
+    for number, line in prose:
+        cells = line.split(" | ")
+        if "You run" in cells:
+            at = cells.index("You run")
+        elif not line.startswith("|"):
+            at = None
+        elif at is not None:
+            yield from ((number, "sh", [it]) for it in re.findall("`([^`]*)`", cells[at]))
+
+
 def run(command: str, folder: str, seconds: int = SECONDS) -> Tuple[object, str, str]:
     """What a command ends with, its output and its errors; one that takes too long is ended with all that it started."""
     names = {**os.environ, "CLAIMS": "run"}
@@ -255,6 +268,7 @@ def check_pages(check: Tally, with_commands: bool) -> None:
     blocks, tree = {}, Tree()
     for page in sorted(file for it in ("*.md", "docs/*.md", "*/README.md", "*/*/README.md") for file in ROOT.glob(it)):
         prose, blocks[page] = parts_in(page.read_text())
+        blocks[page] += commands_of_tables(prose)
         check_links(check, page, prose)
         check_names(check, tree, page, prose)
     if with_commands:
