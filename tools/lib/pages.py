@@ -205,7 +205,7 @@ def commands_of_tables(prose: Lines) -> Iterator[Block]:
         elif not line.startswith("|"):
             at = None
         elif at is not None:
-            yield from ((number, "sh", [it]) for it in re.findall("`([^`]*)`", cells[at]))
+            yield from ((number, "sh", [it]) for it in re.findall("`([^`]*)`", "".join(cells[at : at + 1])))
 
 
 def run(command: str, folder: str, seconds: int = SECONDS) -> Tuple[object, str, str]:
