@@ -6,6 +6,7 @@ import textwrap
 from html import escape
 from pathlib import Path
 
+from lib import stories
 from lib.ladder import Ladder, Row
 from lib.reasons import TABLES, party_name
 
@@ -35,13 +36,17 @@ class Chart:
             found.append(("cause" if row.word in ("tag-bad", "malformed") else "state", row.finding))
         return found + [("key", f"keys: msk {msk} emsk {emsk}") for its, msk, emsk in row.keys if its == party]
 
-    def verdict(self) -> str:
-        """The last lines of a trace that judge it, or the last of `check`."""
+    def verdict(self) -> tuple[str, str]:
+        """The last lines of a trace that judge it, or of a capture the verdict of each login; before it whether that is good."""
         if self.ladder.replay is None:
-            return self.ladder.counted
+            found = list(stories.of_ladder(self.ladder))
+            kinds = {it.kind for it in found}
+            return next((it for it in ("bad", "open", "good") if it in kinds), "open"), "; ".join(dict.fromkeys(it.verdict for it in found))
         end = self.ladder.replay.end
         names = ("fresh", "tags broken" if "tags broken" in end else "tags", "result")
-        return ", ".join(f"{name} {end[name]}" for name in names if name in end)
+        said = ", ".join(f"{name} {end[name]}" for name in names if name in end)
+        is_odd, result = "broken" in said or "fresh no" in said, end.get("result", "")
+        return "bad" if is_odd else TABLES["results"][result][0] if result else "open", said
 
     def span(self, row: Row) -> tuple[int, int]:
         """The places of the parties from which and to which a row goes."""
@@ -107,7 +112,7 @@ class Text(Chart):
             self.row(row)
         if finals := self.ladder.finals:
             self.put([self.beside(at, finals.get(it, "")) for at, it in enumerate(self.parties)])
-        return "\n".join([*self.lines, "", self.verdict(), ""])
+        return "\n".join([*self.lines, "", self.verdict()[1], ""])
 
 
 class Svg(Chart):
@@ -194,10 +199,8 @@ class Svg(Chart):
             kind = "good" if state.startswith("SUCCESS") else "bad" if "FAILURE" in state else "open"
             self.pill(self.places[self.parties.index(party)], state, kind)
         self.y += 38
-        verdict = self.verdict()
-        result = self.ladder.replay.end.get("result", "") if self.ladder.replay else ""
-        is_odd = "broken" in verdict or "fresh no" in verdict
-        self.pill(self.width / 2, verdict, "bad" if is_odd else TABLES["results"][result][0] if result else "open")
+        kind, said = self.verdict()
+        self.pill(self.width / 2, said, kind)
         return "\n".join([self.head(self.y + 24), *lives, *self.body, "</svg>", ""])
 
     def head(self, height: int) -> str:

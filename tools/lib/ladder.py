@@ -67,7 +67,6 @@ class Ladder:
     rows: list[Row]
     capture: Capture
     replay: Optional[Replay] = None
-    counted: str = ""
 
     @property
     def comments(self) -> list[str]:
@@ -170,5 +169,4 @@ def of_a_capture(capture: Capture) -> Ladder:
     for _, _, its in observed.conversations([capture]):
         found.update((it.number, it.finding) for it in its)
     rows = [row_of_packet(it, found.get(it.number, "good")) for it in capture.packets]
-    odd = sum(it.word in ("tag-bad", "malformed") for it in rows)
-    return Ladder(["peer", "server"], rows, capture, counted=f"packets {len(rows)} findings {odd}")
+    return Ladder(["peer", "server"], rows, capture)
