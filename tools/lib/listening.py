@@ -17,7 +17,7 @@ from lib.common import Refused
 
 PATH = os.environ.get("PATH", os.defpath) + ":/usr/local/sbin:/usr/sbin:/sbin"
 # A login is over so many seconds after its Success or Failure, or after a packet that nobody answers.
-TICK_SECONDS, END_SECONDS, SILENT_SECONDS = 0.2, 0.5, 12.0
+TICK_SECONDS, END_SECONDS, SILENT_SECONDS = 0.2, 0.3, 12.0
 # (what belongs to no station is kept no longer, and no more)
 MOST_SECONDS, MOST_RECORDS = 600.0, 50000
 
@@ -73,10 +73,12 @@ def read(begun: subprocess.Popen[bytes], found: queue.Queue[Optional[frames.Reco
 
 
 def is_of_login(record: frames.Record, ports: Sequence[int]) -> bool:
-    """Whether a frame has EAPOL, EAP or a refusal in a RADIUS packet, or what ICMP says of a packet."""
+    """Whether a frame has EAPOL other than keys, EAP or a refusal in a RADIUS packet, or what ICMP says of a packet."""
     frame = frames.of_record(record)
-    found = frames.radius_of(frame, ports) if frame.kind != frames.EAPOL else None
-    return frame.kind == frames.EAPOL or bool(found and (found.eap or found.octets[0] == 3) or frames.unreached_of(frame))
+    if frame.kind == frames.EAPOL:
+        return frame.payload[1:2] != bytes([frames.KEY])
+    found = frames.radius_of(frame, ports)
+    return bool(found and (found.eap or found.octets[0] == 3) or frames.unreached_of(frame))
 
 
 def is_over(it: Capture, last: float, now: float) -> bool:
@@ -94,7 +96,7 @@ def logins(interface: str, ports: Sequence[int]) -> Iterator[list[Capture]]:
         if record is not None and is_of_login(record, ports):
             count += 1
             kept.append(record._replace(number=count))
-        # (looked at each moment, also where frames come without a pause, and for half of the time at most)
+        # (looked at each moment, also where frames come without a pause; what came meanwhile is read before the next look)
         begun = time.time()
         if begun < due:
             continue
@@ -109,5 +111,5 @@ def logins(interface: str, ports: Sequence[int]) -> Iterator[list[Capture]]:
             for it in over:
                 it.until = begun
             yield over
-        due = time.time() + max(TICK_SECONDS, time.time() - begun)
+        due = time.time() + TICK_SECONDS
     yield captures.of_records(kept, ports)[0] if kept else []
