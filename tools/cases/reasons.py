@@ -9,14 +9,15 @@ import re
 import struct
 import tempfile
 from pathlib import Path
-from typing import Iterator, Optional
+from typing import Callable, Iterable, Iterator, Optional
 from unittest import mock
 
 from cases.lib import wire
 from cases.lib.small import Run, holds
 from cases.lib.wire import GROUP, KEY, OTHER_KEY, START, SWITCH, Item, Login, altered, eap
-from lib import listening, reasons
+from lib import listening, reasons, stories, worlds
 from lib.cases import spelled
+from lib.machines import CHOICES
 
 
 def rows_of(name: str) -> Iterator[list[str]]:
@@ -145,11 +146,27 @@ def files() -> Iterator[tuple[str, bytes, str, str]]:
         "no gpsk2, ended"), key
     yield "RADIUS is down", wire.pcap(framed(asked, 3.0, asked)), "radius silent, radius down", key
     yield "RADIUS, one request", wire.pcap(framed(asked)), "radius silent, ended", key
+    yield from replies()
     first, answer, *_ = wire.by_radius([GOOD.named, GOOD.gpsk1])
     ignored = wire.radius(11, 2, GOOD.gpsk1, (101, struct.pack(">I", 202)))
     last = [wire.radius(1, 3, BAD.gpsk2), wire.radius(3, 3, FAILURE)]
     yield "RADIUS, an answer that is ignored", wire.pcap(framed(first, answer, wire.radius(1, 2, BAD.gpsk2), ignored, *last)), (
         REFUSED + ", ignored"), key
+
+
+def replies() -> Iterator[tuple[str, bytes, str, str]]:
+    """Replies of a RADIUS server that isn't as others are, and a station that ends its login."""
+    key = "alice 51 " + KEY.hex()
+    asked, (head, ip) = wire.radius(1, 1, GOOD.named), wire.radius(11, 1, GOOD.gpsk1)
+    forgotten = [*wire.by_radius(WRONG[1:]), 3.0, wire.radius(1, 9, BAD.gpsk2), wire.radius(3, 9, b"")]
+    other = wire.radius(11, 1, Login(rand_s=b"\x66" * 32).gpsk1)
+    for name, items, wanted in (
+            ("RADIUS, a second reply to one Request", [asked, (head, ip), other], "two replies, gap, no gpsk2, ended"),
+            ("RADIUS, a Request that is answered anew", [asked, (head, ip), 3.0, asked, other], "anew, client again, no gpsk2, ended"),
+            ("RADIUS, a reply from another address", [asked, (head, ip[:12] + b"\x0a\0\0\x09" + ip[16:])], "address, no gpsk2, ended"),
+            ("RADIUS, a login that the server has forgotten", forgotten, REFUSED + ", client again, forgotten"),
+            ("a Logoff", [*GOOD.whole[:4], (STATION_FRAME, bytes.fromhex("01020000")), 1.0, *LOGINS["later"].whole], "logoff, good")):
+        yield name, wire.pcap(framed(*items)), wanted, key
 
 
 def at_both(packets: list[bytes], station: bytes = b"02-00-00-00-00-02", stops: int = 99) -> list[Item]:
@@ -230,13 +247,26 @@ def sentences() -> Iterator[str]:
 
 def case_reasons(run: Run) -> Iterator[Optional[str]]:
     """Of each kind the sentences that are to come, and no other one; each comes of some, and so doesn't of others. There is
-    no sentence that comes of none."""
-    said = ""
-    for name, octets, wanted, words in files():
-        _, out, errors = run(["why", "-", *words.split()], octets)
-        said += out + errors
-        found = found_in(out + errors)
-        yield holds(found == set(wanted.split(", ")), f"{name}: wanted {wanted}, found {sorted(found)}: {out}{errors}")
+    no sentence that comes of none, and no choice of worlds.txt."""
+    said, used = "", set[str]()
+
+    def noted(function: Callable[..., object], names_of: Callable[..., Iterable[str]]) -> Callable[..., object]:
+        def call(*given: object) -> object:
+            found = function(*given)
+            used.update(names_of(*given, found))
+            return found
+        return call
+
+    silent = [name for name, it in CHOICES.items() if not it.sentence]
+    told = noted(stories.sentence_of, lambda _, it, __: [it.name])
+    listed = noted(worlds.listed, lambda _, found: {it.name for it in found}.intersection(silent))
+    with mock.patch.object(stories, "sentence_of", told), mock.patch.object(worlds, "listed", listed):
+        for name, octets, wanted, words in files():
+            _, out, errors = run(["why", "-", *words.split()], octets)
+            said += out + errors
+            found = found_in(out + errors)
+            yield holds(found == set(wanted.split(", ")), f"{name}: wanted {wanted}, found {sorted(found)}: {out}{errors}")
+    yield holds(used == set(CHOICES), f"no capture has the choices {sorted(set(CHOICES) - used)} of worlds.txt")
     yield holds(found_in(said) == set(SENTENCES), f"no capture has {sorted(set(SENTENCES) - found_in(said))}")
     said += "".join(run(["why", "-"], it.encode())[1] for it in scenarios())
     for it in sentences():

@@ -81,7 +81,7 @@ class World(NamedTuple):
     turn: int = 0
     cost: int = 0
     trail: Chain = None
-    begins: Chain = None
+    begins: tuple[World, ...] = ()
     first: int = 0
     ahead: tuple[int, ...] = ()
     late: tuple[int, ...] = ()
@@ -193,9 +193,13 @@ class Next:
             yield world, [self.token("logoff")] * (f.message == "Logoff")
             return
         yield from self.again()
-        yield from self.of_server() if f.is_down else self.of_peer()
+        facts, found = self.same_nonces()
+        for then, tokens in self.of_server() if f.is_down else self.of_peer():
+            yield then._replace(facts=then.facts | facts), [*tokens, *found]
         yield from self.altered()
-        yield world._replace(forged=(*world.forged[-3:], f.place)), [self.token("forged")]
+        # (a right MAC is made by who has the key: what is forged of it is of an earlier login)
+        forged = token("forged", f.place, cost=12 if f.word == "tag-good" else None)
+        yield world._replace(forged=(*world.forged[-3:], f.place)), [forged]
 
     def again(self) -> Iterator[Way]:
         """The frame was here before: by the capture, or by what lies between."""
@@ -213,6 +217,18 @@ class Next:
             yield world, [self.token("copy" if f.at - was.at > DOUBLED else "twice", was.number, self.since(was))]
         elif not self.before and self.is_over():
             yield world, [self.token("stray")]
+
+    def is_old(self) -> bool:
+        """Whether a message of a method was here before in this login, so that it is no new one."""
+        return bool(self.before and self.frame.stage) and self.before[0].turn >= self.world.begun
+
+    def same_nonces(self) -> tuple[frozenset[str], list[Token]]:
+        """What it means that a message of an earlier login is a new one: its end used a nonce again. (then the next one is no wonder)"""
+        f, fact = self.frame, "same-nonces"
+        if not self.before or not f.stage or self.is_old():
+            return frozenset(), []
+        said = [token(fact, f.place, self.before[0].number, cost=0 if fact in self.world.facts else None)] if f.stage < 3 else []
+        return frozenset([fact]), said
 
     def is_over(self) -> bool:
         """Whether a message is of a run that is over, though the capture doesn't have it before the end."""
@@ -256,7 +272,7 @@ class Next:
         if f.radius and f.radius.request and any(
                 it.radius and it.radius.request is f.radius.request and it.octets != f.octets for it in self.near(True)):
             yield self.world, [self.token("two-replies")]
-        if self.before and f.stage:
+        if self.is_old():
             return
         if f.word == "malformed":
             for facts, found in self.misshaped():
@@ -538,7 +554,7 @@ class Next:
             yield from ((self.on, found) for found in self.answered_again(was, asked))
             if asked or f.radius or len(self.asked(f.id)) > len(self.before):
                 return
-        if self.before and f.stage or not self.before and self.is_over():
+        if self.is_old() or not self.before and self.is_over():
             return
         if f.word == "malformed":
             yield from ((self.on._replace(facts=self.on.facts | facts), found) for facts, found in self.misshaped())

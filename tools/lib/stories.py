@@ -42,6 +42,7 @@ class Login:
         self.unsure = {it.place for group in found.groups for its in group[:2] for it in its if it.name in NOT_SENT} | out
         self.cut = [it for it in capture.cut if found.first <= it[0] and (found.next is None or it[0] < found.next)]
         self.tries: list[str] = []
+        self.end, self.is_end_sure = self.ending()
 
     def say(self, sentence: str, **names: object) -> str:
         """A sentence, whose remedies are taken up."""
@@ -59,15 +60,22 @@ class Login:
         """The method that went on last."""
         return next((it.kind for it in reversed(self.own) if it.stage), "")
 
-    @property
-    def end(self) -> Optional[Frame]:
-        """The Success, the Failure or the Access-Reject behind which the server doesn't go on."""
+    def ending(self) -> tuple[Optional[Frame], bool]:
+        """The Success, the Failure or the Access-Reject behind which the server doesn't go on, and whether it surely is that."""
         its = [it for it in self.frames if it.is_down and it in self.own or it.message == "Reject"]
         ends = [it for it in its if it.message in ENDS]
-        last = next((it for it in reversed(self.frames) if it.message in ENDS and it.place in self.unsure), None)
         # (what is behind it at the same time may have overtaken it)
-        is_end = bool(ends) and all(it.at - ends[-1].at <= ORDERED for it in its[its.index(ends[-1]) :])
-        return ends[-1] if is_end else last if its and last and last.place > its[-1].place else None
+        if ends and all(it.at - ends[-1].at <= ORDERED for it in its[its.index(ends[-1]) :]):
+            return ends[-1], ends[-1].place not in self.unsure
+        last = next((it for it in reversed(self.frames) if it.message in ENDS and it.place in self.unsure), None)
+        if its and last and (last.place > its[-1].place or self.may_be_sent(last)):
+            return last, False
+        return ends[-1] if ends and not self.found.is_firm else None, False
+
+    def may_be_sent(self, frame: Frame) -> bool:
+        """Whether a frame that an alternative has from elsewhere is sent by its end in another that is said."""
+        of_groups = [[any(it.place == frame.place and it.name in NOT_SENT for it in its) for its in group[:2]] for group in self.found.groups]
+        return any(any(it) and (len(it) == 1 or not all(it)) for it in of_groups)
 
     def is_whole(self) -> bool:
         """Whether what isn't among the frames isn't in the capture either."""
@@ -180,7 +188,7 @@ def alternatives_of(login: Login, group: list[list[Token]]) -> Reason:
     if not group[0]:
         text = said("perhaps", text=text)
     rarer = said("rarer", count=more) if more > 0 else said("not closed") if not login.found.is_closed else ""
-    return Reason(None, text + rarer + with_mac(login, frame, [*group[0], *group[1]]), frame.called)
+    return Reason(None, text + rarer + with_mac(login, frame, [it for its in group[:2] for it in its]), frame.called)
 
 
 def shown_tokens(login: Login) -> list[Token]:
@@ -344,7 +352,7 @@ def story_of(login: Login, nonces: Nonces, is_brief: bool = False) -> Story:
     is_odd = verdict != said("verdict Success")
     words_found = {it.word for it in login.own} & {"tag-good", "tag-bad", "malformed"}
     failed = next((it for it in login.own if "Failure-Code" in it.read.number and it.is_down), None) if not end else end
-    if end and end.place in login.unsure:
+    if end and not login.is_end_sure:
         kind, outcome = "open", said("unsure end", end=f"packet {end.number}, {end.read.name}")
     elif end and end.message == "Success":
         what = "wrong" if words_found & {"tag-bad", "malformed"} else "good" if words_found else "none judged"

@@ -4,6 +4,7 @@ cost are found, and those of one more: what all share is certain, and of what di
 
 from __future__ import annotations
 
+from collections import Counter
 from dataclasses import dataclass
 from typing import Any, Iterator, Optional, Sequence
 
@@ -12,22 +13,28 @@ from lib.machines import ALIKE, CHOICES, FAILS, NOBODY, ORDERED, Chain, Next, Ta
 from lib.observed import ENDS, Frame
 
 # One more; by how much worlds may cost more that keep a login open; how much more it is searched for before one that begins at once
-# behind it; the worlds of one state and of all
-# that are followed, and by how much they may cost more than the best; frames taken ahead and held back; the cost above which
-# the best worlds alone are followed.
-ONE, CLOSE, ODD, EQUAL, MOST, WORSE, AHEAD, BACK, TOO_MUCH, ALONE = 2, 6, 8, 6, 48, 12, 10, 3, 40, 6
+# behind it; the worlds of one state and of all that are followed, and by how much they may cost more than the best; frames taken
+# ahead and held back; the cost above which, and the frames of a login behind which, the best worlds alone are followed; the
+# begins that a world remembers.
+ONE, CLOSE, ODD, EQUAL, MOST, WORSE, AHEAD, BACK, TOO_MUCH, LONG, ALONE, BEGINS = 2, 6, 8, 6, 48, 12, 10, 3, 40, 200, 6, 16
+# Faults of the capture itself; and what a packet says whatever the capture lacks.
+FAULTS = ("order", "uncaptured", "twice")
+OF_PACKET = ("twice", "copy", "same-nonces", "wrong-key", "given-key", "other-key", "ends-method", "ends", "peer-ends", "logoff",
+             "rejected", "other-address")
 
 
 @dataclass
 class Found:
-    """A login: its frames, those that are told of by their places, the choices that are certain, groups of alternatives with the cheapest first, whether each world was
-    followed, so that no other alternative costs as little; and the numbers from which and before which its frames are."""
+    """A login: its frames, those that are told of by their places, the choices that are certain, groups of alternatives with the
+    cheapest first; whether no other alternative costs as little, since each world was followed and nothing is cut, and whether the
+    capture is such that what all worlds share is so; and the numbers from which and before which its frames are."""
 
     frames: list[Frame]
     places: dict[int, Frame]
     sure: list[Token]
     groups: list[list[list[Token]]]
     is_closed: bool
+    is_firm: bool = True
     first: int = 0
     next: Optional[int] = None
 
@@ -96,14 +103,14 @@ class Search:
             return
         if any(self.frames[it].octets for it in range(self.begin, at)):
             yield self.begin, at, shared, self.is_closed
-        self.base = least._replace(cost=0, trail=None, begins=None, ahead=(), late=(), first=at + 1)
+        self.base = least._replace(cost=0, trail=None, begins=(), ahead=(), late=(), first=at + 1)
         self.worlds, self.begin, self.turn, self.limit, self.is_closed = [self.base], at, at + 1, 0, True
         while self.oldest < at - MOST:
             del self.frames[self.oldest]
             self.oldest += 1
 
     def cheapest(self, worlds: list[World]) -> list[World]:
-        """The cheapest of each state, and of all; above a limit the best alone."""
+        """The cheapest of each state, and of all; above a limit, and in what goes on and on, the best alone."""
         states: dict[object, list[World]] = {}
         for w in worlds:
             key = (w.server[:3], w.peer[:3], w.facts, w.begun, w.forged, w.first, frozenset(w.ahead), w.late)
@@ -114,19 +121,18 @@ class Search:
             its.sort(key=lambda w: w.cost)
             found += [w for w in its[:EQUAL] if w.cost <= min(its[0].cost + ONE, best + WORSE)]
         found.sort(key=lambda w: w.cost)
-        most = MOST if self.limit < TOO_MUCH else ALONE
+        most = MOST if self.limit < TOO_MUCH and self.turn - self.begin < LONG else ALONE
         self.is_closed = self.is_closed and len(found) <= most
         return found[:most]
 
     def shared(self) -> list[World]:
-        """The worlds at the first begin of a login that all have at the same frame, without others out of order there."""
-        of_worlds = [{begin.seen[-1].place: begin for begin in listed(w.begins) if begin.begun > self.begin}
+        """The worlds at the first begin of a login that all have at the same frame, none of which is out of order there."""
+        of_worlds = [{begin.seen[-1].place: begin for begin in w.begins if begin.begun > self.begin}
                      for w in self.worlds if w.cost < self.worlds[0].cost + CLOSE]
-        for place, begin in of_worlds[0].items():
-            if not begin.ahead + begin.late and all(
-                    place in its and abs(its[place].begun - begin.begun) <= BACK for its in of_worlds):
-                its = [it[place] for it in of_worlds]
-                return list({id(it): it for it in its if it.begun == begin.begun and not it.ahead + it.late}.values())
+        for place in of_worlds[0]:
+            its = [it[place] for it in of_worlds if place in it and not it[place].ahead + it[place].late]
+            if len(its) == len(of_worlds):
+                return list({id(it): it for it in its}.values())
         return []
 
     # ---- One frame more.
@@ -176,7 +182,7 @@ class Search:
         else:
             new = new._replace(ahead=(*w.ahead, it.place))
         # (what it costs to begin is told of the login before, if there was one)
-        return new._replace(begins=(w.begins, new)) if new.begun == w.turn != w.begun else new
+        return new._replace(begins=(*w.begins[1 - BEGINS :], new._replace(begins=()))) if new.begun == w.turn != w.begun else new
 
 
 def passed(w: World, at: int) -> World:
@@ -241,6 +247,11 @@ def tokens_of(worlds: list[World]) -> dict[frozenset[Token], int]:
         (less := renamed(its, "given-key", "wrong-key")) != its and less in found)}
 
 
+def is_faulty(faults: Counter[str]) -> bool:
+    """Whether the faults of a capture are such that more of them are no wonder: of the order, of two kinds, or losses."""
+    return faults["order"] > 0 or len(faults) > 1 or faults["uncaptured"] > 2
+
+
 def of_conversation(capture: Capture, more: Iterator[Frame], part: Sequence[int]) -> Iterator[Found]:
     """What came of each login of a conversation."""
     its = capture.packets
@@ -250,12 +261,19 @@ def of_conversation(capture: Capture, more: Iterator[Frame], part: Sequence[int]
     search = Search(more, Tap(ways == {0}, ways == {1} and goes_on, cut, bool(capture.unsure), its[0].at is not None if len(its) else True,
                               frozenset(number for number, name, _ in capture.facts if name == "by-itself")))
     before: Optional[Found] = None
+    faults = Counter[str]()
     for begin, end, worlds, is_closed in search.logins():
         sure, groups = grouped(tokens_of(worlds))
+        faults.update(it.name for it in (*sure, *(it for group in groups for it in group[0])) if it.name in FAULTS)
+        is_firm = is_closed and not is_faulty(faults)
         # (what is cut could say otherwise)
-        is_closed = is_closed and not any(search.frames[begin].number <= it <= search.frames[end - 1].number for it in cut)
+        is_closed = is_firm and not any(search.frames[begin].number <= it <= search.frames[end - 1].number for it in cut)
+        if not is_firm:
+            groups += [[[it]] for it in sure if it.name not in OF_PACKET]
+            sure = [it for it in sure if it.name in OF_PACKET]
         told = {it.place for it in sure}.union(it.place for group in groups for its in group for it in its)
-        found = Found([search.frames[it] for it in range(begin, end)], {it: search.frames[it] for it in told}, sure, groups, is_closed)
+        found = Found([search.frames[it] for it in range(begin, end)], {it: search.frames[it] for it in told}, sure, groups, is_closed,
+                      is_firm)
         if before:
             before.next = found.first = found.frames[0].number
             yield before
