@@ -10,17 +10,22 @@ from lib.common import Refused
 from lib.words import MOST_OCTETS
 
 
+# A line that says something; and the octets of the comments that are read.
+SAYS, MOST_COMMENTS = re.compile(rb"^(?!#|\r?$)[^\n]+", re.M), 1 << 16
+
+
 def lines_of(octets: bytes) -> Iterator[tuple[int, list[str]]]:
     """The lines of a text that say something: their numbers and their words."""
-    for number, line in enumerate(octets.decode("latin-1").split("\n"), 1):
-        line = line.removesuffix("\r")
-        if line and not line.startswith("#"):
-            yield number, line.split(" ")
+    number, end = 1, 0
+    for it in SAYS.finditer(octets):
+        number += octets.count(b"\n", end, it.start())
+        end = it.start()
+        yield number, it[0].decode("latin-1").removesuffix("\r").split(" ")
 
 
 def comments_of(octets: bytes) -> list[str]:
     """The comments that follow the header of a text, as they stand."""
-    lines = octets.decode("utf-8", "replace").replace("\r\n", "\n").split("\n")[1:]
+    lines = octets[:MOST_COMMENTS].decode("utf-8", "replace").replace("\r\n", "\n").split("\n")[1:]
     return list(itertools.takewhile(lambda line: line.startswith("#"), lines))
 
 
