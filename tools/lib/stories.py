@@ -66,7 +66,8 @@ class Login:
         ends = [it for it in its if it.message in ENDS]
         # (what is behind it at the same time may have overtaken it)
         if ends and all(it.at - ends[-1].at <= ORDERED for it in its[its.index(ends[-1]) :]):
-            return ends[-1], ends[-1].place not in self.unsure
+            moved = {it.place for it in shown_tokens(self.found) if it.name == "order"}
+            return ends[-1], ends[-1].place not in self.unsure | moved
         last = next((it for it in reversed(self.frames) if it.message in ENDS and it.place in self.unsure), None)
         if its and last and (last.place > its[-1].place or self.may_be_sent(last)):
             return last, False
@@ -191,8 +192,8 @@ def alternatives_of(login: Login, group: list[list[Token]]) -> Reason:
     return Reason(None, text + rarer + with_mac(login, frame, [it for its in group[:2] for it in its]), frame.called)
 
 
-def shown_tokens(login: Login) -> list[Token]:
-    return [*login.found.sure, *(it for group in login.found.groups for its in group[:2] for it in its)]
+def shown_tokens(found: worlds.Found) -> list[Token]:
+    return [*found.sure, *(it for group in found.groups for its in group[:2] for it in its)]
 
 
 def of_worlds(login: Login) -> Iterator[tuple[int, Reason]]:
@@ -203,7 +204,7 @@ def of_worlds(login: Login) -> Iterator[tuple[int, Reason]]:
     for group in login.found.groups:
         if group[0] or any(CHOICES[it.name].verdict for it in group[1]):
             yield (group[0] or group[1])[0].place, alternatives_of(login, group)
-    shown = shown_tokens(login)
+    shown = shown_tokens(login.found)
     login.tries += [it for it in dict.fromkeys(CHOICES[it.name].advice.format(*it.words) for it in shown) if it]
 
 
@@ -336,7 +337,7 @@ def folded(reasons: list[Reason]) -> list[Reason]:
 def reasons_of(login: Login, nonces: list[tuple[int, str]]) -> list[Reason]:
     """What is said of a login, in the order of its packets."""
     of_places = list(of_worlds(login))
-    certain = [*of_tags(login, {it.place for it in shown_tokens(login) if it.name in OF_MAC}), *of_repeats(login), *nonces]
+    certain = [*of_tags(login, {it.place for it in shown_tokens(login.found) if it.name in OF_MAC}), *of_repeats(login), *nonces]
     of_places += [(place, Reason(None, text, login.places[place].called)) for place, text in certain]
     ordered = [it for _, it in sorted(of_places, key=lambda it: it[0])]
     return folded([*of_missing(login), *ordered, *of_others(login)])

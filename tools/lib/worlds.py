@@ -14,9 +14,10 @@ from lib.observed import ENDS, Frame
 
 # One more; by how much worlds may cost more that keep a login open; how much more it is searched for before one that begins at once
 # behind it; the worlds of one state and of all that are followed, and by how much they may cost more than the best; frames taken
-# ahead and held back; the cost above which, and the frames of a login behind which, the best worlds alone are followed; the
-# begins that a world remembers.
-ONE, CLOSE, ODD, EQUAL, MOST, WORSE, AHEAD, BACK, TOO_MUCH, LONG, ALONE, BEGINS = 2, 6, 8, 6, 48, 12, 10, 3, 40, 200, 6, 16
+# ahead and held back; the cost above which the best worlds alone are followed, and how many; the frames of a login behind which
+# fewer are, and behind which it is told in parts; the begins that a world remembers.
+ONE, CLOSE, ODD, EQUAL, MOST, WORSE, AHEAD, BACK, TOO_MUCH, BEST = 2, 6, 8, 6, 48, 12, 10, 3, 40, 6
+LONG, ALONE, ENDLESS, BEGINS = 200, 2, 5000, 16
 # Faults of the capture itself; and what a packet says whatever the capture lacks.
 FAULTS = ("order", "uncaptured", "twice")
 OF_PACKET = ("twice", "copy", "same-nonces", "wrong-key", "given-key", "other-key", "ends-method", "ends", "peer-ends", "logoff",
@@ -60,8 +61,9 @@ class Search:
     def __init__(self, more: Iterator[Frame], tap: Tap) -> None:
         self.more, self.tap, self.frames = more, tap, tap.frames
         self.count = self.oldest = 0
-        self.limit, self.begin, self.base = 0, 0, World()
-        self.worlds, self.turn, self.is_closed = [self.base], 0, True
+        self.limit = self.begin = 0
+        self.bases = [World()]
+        self.worlds, self.turn, self.is_closed = self.bases, 0, True
 
     def frame(self, place: int) -> Optional[Frame]:
         while place + AHEAD + ALIKE >= self.count and (it := next(self.more, None)):
@@ -72,14 +74,18 @@ class Search:
     def logins(self) -> Iterator[tuple[int, int, list[World], bool]]:
         """The first frame of each login, the one behind its last, its worlds, and whether all were followed."""
         while self.frame(self.turn) is not None:
-            self.worlds = self.cheapest([new for w in self.worlds for new in self.steps(w)])
+            # (a login may have been begun by another frame in one world than in another)
+            self.worlds = self.cheapest([new for w in self.worlds for new in (self.steps(w) if w.turn == self.turn else [w])])
             if not self.worlds:
                 self.again()
                 continue
             self.turn += 1
-            shared = self.shared()
-            if shared and shared[0].begun > self.begin:
-                yield from self.over(shared)
+            at, shared = self.shared()
+            if shared:
+                yield from self.over(at, shared)
+            elif self.turn - self.begin > ENDLESS:
+                yield self.begin, self.turn, self.worlds[:1], False
+                self.go_on(self.turn, self.worlds[:1])
         ends = [self.chosen(w, silent(w, self.tap)) for w in self.worlds]
         if self.turn > self.begin and min(it.cost for it in ends) + ONE > self.limit < TOO_MUCH:
             self.again()
@@ -91,11 +97,11 @@ class Search:
     def again(self) -> None:
         """Searches the login from its begin with a higher limit."""
         self.limit += 2 if self.limit < 12 else self.limit // 2
-        self.worlds, self.turn, self.is_closed = [self.base], self.base.turn, True
+        self.worlds, self.turn, self.is_closed = self.bases, min(it.turn for it in self.bases), True
 
-    def over(self, shared: list[World]) -> Iterator[tuple[int, int, list[World], bool]]:
+    def over(self, at: int, shared: list[World]) -> Iterator[tuple[int, int, list[World], bool]]:
         """A login is over where the next begins; where that is itself out of the ordinary, other worlds are looked for before."""
-        at, least = shared[0].begun, min(shared, key=lambda it: it.cost)
+        least = shared[0]
         before = next((it.at for place in range(at - 1, at - 5, -1) if (it := self.frames.get(place)) and it.octets), 0.0)
         is_odd = least.trail is not None and least.trail[1].place >= at or self.frames[at].at - before < ORDERED
         if least.cost and least.cost + (ODD if is_odd else ONE) > self.limit < TOO_MUCH:
@@ -103,8 +109,15 @@ class Search:
             return
         if any(self.frames[it].octets for it in range(self.begin, at)):
             yield self.begin, at, shared, self.is_closed
-        self.base = least._replace(cost=0, trail=None, begins=(), ahead=(), late=(), first=at + 1)
-        self.worlds, self.begin, self.turn, self.limit, self.is_closed = [self.base], at, at + 1, 0, True
+        self.go_on(at, shared)
+
+    def go_on(self, at: int, worlds: list[World]) -> None:
+        """From a frame on begins another login, of which nothing is told yet; what is out of order there may be so."""
+        bases: dict[object, World] = {}
+        for w in worlds:
+            bases.setdefault((w.first, w.ahead, w.late), w._replace(cost=w.cost - worlds[0].cost, trail=None, begins=()))
+        self.bases, self.begin, self.limit = [*bases.values()], at, -2
+        self.again()
         while self.oldest < at - MOST:
             del self.frames[self.oldest]
             self.oldest += 1
@@ -121,19 +134,18 @@ class Search:
             its.sort(key=lambda w: w.cost)
             found += [w for w in its[:EQUAL] if w.cost <= min(its[0].cost + ONE, best + WORSE)]
         found.sort(key=lambda w: w.cost)
-        most = MOST if self.limit < TOO_MUCH and self.turn - self.begin < LONG else ALONE
+        most = ALONE if self.turn - self.begin > LONG else BEST if self.limit >= TOO_MUCH else MOST
         self.is_closed = self.is_closed and len(found) <= most
         return found[:most]
 
-    def shared(self) -> list[World]:
-        """The worlds at the first begin of a login that all have at the same frame, none of which is out of order there."""
-        of_worlds = [{begin.seen[-1].place: begin for begin in w.begins if begin.begun > self.begin}
-                     for w in self.worlds if w.cost < self.worlds[0].cost + CLOSE]
+    def shared(self) -> tuple[int, list[World]]:
+        """The first begin of a login that all worlds have at the same frame, and the worlds there, the cheapest first."""
+        of_worlds = [{begin.seen[-1].place: begin for begin in w.begins} for w in self.worlds if w.cost < self.worlds[0].cost + CLOSE]
         for place in of_worlds[0]:
-            its = [it[place] for it in of_worlds if place in it and not it[place].ahead + it[place].late]
-            if len(its) == len(of_worlds):
-                return list({id(it): it for it in its}.values())
-        return []
+            if place > self.begin and all(place in it for it in of_worlds):
+                its = {id(it[place]): it[place] for it in of_worlds}
+                return place, sorted(its.values(), key=lambda it: it.cost)
+        return 0, []
 
     # ---- One frame more.
 
