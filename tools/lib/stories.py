@@ -69,7 +69,7 @@ class Login:
             moved = {it.place for it in shown_tokens(self.found) if it.name == "order"}
             return ends[-1], ends[-1].place not in self.unsure | moved
         last = next((it for it in reversed(self.frames) if it.message in ENDS and it.place in self.unsure), None)
-        if its and last and (last.place > its[-1].place or self.may_be_sent(last)):
+        if last and (self.may_be_sent(last) or its and last.place > its[-1].place):
             return last, False
         return ends[-1] if ends and not self.found.is_firm else None, False
 
