@@ -348,7 +348,10 @@ class Next:
         was = [it for it in self.world.seen if it.place == server.place]
         if server.id < 0 or ahead == 1 or server.message in ENDS or ahead == 0 and was and self.is_explained(*was):
             return []
-        return [self.token("back" if ahead > 128 or ahead == 0 else "jump", f.id, server.id)]
+        return [self.jump(6 if ahead > 128 or ahead == 0 else 2)]
+
+    def jump(self, cost: int = 6) -> Token:
+        return token("jump", self.frame.place, self.frame.id, self.server.id, cost=cost)
 
     def anew(self, server: End) -> World:
         """A login begins here."""
@@ -442,7 +445,7 @@ class Next:
         elif server.message in FAILS:
             return
         elif server.id >= 0 and (f.id - server.id) % 256 > 3:
-            yield self.on, [self.token("back", f.id, server.id)]
+            yield self.on, [self.jump()]
         else:
             fourths = [it for it in self.near(False) if it.stage == 4 and (server.id < 0 or it.id in (server.id, f.id))]
             fourths = [it for it in fourths if not any(x.message in ENDS and x.turn > it.turn and x.at - it.at > DOUBLED for x in world.seen)]
@@ -499,7 +502,7 @@ class Next:
         """A Failure to an answer that isn't here."""
         f, server = self.frame, self.server
         if server.id >= 0 and not server.is_idle and (f.id - server.id) % 256 > 3:
-            return [self.token("back", f.id, server.id), self.unseen_refused(0)]
+            return [self.jump(), self.unseen_refused(0)]
         first = min((it.at for it in self.near(True) if it.octets == server.octets), default=server.at)
         if f.at - first >= GIVES_UP and f.id == server.id:
             is_answered = any(it.id == f.id and it.turn > self.world.begun for it in self.near(False))

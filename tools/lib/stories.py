@@ -161,7 +161,7 @@ def verdict_of(login: Login) -> str:
         names = dict.fromkeys(it or said("verdict unseen") for _, it in both)
         heads += [(both[0][0], " or ".join(names))] if first and both[0][1] else []
     most = max(cost for cost, _ in heads)
-    end = login.end.message if login.end else ""
+    end = login.end.message.replace("Reject", "Failure") if login.end else ""
     return "; ".join(dict.fromkeys(it for cost, it in heads if cost == most and it)) or said(f"verdict {end}".strip())
 
 

@@ -273,11 +273,11 @@ def of_conversation(capture: Capture, more: Iterator[Frame], part: Sequence[int]
     search = Search(more, Tap(ways == {0}, ways == {1} and goes_on, cut, bool(capture.unsure), its[0].at is not None if len(its) else True,
                               frozenset(number for number, name, _ in capture.facts if name == "by-itself")))
     before: Optional[Found] = None
-    faults = Counter[str]()
+    faults = Counter[str]()  # of the login before
     for begin, end, worlds, is_closed in search.logins():
         sure, groups = grouped(tokens_of(worlds))
-        faults.update(it.name for it in (*sure, *(it for group in groups for it in group[0])) if it.name in FAULTS)
-        is_firm = is_closed and not is_faulty(faults)
+        mine = Counter(it.name for it in (*sure, *(it for group in groups for it in group[0])) if it.name in FAULTS)
+        is_firm, faults = is_closed and not is_faulty(mine + faults), mine
         # (what is cut could say otherwise)
         is_closed = is_firm and not any(search.frames[begin].number <= it <= search.frames[end - 1].number for it in cut)
         if not is_firm:
