@@ -140,8 +140,8 @@ class Next:
         return [it for it in self.near(True) if it.turn > behind and it.id == identifier and it.message not in ENDS]
 
     def outer(self) -> str:
-        """The name in the last Identity Response."""
-        return next((it.read.identity for it in self.near(False) if it.message == "Identity"), "")
+        """The name in this login's Identity Response."""
+        return next((it.read.identity for it in self.near(False) if it.message == "Identity" and it.turn >= self.world.begun), "")
 
     def alike(self) -> Optional[Frame]:
         """A frame near it, before or behind, of which it differs in few octets."""
