@@ -9,15 +9,15 @@ import re
 import struct
 import tempfile
 from pathlib import Path
-from typing import Callable, Iterable, Iterator, Optional
+from typing import Iterator, Optional
 from unittest import mock
 
 from cases.lib import wire
 from cases.lib.small import Run, holds
 from cases.lib.wire import GROUP, KEY, OTHER_KEY, START, SWITCH, Item, Login, altered, eap
-from lib import listening, reasons, stories, worlds
+from lib import listening, reasons, stories
 from lib.cases import spelled
-from lib.machines import CHOICES
+from lib.machines import CHOICES, Token
 
 
 def rows_of(name: str) -> Iterator[list[str]]:
@@ -248,25 +248,20 @@ def sentences() -> Iterator[str]:
 def case_reasons(run: Run) -> Iterator[Optional[str]]:
     """Of each kind the sentences that are to come, and no other one; each comes of some, and so doesn't of others. There is
     no sentence that comes of none, and no choice of worlds.txt."""
-    said, used = "", set[str]()
+    said, used, sentence_of = "", set[str](), stories.sentence_of
 
-    def noted(function: Callable[..., object], names_of: Callable[..., Iterable[str]]) -> Callable[..., object]:
-        def call(*given: object) -> object:
-            found = function(*given)
-            used.update(names_of(*given, found))
-            return found
-        return call
+    def noted(login: stories.Login, it: Token) -> str:
+        used.add(it.name)
+        return sentence_of(login, it)
 
-    silent = [name for name, it in CHOICES.items() if not it.sentence]
-    told = noted(stories.sentence_of, lambda _, it, __: [it.name])
-    listed = noted(worlds.listed, lambda _, found: {it.name for it in found}.intersection(silent))
-    with mock.patch.object(stories, "sentence_of", told), mock.patch.object(worlds, "listed", listed):
+    with mock.patch.object(stories, "sentence_of", noted):
         for name, octets, wanted, words in files():
             _, out, errors = run(["why", "-", *words.split()], octets)
             said += out + errors
             found = found_in(out + errors)
             yield holds(found == set(wanted.split(", ")), f"{name}: wanted {wanted}, found {sorted(found)}: {out}{errors}")
-    yield holds(used == set(CHOICES), f"no capture has the choices {sorted(set(CHOICES) - used)} of worlds.txt")
+    unused = [name for name, it in CHOICES.items() if it.sentence and name not in used]
+    yield holds(not unused, f"no capture has the choices {unused} of worlds.txt")
     yield holds(found_in(said) == set(SENTENCES), f"no capture has {sorted(set(SENTENCES) - found_in(said))}")
     said += "".join(run(["why", "-"], it.encode())[1] for it in scenarios())
     for it in sentences():
