@@ -4,7 +4,7 @@ world, and the choices in it that are out of the ordinary; worlds.txt has what e
 from __future__ import annotations
 
 from dataclasses import dataclass, field
-from typing import Any, Iterator, NamedTuple, Optional
+from typing import Iterator, NamedTuple, Optional
 
 from lib import words
 from lib.observed import ENDS, Frame, is_near
@@ -63,8 +63,6 @@ class End(NamedTuple):
 
 
 NOBODY = End()
-# (a list from its end, which worlds share: the rest, and the last of it)
-Chain = Optional[tuple[Any, Any]]
 
 
 class World(NamedTuple):
@@ -80,7 +78,7 @@ class World(NamedTuple):
     begun: int = 0
     turn: int = 0
     cost: int = 0
-    trail: Chain = None
+    trail: tuple[Token, ...] = ()
     begins: tuple[World, ...] = ()
     first: int = 0
     ahead: tuple[int, ...] = ()
@@ -176,14 +174,9 @@ class Next:
 
     def is_explained(self, *frames: Frame) -> bool:
         """Whether one of these frames is altered, malformed or forged in this world."""
-        places, trail = {it.place for it in frames}, self.world.trail
-        for _ in range(SEEN):
-            if trail is None:
-                break
-            trail, last = trail
-            if last.name in ("altered", "altered-behind", "bad-shape") and last.place in places:
-                return True
-        return bool(places & {*self.world.forged})
+        places = {it.place for it in frames}
+        its = (it for it in self.world.trail[-SEEN:] if it.name in ("altered", "altered-behind", "bad-shape"))
+        return any(it.place in places for it in its) or bool(places & {*self.world.forged})
 
     # ---- The ways.
 

@@ -6,10 +6,10 @@ from __future__ import annotations
 
 from collections import Counter
 from dataclasses import dataclass
-from typing import Any, Iterator, Optional, Sequence
+from typing import Iterator, Optional, Sequence
 
 from lib.captures import Capture
-from lib.machines import ALIKE, CHOICES, FAILS, NOBODY, ORDERED, Chain, Next, Tap, Token, Way, World, token
+from lib.machines import ALIKE, CHOICES, FAILS, NOBODY, ORDERED, Next, Tap, Token, Way, World, token
 from lib.observed import ENDS, Frame
 
 # One more; by how much worlds may cost more that keep a login open; how much more it is searched for before one that begins at once
@@ -38,20 +38,6 @@ class Found:
     is_firm: bool = True
     first: int = 0
     next: Optional[int] = None
-
-
-def listed(chain: Chain) -> list[Any]:
-    found: list[Any] = []
-    while chain:
-        chain, last = chain
-        found.append(last)
-    return found[::-1]
-
-
-def put(chain: Chain, tokens: Sequence[Token]) -> Chain:
-    for it in tokens:
-        chain = (chain, it)
-    return chain
 
 
 class Search:
@@ -103,7 +89,7 @@ class Search:
         """A login is over where the next begins; where that is itself out of the ordinary, other worlds are looked for before."""
         least = shared[0]
         before = next((it.at for place in range(at - 1, at - 5, -1) if (it := self.frames.get(place)) and it.octets), 0.0)
-        is_odd = least.trail is not None and least.trail[1].place >= at or self.frames[at].at - before < ORDERED
+        is_odd = bool(least.trail) and least.trail[-1].place >= at or self.frames[at].at - before < ORDERED
         if least.cost and least.cost + (ODD if is_odd else ONE) > self.limit < TOO_MUCH:
             self.again()
             return
@@ -115,7 +101,7 @@ class Search:
         """From a frame on begins another login, of which nothing is told yet; what is out of order there may be so."""
         bases: dict[object, World] = {}
         for w in worlds:
-            bases.setdefault((w.first, w.ahead, w.late), w._replace(cost=w.cost - worlds[0].cost, trail=None, begins=()))
+            bases.setdefault((w.first, w.ahead, w.late), w._replace(cost=w.cost - worlds[0].cost, trail=(), begins=()))
         self.bases, self.begin, self.limit = [*bases.values()], at, -2
         self.again()
         while self.oldest < at - MOST:
@@ -181,7 +167,7 @@ class Search:
             yield from self.steps(passed(late, w.first)._replace(late=(*w.late, w.first)))
 
     def chosen(self, w: World, tokens: Sequence[Token]) -> World:
-        return w._replace(cost=w.cost + sum(it.cost for it in tokens), trail=put(w.trail, tokens))
+        return w._replace(cost=w.cost + sum(it.cost for it in tokens), trail=(*w.trail, *tokens))
 
     def advanced(self, w: World, it: Frame, way: Way) -> World:
         """The world behind a frame that came so."""
@@ -252,7 +238,7 @@ def tokens_of(worlds: list[World]) -> dict[frozenset[Token], int]:
     found: dict[frozenset[Token], int] = {}
     for w in worlds:
         if w.cost <= least + ONE:
-            its = frozenset(it._replace(cost=0) for it in listed(w.trail) if CHOICES[it.name].sentence)
+            its = frozenset(it._replace(cost=0) for it in w.trail if CHOICES[it.name].sentence)
             found[its] = min(w.cost, found.get(its, w.cost))
     # (that both ends have another key than is given is said where nothing says less)
     return {its: cost for its, cost in found.items() if not (
