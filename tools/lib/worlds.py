@@ -17,7 +17,7 @@ from lib.observed import ENDS, Frame
 # ahead and held back; the cost above which the best worlds alone are followed, and how many; the frames of a login behind which
 # fewer are, and behind which it is told in parts; the begins that a world remembers.
 ONE, CLOSE, ODD, EQUAL, MOST, WORSE, AHEAD, BACK, TOO_MUCH, BEST = 2, 6, 8, 6, 48, 12, 10, 3, 40, 6
-LONG, ALONE, ENDLESS, BEGINS = 200, 2, 5000, 16
+LONG, ALONE, ENDLESS, BEGINS = 200, 2, 2000, 16
 # Faults of the capture itself; and what a packet says whatever the capture lacks.
 FAULTS = ("order", "uncaptured", "twice")
 OF_PACKET = ("twice", "copy", "same-nonces", "wrong-key", "given-key", "other-key", "ends-method", "ends", "peer-ends", "logoff",
@@ -46,8 +46,7 @@ class Search:
 
     def __init__(self, more: Iterator[Frame], tap: Tap) -> None:
         self.more, self.tap, self.frames = more, tap, tap.frames
-        self.count = self.oldest = 0
-        self.limit = self.begin = 0
+        self.count = self.limit = self.begin = 0
         self.bases = [World()]
         self.worlds, self.turn, self.is_closed = self.bases, 0, True
 
@@ -104,9 +103,9 @@ class Search:
             bases.setdefault((w.first, w.ahead, w.late), w._replace(cost=w.cost - worlds[0].cost, trail=(), begins=()))
         self.bases, self.begin, self.limit = [*bases.values()], at, -2
         self.again()
-        while self.oldest < at - MOST:
-            del self.frames[self.oldest]
-            self.oldest += 1
+        kept = {it.place for w in self.bases for it in (w.server, w.peer)}
+        for it in [it for it in self.frames if it < at - MOST and it not in kept]:
+            del self.frames[it]
 
     def cheapest(self, worlds: list[World]) -> list[World]:
         """The cheapest of each state, and of all; above a limit, and in what goes on and on, the best alone."""
