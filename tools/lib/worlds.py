@@ -255,13 +255,15 @@ def of_conversation(capture: Capture, more: Iterator[Frame], part: Sequence[int]
     ways = {its.ways[at] for at in part}
     goes_on = any(its.octets[at][:1] == b"\1" and its.octets[at][4:5] != b"\1" for at in part)
     cut = [number for number, _, _ in capture.cut]
-    search = Search(more, Tap(ways == {0}, ways == {1} and goes_on, cut, bool(capture.unsure), its[0].at is not None if len(its) else True,
-                              frozenset(number for number, name, _ in capture.facts if name == "by-itself")))
+    tap = Tap(ways == {0}, ways == {1} and goes_on, cut, bool(capture.unsure), its[0].at is not None if len(its) else True,
+              frozenset(number for number, name, _ in capture.facts if name == "by-itself"))
+    # (what goes a way that isn't captured is no fault)
+    search, counted = Search(more, tap), [it for it in FAULTS if it != "uncaptured" or len(ways) > 1]
     before: Optional[Found] = None
     faults = Counter[str]()  # of the login before
     for begin, end, worlds, is_closed in search.logins():
         sure, groups = grouped(tokens_of(worlds))
-        mine = Counter(it.name for it in (*sure, *(it for group in groups for it in group[0])) if it.name in FAULTS)
+        mine = Counter(it.name for it in (*sure, *(it for group in groups for it in group[0])) if it.name in counted)
         is_firm, faults = is_closed and not is_faulty(mine + faults), mine
         # (what is cut could say otherwise)
         is_closed = is_firm and not any(search.frames[begin].number <= it <= search.frames[end - 1].number for it in cut)
