@@ -32,3 +32,13 @@ pub mod Columns
 pub mod Unmixing
 -- Each step of an encryption can be undone.
 pub mod Differing
+-- Words by their bits, and octets by eight bits.
+pub mod SliceBits
+-- The transposition of eight words, which loads states and stores them.
+pub mod Transposing
+-- The S-box of octets by slices.
+pub mod SlicedBox
+-- The steps of the cipher on octets by slices.
+pub mod SlicedSteps
+-- The key expansion by slices.
+pub mod SlicedKeys

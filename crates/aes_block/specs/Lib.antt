@@ -4,3 +4,7 @@ pub mod Cipher
 pub mod Turned
 pub mod Words
 pub mod Blocks
+pub mod Slices
+pub mod Circuit
+pub mod Processor
+pub mod Kept

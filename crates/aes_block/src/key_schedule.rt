@@ -4,7 +4,7 @@ ghost use Rattle.std.specs.Prelude.{◌≡◌, ℕ, ◌+◌, ◌*◌, ◌%◌, �
 ghost use Rattle.aes_block.specs.Field.{sub_byte};
 ghost use Rattle.aes_block.specs.KeySchedule.{word_of, change_at, round_key};
 ghost use Rattle.aes_block.specs.Cipher.{entry};
-ghost use Rattle.aes_block.specs.Turned.{all, of_turned, of_last, columns_on, sums_of_four, each_column};
+ghost use Rattle.aes_block.specs.Turned.{all, of_turned, of_last, columns_on, sums_of_four, each_column, AreTurned};
 
 use crate::lanes::{invert, turn};
 use std::simd::prelude::*;
@@ -115,4 +115,29 @@ pub(crate) fn turned_last(key: u8x16) -> u8x16
     ensures { all of_last result ≡ key }
 {
     key ^ u8x16::splat(AFFINE_CONSTANT)
+}
+
+// The round keys after the first, as `Aes128` keeps them.
+#[derive(Drop)]
+pub(crate) struct RoundKeys {
+    pub(crate) full: [TurnedKey; 9],
+    pub(crate) last: u8x16,
+}
+
+// The round keys after this one, for rounds on sixteen lanes.
+#[inline(always)]
+pub(crate) fn turned_keys(first: u8x16) -> RoundKeys
+    ensures { AreTurned first result.full result.last }
+{
+    let mut full = [TurnedKey { lanes: first }; 9];
+    let mut round_key = first;
+    for round in 0..9 {
+        let next = next_round_key(round, round_key);
+        full[round] = turned_full(next);
+        round_key = next;
+    }
+    RoundKeys {
+        full,
+        last: turned_last(next_round_key(9, round_key)),
+    }
 }

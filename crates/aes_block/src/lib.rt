@@ -5,9 +5,13 @@
 
 ghost use Rattle.std.specs.Prelude.{◌≡◌};
 ghost use Rattle.aes_block.specs.Cipher.{aes128};
+ghost use Rattle.aes_block.specs.Kept.{AreKept};
 
-use crate::key_schedule::{TurnedKey, next_round_key, turned_full, turned_last};
-use crate::rounds::{full_round, initial_round, last_round};
+use crate::key_schedule::{RoundKeys, TurnedKey, turned_keys};
+use crate::processor::shuffles;
+use crate::rounds::encrypt_lanes;
+use crate::sliced_rounds::encrypt_slices;
+use crate::sliced_schedule::plain_keys;
 use std::marker::Model;
 use std::simd::prelude::*;
 
@@ -15,7 +19,12 @@ mod by_tables;
 mod inverses;
 mod key_schedule;
 mod lanes;
+mod processor;
 mod rounds;
+mod sliced_box;
+mod sliced_rounds;
+mod sliced_schedule;
+mod slices;
 mod tables;
 mod word_schedule;
 
@@ -38,13 +47,13 @@ pub struct Aes128 {
 
 impl Model for Aes128 {
     ghost use Rattle.std.specs.Prelude.{List, ℕ};
-    ghost use Rattle.aes_block.specs.Turned.{AreTurned};
+    ghost use Rattle.aes_block.specs.Kept.{AreKept};
 
     ghost Value = { List ℕ };
 
     ghost view = { λ a. a.key };
 
-    ghost invariant = { λ a. AreTurned a.key a.full_keys a.last_key };
+    ghost invariant = { λ a. AreKept a.key a.full_keys a.last_key };
 }
 
 impl Aes128 {
@@ -54,17 +63,12 @@ impl Aes128 {
         ensures { result ≡ key.now }
     {
         let first = u8x16::from_array(*key);
-        let mut full_keys = [TurnedKey { lanes: first }; 9];
-        let mut round_key = first;
-        for round in 0..9 {
-            let next = next_round_key(round, round_key);
-            full_keys[round] = turned_full(next);
-            round_key = next;
-        }
+        let kept = round_keys(first);
+        let full_keys = kept.full;
         Aes128 {
             key: first,
             full_keys,
-            last_key: turned_last(next_round_key(9, round_key)),
+            last_key: kept.last,
         }
     }
 
@@ -84,19 +88,30 @@ impl Aes128 {
     pub fn encrypt(&self, block: &[u8; 16]) -> [u8; 16]
         ensures { result ≡ aes128 self.now block.now }
     {
-        self.encrypt_lanes(u8x16::from_array(*block)).to_array()
+        self.encrypt_block(u8x16::from_array(*block)).to_array()
     }
 
     // The same in a register. (The ten rounds are two kilobytes of code, so they stand once.)
     #[inline(never)]
-    fn encrypt_lanes(&self, block: u8x16) -> u8x16
+    fn encrypt_block(&self, block: u8x16) -> u8x16
         ensures { result ≡ aes128 self.now block }
     {
-        let mut state = initial_round(block, self.key);
-        for round in 0..9 {
-            let next = full_round(state, self.full_keys[round].lanes);
-            state = next;
+        if shuffles() {
+            encrypt_lanes(self.key, &self.full_keys, self.last_key, block)
+        } else {
+            encrypt_slices(self.key, &self.full_keys, self.last_key, block)
         }
-        last_round(state, self.last_key)
+    }
+}
+
+// The round keys after this one, as the code for this processor keeps them.
+#[inline(always)]
+fn round_keys(first: u8x16) -> RoundKeys
+    ensures { AreKept first result.full result.last }
+{
+    if shuffles() {
+        turned_keys(first)
+    } else {
+        plain_keys(first)
     }
 }

@@ -3,10 +3,11 @@
 
 ghost use Rattle.std.specs.Prelude.{◌≡◌};
 ghost use Rattle.aes_block.specs.Cipher as cipher;
-ghost use Rattle.aes_block.specs.Cipher.{state_of, add_round_key, full_round_of, last_round_of};
-ghost use Rattle.aes_block.specs.Turned.{all, plain, of_turned, of_last, mixed_lanes};
+ghost use Rattle.aes_block.specs.Cipher.{state_of, add_round_key, full_round_of, last_round_of, aes128};
+ghost use Rattle.aes_block.specs.Turned.{all, plain, of_turned, of_last, mixed_lanes, AreTurned};
 ghost use Rattle.aes_block.specs.Turned as turned;
 
+use crate::key_schedule::TurnedKey;
 use crate::lanes::{invert, turn};
 use std::simd::prelude::*;
 
@@ -67,4 +68,17 @@ pub(crate) fn last_round(state: u8x16, kept: u8x16) -> u8x16
     ensures { result ≡ last_round_of (all plain state) (all of_last kept) }
 {
     invert(shift_rows(state)).plain() ^ kept
+}
+
+// A block's encryption, with round keys that are kept for these rounds.
+#[inline(always)]
+pub(crate) fn encrypt_lanes(key: u8x16, full: &[TurnedKey; 9], last: u8x16, block: u8x16) -> u8x16
+    ensures { AreTurned key full.now last → result ≡ aes128 key block }
+{
+    let mut state = initial_round(block, key);
+    for round in 0..9 {
+        let next = full_round(state, full[round].lanes);
+        state = next;
+    }
+    last_round(state, last)
 }

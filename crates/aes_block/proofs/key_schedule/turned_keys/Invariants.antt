@@ -2,11 +2,11 @@ use Rattle.std.proofs.Common.{◌≡◌, ℕ, ◌+◌, ◌<◌, length, slice_in
 use Rattle.aes_block.specs.KeySchedule.{round_key}
 use Rattle.aes_block.specs.Turned.{all, of_turned}
 use Rattle.aes_block.specs.declared.key_schedule.TurnedKey.{TurnedKey}
-use Rattle.aes_block.proofs.Aes128.new.Given as goal
+use Rattle.aes_block.proofs.key_schedule.turned_keys.Given as goal
 
 abbrev pub invariant-loop-round : goal.invariant-loop-round
 invariant-loop-round l = record {
-  count : length l.full_keys ≡ 9;
-  current : l.round_key ≡ round_key l.key l.round;
-  made : (r : ℕ) → r < l.round → (d : TurnedKey) → all of_turned (slice_index_or l.full_keys r d).lanes ≡ round_key l.key (r + 1);
+  count : length l.full ≡ 9;
+  current : l.round_key ≡ round_key l.fn.first l.round;
+  made : (r : ℕ) → r < l.round → (d : TurnedKey) → all of_turned (slice_index_or l.full r d).lanes ≡ round_key l.fn.first (r + 1);
 }
