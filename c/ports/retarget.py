@@ -1,7 +1,7 @@
 """The module of the ends for processors that the kit has no target for, for `c/library --target`: made of that for x86-64.
 
 These change, and nothing else: the layout and the triple; the words of x86-64; the one instruction that looks sixteen octets
-up in a table of sixteen; and where a pointer has 4 octets the first-class structs that contain one, so that each pointer keeps
+up in a table of sixteen, or, where there is none, the function that says so, on which AES goes by slices of bits; and where a pointer has 4 octets the first-class structs that contain one, so that each pointer keeps
 a slot of 8 octets and no offset changes (`same_offsets` refuses a module of which that isn't so). Sizes keep 64 bits in the
 module; narrow.c stands between it and calls of 32 bits.
 """
@@ -20,7 +20,7 @@ class Port(NamedTuple):
     layout: str
     pointer: int  # its octets
     flags: tuple  # for the kit's clang and for the compiler of C
-    look_up: str  # which of LOOK_UPS
+    look_up: str  # which of LOOK_UPS, or "" where octets are not shuffled
     compiler: str
     has_system: bool = True  # shared objects, and malloc
     level: tuple = ("-Os",)  # more for clang
@@ -45,20 +45,20 @@ PORTS = {
         level=("-O3", "-mllvm", "-aarch64-load-store-renaming=false"),
     ),
     "armv7-unknown-linux-gnueabihf": Port("armv7-unknown-linux-gnueabihf", ARM, 4, NEON, "vtbl", "arm-linux-gnueabihf-gcc"),
-    "riscv64-unknown-linux-gnu": Port("riscv64-unknown-linux-gnu", RISCV64, 8, RV64, "words", "riscv64-linux-gnu-gcc"),
-    "riscv32-unknown-none-elf": Port("riscv32-unknown-none-elf", RISCV32, 4, RV32, "words", "riscv64-unknown-elf-gcc", False),
+    "riscv64-unknown-linux-gnu": Port("riscv64-unknown-linux-gnu", RISCV64, 8, RV64, "", "riscv64-linux-gnu-gcc"),
+    "riscv32-unknown-none-elf": Port("riscv32-unknown-none-elf", RISCV32, 4, RV32, "", "riscv64-unknown-elf-gcc", False),
 }
-# A look-up in memory tells nothing where the stack's memory has no cache. (The M0 has no cache either, but a choice by bit 7
-# of an index would become a branch.)
-for name, triple, cpu, form in (
-    ("thumbv6m-none-eabi", "thumbv6m", "cortex-m0", "words"),
-    ("thumbv7m-none-eabi", "thumbv7m", "cortex-m3", "memory"),
-    ("thumbv7em-none-eabi", "thumbv7em", "cortex-m4", "memory"),
-    ("thumbv7em-none-eabi-cached", "thumbv7em", "cortex-m7", "words"),
+for name, triple, cpu in (
+    ("thumbv6m-none-eabi", "thumbv6m", "cortex-m0"),
+    ("thumbv7m-none-eabi", "thumbv7m", "cortex-m3"),
+    ("thumbv7em-none-eabi", "thumbv7em", "cortex-m4"),
+    ("thumbv7em-none-eabi-cached", "thumbv7em", "cortex-m7"),
 ):
     words = (f"-mcpu={cpu}", "-mthumb", "-mfloat-abi=soft")
-    PORTS[name] = Port(f"{triple}-none-unknown-eabi", ARM, 4, words, form, "arm-none-eabi-gcc", False)
+    PORTS[name] = Port(f"{triple}-none-unknown-eabi", ARM, 4, words, "", "arm-none-eabi-gcc", False)
 SHUFFLE = "@llvm.x86.ssse3.pshuf.b.128"
+# The function that says whether the processor shuffles octets.
+CHOICE = re.compile(r'^(define internal [^@\n]*\bi1 @"aes_block::processor::shuffles"\(\)[^\n]*\{\n)(.*?^\}\n)', re.S | re.M)
 SIZES = {"i1": 1, "i8": 1, "i16": 2, "i32": 4, "i64": 8}
 # What would depend on a pointer's size, or isn't known to keep its place.
 UNKNOWN = (
@@ -103,55 +103,6 @@ def same_offsets(text):
     return differ
 
 
-def by_memory():
-    """Sixteen loads, from the stack."""
-    lines = ["%p = alloca <16 x i8>, align 16", "store <16 x i8> %t, ptr %p"]
-    last = "zeroinitializer"
-    for k in range(16):
-        lines += [f"%i{k} = extractelement <16 x i8> %i, i32 {k}", f"%y{k} = and i8 %i{k}, 15", f"%z{k} = zext i8 %y{k} to i32"]
-        lines += [f"%q{k} = getelementptr i8, ptr %p, i32 %z{k}", f"%b{k} = load i8, ptr %q{k}", f"%h{k} = ashr i8 %i{k}, 7"]
-        lines += [f"%n{k} = xor i8 %h{k}, -1", f"%c{k} = and i8 %b{k}, %n{k}"]
-        lines += [f"%r{k} = insertelement <16 x i8> {last}, i8 %c{k}, i32 {k}"]
-        last = f"%r{k}"
-    return ["noinline", *lines, f"ret <16 x i8> {last}"]
-
-
-def chosen(row, word, at, mask):
-    """Of each two of a row the one that this mask says, and the lines that choose."""
-    lines, left = [], []
-    for n in range(0, len(row), 2):
-        it = f"{at}.{n}"
-        lines += [f"%x{it} = xor {word} {row[n]}, {row[n + 1]}", f"%y{it} = and {word} %x{it}, {mask}"]
-        lines += [f"%c{it} = xor {word} {row[n]}, %y{it}"]
-        left.append(f"%c{it}")
-    return left, lines
-
-
-def by_words(bits):
-    """Fifteen choices by masks of each bit of the index, in words: no address and no branch depends on table or index. (A
-    processor without a conditional move gets branches for selects: of the index, and so of the key.)"""
-    count, ones = 128 // bits, int("01" * (bits // 8), 16)
-    word, vector = f"i{bits}", f"<{128 // bits} x i{bits}>"
-    lines = [f"%iv = bitcast <16 x i8> %i to {vector}"]
-    for k in range(16):
-        lines += [f"%t{k} = extractelement <16 x i8> %t, i32 {k}", f"%u{k} = zext i8 %t{k} to {word}"]
-        lines += [f"%s{k} = mul {word} %u{k}, {ones}"]
-    whole = "zeroinitializer"
-    for w in range(count):
-        lines += [f"%w{w} = extractelement {vector} %iv, i32 {w}"]
-        row = [f"%s{k}" for k in range(16)]
-        for j in (0, 1, 2, 3, 7):
-            lines += [f"%a{w}.{j} = lshr {word} %w{w}, {j}", f"%b{w}.{j} = and {word} %a{w}.{j}, {ones}"]
-            lines += [f"%d{w}.{j} = shl {word} %b{w}.{j}, 8", f"%m{w}.{j} = sub {word} %d{w}.{j}, %b{w}.{j}"]
-            if j < 7:
-                row, more = chosen(row, word, f"{w}.{j}", f"%m{w}.{j}")
-                lines += more
-        lines += [f"%n{w} = xor {word} %m{w}.7, -1", f"%o{w} = and {word} {row[0]}, %n{w}"]
-        lines += [f"%v{w} = insertelement {vector} {whole}, {word} %o{w}, i32 {w}"]
-        whole = f"%v{w}"
-    return ["noinline", *lines, f"%r = bitcast {vector} {whole} to <16 x i8>", "ret <16 x i8> %r"]
-
-
 def by_vtbl():
     """NEON's: of a table of two halves, twice; 0 for an index over 15."""
 
@@ -172,10 +123,8 @@ def by_tbl():
 
 
 LOOK_UPS = {
-    "memory": lambda _: by_memory(),
-    "tbl": lambda _: by_tbl(),
-    "vtbl": lambda _: by_vtbl(),
-    "words": lambda pointer: by_words(8 * pointer),
+    "tbl": by_tbl,
+    "vtbl": by_vtbl,
 }
 DECLARED = {
     "tbl": "declare <16 x i8> @llvm.aarch64.neon.tbl1.v16i8(<16 x i8>, <16 x i8>)\n",
@@ -183,11 +132,21 @@ DECLARED = {
 }
 
 
-def look_up(form, pointer):
+def look_up(form):
     """What stands for the shuffle: of a table and of places, of which one over 127 gets 0, and no other is over 15."""
-    kind, *lines = LOOK_UPS[form](pointer)
+    kind, *lines = LOOK_UPS[form]()
     head = f"\ndefine internal <16 x i8> @look_up(<16 x i8> %t, <16 x i8> %i) {kind} nounwind {{\n  "
-    return head + "\n  ".join(lines) + "\n}\n" + DECLARED.get(form, "")
+    return head + "\n  ".join(lines) + "\n}\n" + DECLARED[form]
+
+
+def by_slices(text):
+    """The module whose AES goes by slices. The shuffles are then in code that nothing runs; a program in which one is left has
+    a name that nothing defines."""
+    bodies = [body for _, body in CHOICE.findall(text)]
+    if len(bodies) != 1 or bodies[0].count("i1 true") != 1 or re.search(r"false|call|%a\d", bodies[0]):
+        raise Unported("the module has no function that says just that octets are shuffled")
+    text = CHOICE.sub(lambda it: it[1] + it[2].replace("i1 true", "i1 false"), text)
+    return text + "\ndeclare <16 x i8> @look_up(<16 x i8>, <16 x i8>)\n"
 
 
 def heap(name, given):
@@ -236,7 +195,8 @@ def ported(text, target):
     text = re.sub(r' ?"(probe-stack|stack-probe-size|target-cpu|frame-pointer)"="[^"]*"', "", text)
     text = re.sub(r"^(attributes #\d+ = \{) +\}$", r'\1 "ported" }', text, flags=re.M)  # (clang takes no empty group)
     text = re.sub(rf"^declare .*{re.escape(SHUFFLE)}\(.*\n", "", text, flags=re.M)
-    text = text.replace(SHUFFLE, "@look_up") + look_up(port.look_up, port.pointer)
+    text = text.replace(SHUFFLE, "@look_up")
+    text = text + look_up(port.look_up) if port.look_up else by_slices(text)
     left = sorted(set(re.findall(r"@llvm\.x86\.[\w.]+", text)))
     if left:
         raise Unported(f"instructions of x86-64 are left: {left}")

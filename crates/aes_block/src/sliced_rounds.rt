@@ -22,7 +22,7 @@ fn sub_bytes(words: [u32; 8]) -> [u32; 8]
 }
 
 // Each row of a slice is an octet, two bits a column: that of row r rotated by r columns.
-#[inline(always)]
+#[inline(never)]
 fn shift_slice(word: u32) -> u32
     ensures { (row k : ℕ) → row < 4 → k < 8 → bit_at result (8 * row + k) ≡ bit_at word (8 * row + (k + 2 * row) % 8) }
 {
@@ -36,7 +36,7 @@ fn shift_slice(word: u32) -> u32
 }
 
 // SHIFTROWS.
-#[inline(always)]
+#[inline(never)]
 fn shift_rows(words: [u32; 8]) -> [u32; 8]
     ensures { (lane : ℕ) → lane < 2 → state_in lane result ≡ cipher.shift_rows (state_in lane words) }
 {
@@ -110,7 +110,7 @@ fn mix_columns(words: [u32; 8]) -> [u32; 8]
 }
 
 // ADDROUNDKEY, of one key to both states.
-#[inline(always)]
+#[inline(never)]
 fn add_round_key(words: [u32; 8], key: u8x16) -> [u32; 8]
     ensures { (lane : ℕ) → lane < 2 → state_in lane result ≡ cipher.add_round_key (state_in lane words) key }
 {

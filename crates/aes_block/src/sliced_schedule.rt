@@ -30,7 +30,7 @@ fn change(round: usize, last: u32) -> u32
 }
 
 // The round key after `key`, which is that of `round`.
-#[inline(always)]
+#[inline(never)]
 fn next_columns(round: usize, key: [u32; 4]) -> [u32; 4]
     requires { round < 10 }
     ensures { (initial : List ℕ) → state_of_columns key ≡ round_key initial round → state_of_columns result ≡ round_key initial (round + 1) }
@@ -47,7 +47,9 @@ fn next_columns(round: usize, key: [u32; 4]) -> [u32; 4]
 pub(crate) fn plain_keys(first: u8x16) -> RoundKeys
     ensures { ArePlain first result.full result.last }
 {
-    let mut full = [TurnedKey { lanes: first }; 9];
+    let mut full = [TurnedKey {
+        lanes: u8x16::splat(0),
+    }; 9];
     let mut columns = columns_of(first);
     for round in 0..9 {
         let next = next_columns(round, columns);
