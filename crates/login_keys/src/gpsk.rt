@@ -1,9 +1,9 @@
 //! The key schedule and the MAC of EAP-GPSK.
 
-ghost use Rattle.std.specs.Prelude.{◌≡◌, ◌+◌, ◌*◌, ◌≤◌, length};
-ghost use Rattle.octet_lists.specs.Suite.{ks_of};
+ghost use Rattle.std.specs.Prelude.{◌≡◌, ℕ, ◌+◌, List, ◌++◌, ◌≤◌, length, take};
+ghost use Rattle.octet_lists.specs.Suite.{ks_of, suite_octets};
 ghost use Rattle.octet_lists.specs.Sizes.{max_name};
-ghost use Rattle.login_keys.specs.Gpsk.{gpsk_keys_of, gpsk_tag_of, keys_from, pk_size};
+ghost use Rattle.login_keys.specs.Gpsk.{gpsk_keys_of, gpsk_tag_of, input_string, keys_from, pk_size};
 ghost use Rattle.login_keys.specs.Gpsk as spec;
 
 mod derivation;
@@ -16,11 +16,8 @@ use hmac_mac::hmac_whole;
 pub use mac_key::MacKey;
 use octet_lists::{MAX_NAME, Octets, Suite, array_of};
 
-// The most octets of a block's number and inputString, of two nonces and two names.
-const FRONT_SIZE: usize = 2 + 2 * (32 + MAX_NAME);
-
-// The most octets from which MK is made: those, and PL, PSK and CSuite_Sel.
-const TEXT_SIZE: usize = FRONT_SIZE + 2 + 64 + 6;
+// The most octets from which MK is made: a block's number, PL, PSK, CSuite_Sel, and inputString of two nonces and two names.
+const TEXT_SIZE: usize = 2 + 2 + 64 + 6 + 2 * (32 + MAX_NAME);
 
 /// The keys of an EAP-GPSK login (RFC 5433, section 4). KS is 16 for suite 1 and 32 for suite 2.
 #[derive(Drop)]
@@ -39,6 +36,7 @@ pub struct GpskKeys {
 
 /// The keys that a peer and a server with the shared key `psk` derive from their nonces and names
 /// (RFC 5433, section 4). The shared key has 32 to 64 octets, a name at most 253.
+#[inline(never)]
 pub fn gpsk_keys(
     suite: Suite,
     psk: &[u8],
@@ -58,37 +56,74 @@ pub fn gpsk_keys(
     ensures sk_size { length result.sk ≡ ks_of suite }
     ensures pk_size { length result.pk ≡ pk_size suite }
 {
-    let mut front: Octets<FRONT_SIZE> = Octets::of(&[0; 2]);
-    front.put(rand_p);
-    front.put(id_p);
-    front.put(rand_s);
-    front.put(id_s);
-    let (_, input) = front.as_slice().split_at(2);
-    let mk = master_key(suite, psk, input);
-    let mut room = [0; FRONT_SIZE];
-    let text = &mut room[..front.len()];
-    text.copy_from_slice(front.as_slice());
-    let derived = derive(suite, 160, mk.as_slice(), text, &[]);
+    let mut room = [0; TEXT_SIZE];
+    let input = put_front(&mut room, suite, psk);
+    let end = put_input(&mut room, input, rand_p, id_p, rand_s, id_s);
+    let mk = master_key(suite, psk, &room[..end]);
+    let derived = derive(suite, 160, mk.as_slice(), &mut room[input - 2..end], &[]);
     cut_keys(suite, mk, derived.as_slice())
 }
 
-// The master key MK: the first block of its derivation is all of it.
-fn master_key(suite: Suite, psk: &[u8], input: &[u8]) -> Octets<32>
+// Writes octets behind the first `used` ones, and answers where they end.
+fn put(room: &mut [u8; TEXT_SIZE], used: usize, octets: &[u8]) -> usize
+    requires { used + length octets.now ≤ 644 }
+    ensures written { take result room.new ≡ take used room.old ++ octets.now }
+    ensures end { result ≡ used + length octets.now }
+{
+    let end = used + octets.len();
+    room[used..end].copy_from_slice(octets);
+    end
+}
+
+// Writes what MK is made from before inputString: a block's number 1, PL, PSK and CSuite_Sel. Answers where they end.
+fn put_front(room: &mut [u8; TEXT_SIZE], suite: Suite, psk: &[u8]) -> usize
+    requires { length psk.now ≤ 64 }
+    ensures written { take result room.new
+        ≡ spec.two_octets 1 ++ (spec.two_octets (length psk.now) ++ (psk.now ++ suite_octets suite)) }
+    ensures end { result ≡ 10 + length psk.now }
+{
+    let number_end = put(room, 0, &two_octets(1));
+    let size_end = put(room, number_end, &two_octets(psk.len() as u16));
+    let psk_end = put(room, size_end, psk);
+    put(room, psk_end, &suite.octets())
+}
+
+// Writes inputString behind the first `used` octets, and answers where it ends.
+fn put_input(
+    room: &mut [u8; TEXT_SIZE],
+    used: usize,
+    rand_p: &[u8; 32],
+    id_p: &[u8],
+    rand_s: &[u8; 32],
+    id_s: &[u8],
+) -> usize
+    requires front { used ≤ 74 }
+    requires peer_name { length id_p.now ≤ max_name }
+    requires server_name { length id_s.now ≤ max_name }
+    ensures written { take result room.new
+        ≡ take used room.old ++ input_string rand_p.now id_p.now rand_s.now id_s.now }
+    ensures end { result ≡ used + (64 + length id_p.now + length id_s.now) }
+{
+    let rand_end = put(room, used, rand_p);
+    let name_end = put(room, rand_end, id_p);
+    let both_end = put(room, name_end, rand_s);
+    put(room, both_end, id_s)
+}
+
+// The master key MK: the first block of its derivation, of this text, is all of it.
+#[inline(never)]
+fn master_key(suite: Suite, psk: &[u8], text: &[u8]) -> Octets<32>
     requires long_enough { 32 ≤ length psk.now }
-    requires short_enough { length psk.now ≤ 64 }
-    requires fields { length input.now ≤ 2 * (32 + max_name) }
-    ensures key { result ≡ spec.master_key suite psk.now input.now }
+    ensures key { (input : List ℕ)
+        → text.now ≡ (spec.two_octets 1 ++ (spec.two_octets (length psk.now) ++ (psk.now ++ suite_octets suite))) ++ input
+        → result ≡ spec.master_key suite psk.now input }
     ensures size { length result ≡ ks_of suite }
 {
-    let mut text: Octets<TEXT_SIZE> = Octets::of(&two_octets(1));
-    text.put(&two_octets(psk.len() as u16));
-    text.put(psk);
-    text.put(&suite.octets());
-    text.put(input);
-    gpsk_tag(suite, &psk[..suite.ks()], text.as_slice())
+    gpsk_tag(suite, &psk[..suite.ks()], text)
 }
 
 // The keys that are cut from the octets derived from the master key.
+#[inline(never)]
 fn cut_keys(suite: Suite, mk: Octets<32>, derived: &[u8]) -> GpskKeys
     requires { length derived.now ≡ 160 }
     ensures keys { result ≡ keys_from suite mk derived.now }

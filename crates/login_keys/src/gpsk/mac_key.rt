@@ -2,6 +2,7 @@
 
 ghost use Rattle.std.specs.Prelude.{◌≡◌, ℕ, List, ◌++◌, length, map};
 ghost use Rattle.std.specs.List.{concat};
+ghost use Rattle.cmac_mac.specs.Cmac.{aes_cmac};
 ghost use Rattle.hmac_mac.specs.Hmac.{hmac_sha256};
 ghost use Rattle.hmac_mac.specs.Represents.{IsKeyOf};
 ghost use Rattle.octet_lists.specs.Suite.{ks_of};
@@ -46,7 +47,7 @@ impl MacKey {
             return self.tag_whole(front);
         }
         match self {
-            MacKey::Cmac(key) => Octets::of(&key.tag(front, pieces)),
+            MacKey::Cmac(key) => Octets::of(&cmac_tag(key, front, pieces)),
             MacKey::Hmac(key) => Octets::of(&hmac_tag(key, front, pieces)),
         }
     }
@@ -64,7 +65,17 @@ impl MacKey {
     }
 }
 
-// HMAC-SHA256 of the text that begins with `front` and goes on with the pieces.
+// AES-CMAC of the text that begins with `front` and goes on with the pieces. It is never inlined, so that a text of one piece
+// has no room for it on the stack.
+#[inline(never)]
+fn cmac_tag(key: &CmacKey, front: &[u8], pieces: &[&[u8]]) -> [u8; 16]
+    ensures { result ≡ aes_cmac key.now (front.now ++ concat (map (λ p. p.now) pieces.now)) }
+{
+    key.tag(front, pieces)
+}
+
+// HMAC-SHA256 of the same, never inlined for the same reason.
+#[inline(never)]
 fn hmac_tag(key: &HmacKey, front: &[u8], pieces: &[&[u8]]) -> [u8; 32]
     ensures { (octets : List ℕ) → IsKeyOf key.now octets
         → result ≡ hmac_sha256 octets (front.now ++ concat (map (λ p. p.now) pieces.now)) }

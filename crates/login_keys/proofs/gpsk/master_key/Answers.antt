@@ -16,15 +16,18 @@ unfolding gkdf gkdf_blocks gkdf_block
 one_block Cmac y z = whole_block _ 16 (length_gpsk_tag_of Cmac y (two_octets 1 ++ z))
 one_block Hmac y z = whole_block _ 32 (length_gpsk_tag_of Hmac y (two_octets 1 ++ z))
 
+-- the front and inputString, the number of the block apart
+joined_behind : (one size psk sel input : List ℕ) → (one ++ (size ++ (psk ++ sel))) ++ input ≡ one ++ (size ++ (psk ++ (sel ++ input)))
+joined_behind one size psk sel input = simp append_assoc
+
 pub returns-clause-key : goal.returns-clause-key
 unfolding master_key
-returns-clause-key c =
+returns-clause-key c = λ input is_text.
     let suite : Suite = c.args.suite in
-    let z : List ℕ = two_octets (length c.args.psk.now) ++ (c.args.psk.now ++ (suite_octets suite ++ c.args.input.now)) in
-    let is_text : c.as_slice.result.now ≡ two_octets 1 ++ z =
-    rw (c.as_slice.ensures.same, c.put-4.ensures, c.put-3.ensures, c.put-2.ensures, c.put.ensures, c.of-text.ensures, c.two_octets.ensures, c.two_octets-2.ensures, c.octets.ensures)
-    (ap (λ (l : List ℕ). two_octets 1 ++ (two_octets (length c.args.psk.now) ++ l)) (append_assoc c.args.psk.now (suite_octets suite) c.args.input.now)) in
+    let size : List ℕ = two_octets (length c.args.psk.now) in
+    let z : List ℕ = size ++ (c.args.psk.now ++ (suite_octets suite ++ input)) in
+    let same : c.args.text.now ≡ two_octets 1 ++ z = is_text ∙ joined_behind (two_octets 1) size c.args.psk.now (suite_octets suite) input in
     c.gpsk_tag.ensures.tag
-    ∙ ap (gpsk_tag_of suite (take c.ks.result c.args.psk.now)) is_text
+    ∙ ap (gpsk_tag_of suite (take c.ks.result c.args.psk.now)) same
     ∙ ap (λ (k : ℕ). gpsk_tag_of suite (take k c.args.psk.now) (two_octets 1 ++ z)) c.ks.ensures
     ∙ sym (one_block suite (take (ks_of suite) c.args.psk.now) z)
