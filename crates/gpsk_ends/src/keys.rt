@@ -2,7 +2,6 @@
 
 ghost use Rattle.std.specs.Prelude.{◌≡◌, ◌≤◌, ◌+◌, ◌∷◌, [], length, IsTrue};
 ghost use Rattle.octet_lists.specs.Suite.{ks_of};
-ghost use Rattle.octet_lists.specs.Sizes.{max_name};
 ghost use Rattle.eap_packet.specs.Packet.{has_type};
 ghost use Rattle.eap_packet.specs.Expanded.{max_wrapped};
 ghost use Rattle.gpsk_messages.specs.Message.{message_of, mac_of, size_of, spelled, without_mac};
@@ -14,8 +13,8 @@ use crate::sealing::{BEFORE_COVERED, write_front};
 use eap_method::{Records, TagList};
 use eap_packet::Code;
 use gpsk_messages::{GpskMessage, covered_part, mac_part};
-use login_keys::{GpskKeys, MacKey, gpsk_keys};
-use octet_lists::{Nonce, Packet, Secret, Suite, equal_in_full};
+use login_keys::{GpskKeys, MacKey};
+use octet_lists::{Packet, Secret, Suite, equal_in_full};
 use std::marker::Model;
 
 /// The keys of a login under CSuite_Sel. Contracts see the suite and the keys; SK is kept expanded.
@@ -39,25 +38,15 @@ impl Model for Keys {
 }
 
 impl Keys {
-    ghost use Rattle.login_keys.specs.Gpsk.{gpsk_keys_of};
     ghost use Rattle.eap_method.specs.GpskTags.{is_tagged};
 
-    /// The keys that a peer and a server with the shared key `psk` derive from their nonces and names
-    /// (RFC 5433 section 4).
-    pub(crate) fn new(
-        suite: Suite,
-        psk: &Secret,
-        rand_p: &Nonce,
-        id_p: &[u8],
-        rand_s: &Nonce,
-        id_s: &[u8],
-    ) -> Keys
-        requires key { 32 ≤ length psk.now }
-        requires peer_name { length id_p.now ≤ max_name }
-        requires server_name { length id_s.now ≤ max_name }
-        ensures { result ≡ record { suite = suite; keys = gpsk_keys_of suite psk.now rand_p.now id_p.now rand_s.now id_s.now } }
+    /// The keys of a login under this suite, SK expanded. It is never inlined, so that no keys are derived above them on the
+    /// stack.
+    #[inline(never)]
+    pub(crate) fn new(suite: Suite, keys: GpskKeys) -> Keys
+        requires { length keys.sk ≡ ks_of suite }
+        ensures { result ≡ record { suite = suite; keys = keys } }
     {
-        let keys = gpsk_keys(suite, psk.as_slice(), rand_p, id_p, rand_s, id_s);
         let mac = MacKey::new(suite, keys.sk.as_slice());
         Keys { suite, keys, mac }
     }

@@ -18,6 +18,7 @@ use crate::sealing::mac_place;
 use eap_method::{Credential, Records, Report, TagList};
 use eap_packet::Code;
 use gpsk_messages::{Gpsk2, Gpsk3, Gpsk4, GpskMessage};
+use login_keys::{GpskKeys, gpsk_keys};
 use octet_lists::{GPSK_KIND, Identity, Nonce, Octets, Packet, Suite};
 use std::marker::Model;
 
@@ -34,15 +35,27 @@ impl Initial {
     ghost use Rattle.std.specs.Prelude.{◌≡◌};
     ghost use Rattle.gpsk_ends.specs.PeerStage.{keys_with};
 
+    /// An equal value.
+    pub fn copy(&self) -> Initial
+        ensures cred { result.cred ≡ self.now.cred }
+        ensures nonce { result.nonce ≡ self.now.nonce }
+    {
+        Initial {
+            cred: self.cred.copy(),
+            nonce: self.nonce,
+        }
+    }
+
     /// The keys of the login that begins with an offer: they are derived here alone (RFC 5433 section 4).
     #[tactic(auto, unfolding(eap_method::specs::GpskPeer::keys_of))]
-    pub fn keys(&self, offer: &Offer) -> Keys
-        ensures { result ≡ keys_with self.now.cred self.now.nonce offer.now }
+    pub fn keys(&self, offer: &Offer) -> GpskKeys
+        ensures keys { result ≡ (keys_with self.now.cred self.now.nonce offer.now).keys }
+        ensures size { length result.sk ≡ ks_of offer.now.suite }
     {
-        let psk = &self.cred.psk;
+        let psk = self.cred.psk.as_slice();
         let id_p = self.cred.id_p.as_slice();
         let rand_s = &offer.rand_s;
-        Keys::new(offer.suite, psk, &self.nonce, id_p, rand_s, offer.id_s)
+        gpsk_keys(offer.suite, psk, &self.nonce, id_p, rand_s, offer.id_s)
     }
 }
 
@@ -76,15 +89,12 @@ impl Login {
     ghost use Rattle.gpsk_ends.specs.PeerStage.{keys_with, login_with};
 
     /// The login that begins with an offer, with its keys.
-    pub fn new(own: &Initial, offer: &Offer, keys: Keys) -> Login
-        requires { keys ≡ keys_with own.now.cred own.now.nonce offer.now }
-        ensures { result ≡ login_with own.now.cred own.now.nonce offer.now }
+    pub fn new(own: Initial, offer: &Offer, keys: Keys) -> Login
+        requires { keys ≡ keys_with own.cred own.nonce offer.now }
+        ensures { result ≡ login_with own.cred own.nonce offer.now }
     {
         Login {
-            own: Initial {
-                cred: own.cred.copy(),
-                nonce: own.nonce,
-            },
+            own,
             id_s: Octets::of(offer.id_s),
             rand_s: offer.rand_s,
             keys,

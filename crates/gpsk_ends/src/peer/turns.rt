@@ -8,7 +8,7 @@ ghost use Rattle.eap_packet.specs.Packet.{max_type_data};
 ghost use Rattle.gpsk_messages.specs.Message.{max_list, message_of};
 ghost use Rattle.gpsk_messages.specs.Reading.{read_of};
 ghost use Rattle.eap_method.specs.Turns.{fault_if, discarded};
-ghost use Rattle.eap_method.specs.GpskPeer.{answers, fresh, fresh_reads, over, over_reads, step};
+ghost use Rattle.eap_method.specs.GpskPeer.{answers, fresh, fresh_reads, over, over_reads, step, wait};
 ghost use Rattle.eap_method.specs.GpskPeer.{confirms, repeats_fail, repeats_protected, is_tagged_by, wait_reads};
 ghost use Rattle.eap_method.specs.Capacity.{HasCapacity, replies};
 ghost use Rattle.gpsk_ends.specs.Classified.{IsReceived};
@@ -21,13 +21,14 @@ ghost use Rattle.eap_method.specs.declared.values.Decision.TheVariants.{Fail};
 
 use crate::keys::Keys;
 use crate::peer::gpsk1::fresh_reads;
-use crate::peer::login::Login;
+use crate::peer::login::{Initial, Login};
 use crate::peer::offer::Offer;
 use crate::peer::stage::{Phase, Stage};
 use crate::receiving::receive;
 use eap_method::{Decision, MethodState, PeerAnswer, Records, Tags};
 use eap_packet::{Cause, Code};
 use gpsk_messages::{GpskMessage, write_gpsk_into};
+use login_keys::GpskKeys;
 use octet_lists::Packet;
 
 /// The login's GPSK-1 is answered by GPSK-2. `list` is the CSuite_List of GPSK-1.
@@ -51,9 +52,7 @@ fn answer<R: Records>(
     }
 }
 
-/// The offer that a peer accepts is answered by GPSK-2, and the login begins. It is never inlined, so that no keys are derived
-/// above the octets of the login on the stack.
-#[inline(never)]
+/// The offer that a peer accepts is answered by GPSK-2, and the login begins.
 fn log_in<R: Records>(
     stage: &mut Stage,
     offer: &Offer,
@@ -70,11 +69,51 @@ fn log_in<R: Records>(
     let Stage::Fresh { own } = stage else {
         return PeerAnswer::Discard(Cause::WrongOp);
     };
-    let login = Login::new(own, offer, keys);
-    let turn = answer(&login, id, offer.list, packet, tags);
+    let own = own.copy();
+    settle(stage, own, offer, keys);
+    let Stage::Login { login, .. } = stage else {
+        return PeerAnswer::Discard(Cause::WrongOp);
+    };
+    answer(login, id, offer.list, packet, tags)
+}
+
+/// The login begins. It is never inlined, so that what the answer needs does not lie above a second login on the stack.
+#[inline(never)]
+fn settle(stage: &mut Stage, own: Initial, offer: &Offer, keys: Keys)
+    requires { keys ≡ keys_with own.cred own.nonce offer.now }
+    ensures { view_of stage.new ≡ wait (login_with own.cred own.nonce offer.now) }
+{
+    store(stage, Login::new(own, offer, keys));
+}
+
+/// The peer awaits GPSK-3. (By itself, since the compiler then builds the state where it stays.)
+fn store(stage: &mut Stage, login: Login)
+    ensures { view_of stage.new ≡ wait login }
+{
     let phase = Phase::Wait;
     *stage = Stage::Login { login, phase };
-    turn
+}
+
+/// The login begins with these keys, SK expanded. It is never inlined, so that no keys are derived above those that are expanded
+/// on the stack.
+#[inline(never)]
+fn expand<R: Records>(
+    stage: &mut Stage,
+    offer: &Offer,
+    keys: GpskKeys,
+    id: u8,
+    packet: &mut Packet,
+    tags: &mut Tags<R>,
+) -> PeerAnswer
+    requires keys { (cred : Credential) (nonce : List ℕ) → view_of stage.old ≡ fresh cred nonce
+        → keys ≡ (keys_with cred nonce offer.now).keys }
+    requires size { length keys.sk ≡ ks_of offer.now.suite }
+    ensures turn { (cred : Credential) (nonce : List ℕ) → view_of stage.old ≡ fresh cred nonce
+        → outcome_with result packet.new tags.new (view_of stage.new) ≡ answers (login_with cred nonce offer.now) id offer.now.list.now }
+    ensures capacity { replies result ≡ true → HasCapacity packet.new }
+{
+    let keys = Keys::new(offer.suite, keys);
+    log_in(stage, offer, keys, id, packet, tags)
 }
 
 /// The Type-Data at a peer that has begun.
@@ -97,7 +136,7 @@ fn answer_first<R: Records>(
         Err(cause) => PeerAnswer::Discard(cause),
         Ok(offer) => {
             let keys = own.keys(&offer);
-            log_in(stage, &offer, keys, id, packet, tags)
+            expand(stage, &offer, keys, id, packet, tags)
         }
     }
 }

@@ -3,12 +3,13 @@
 ghost use Rattle.std.specs.Prelude.{◌≡◌, ◌≤◌, ℕ, List, length, true, All, IsTrue, IfSome, None, option_copied};
 ghost use Rattle.octet_lists.specs.Among.{gpsk_kind};
 ghost use Rattle.octet_lists.specs.Sizes.{max_name};
+ghost use Rattle.octet_lists.specs.Suite.{ks_of};
 ghost use Rattle.eap_packet.specs.Packet.{max_type_data};
 ghost use Rattle.login_setup.specs.Setup.{is_valid_for};
 ghost use Rattle.login_setup.specs.Users.{user_of};
 ghost use Rattle.gpsk_messages.specs.Message.{message_of};
 ghost use Rattle.gpsk_messages.specs.Reading.{read_of};
-ghost use Rattle.eap_method.specs.GpskServer.{asked, refusing, refuses, answers, asked_receives, asked_reads};
+ghost use Rattle.eap_method.specs.GpskServer.{asked, checked, checks, refusing, refuses, answers, asked_receives, asked_reads};
 ghost use Rattle.eap_method.specs.declared.values.ServerSide.{ServerSide};
 ghost use Rattle.eap_method.specs.Capacity.{HasCapacity, requests};
 ghost use Rattle.gpsk_ends.specs.Classified.{IsReceived};
@@ -17,11 +18,12 @@ ghost use Rattle.eap_method.specs.declared.turn.ServerAnswer.TheVariants.{Reques
 
 use crate::keys::Keys;
 use crate::receiving::receive;
-use crate::server::login::Login;
+use crate::server::login::{Initial, Login};
 use crate::server::stage::{Alone, Phase, Stage};
 use eap_method::{Records, ServerAnswer, Tags};
 use eap_packet::{Cause, Code};
 use gpsk_messages::{Gpsk2, GpskMessage, write_gpsk_into};
+use login_keys::GpskKeys;
 use login_setup::{User, Users};
 use octet_lists::{GPSK_KIND, Packet};
 
@@ -77,8 +79,8 @@ fn find_user<'a>(users: &'a Users, id_p: &[u8]) -> Option<&'a User>
     users.find(id_p, GPSK_KIND)
 }
 
-/// GPSK-2 without a fault is answered, and the login begins. It is never inlined, so that no keys are derived above the octets of
-/// the login on the stack.
+/// GPSK-2 without a fault is answered, and the login begins. It is never inlined, so that no keys are derived above what the
+/// server brought into the login on the stack.
 #[inline(never)]
 fn log_in<R: Records>(
     stage: &mut Stage,
@@ -105,10 +107,61 @@ fn log_in<R: Records>(
     else {
         return ServerAnswer::Discard(Cause::WrongOp);
     };
-    let login = Login::new(own, gpsk2, user, keys);
-    let phase = answer(&login, user.barred, next_id, view, body, packet, tags);
-    *stage = Stage::Login { login, phase };
+    let own = own.copy();
+    settle(stage, own, gpsk2, user, keys);
+    let Stage::Login { login, phase } = stage else {
+        return ServerAnswer::Discard(Cause::WrongOp);
+    };
+    *phase = answer(login, user.barred, next_id, view, body, packet, tags);
     ServerAnswer::Request
+}
+
+/// The login begins. It is never inlined, so that what the answer needs does not lie above a second login on the stack.
+#[inline(never)]
+fn settle(stage: &mut Stage, own: Initial, gpsk2: &Gpsk2, user: &User, keys: Keys)
+    requires name { length gpsk2.now.id_p.now ≤ max_name }
+    requires keys { keys ≡ keys_with own.side own.nonce gpsk2.now user.now }
+    ensures { view_of stage.new ≡ checked (login_with own.side own.nonce gpsk2.now user.now) }
+{
+    store(stage, Login::new(own, gpsk2, user, keys));
+}
+
+/// The server awaits GPSK-4. (By itself, since the compiler then builds the state where it stays.)
+fn store(stage: &mut Stage, login: Login)
+    ensures { view_of stage.new ≡ checked login }
+{
+    let phase = Phase::Checked;
+    *stage = Stage::Login { login, phase };
+}
+
+/// GPSK-2 of a user under these keys. `BadTag`: its MAC is wrong. It is never inlined, so that no keys are derived above those
+/// that are expanded on the stack.
+#[inline(never)]
+fn check<R: Records>(
+    stage: &mut Stage,
+    gpsk2: &Gpsk2,
+    user: &User,
+    keys: GpskKeys,
+    next_id: u8,
+    view: &GpskMessage,
+    body: &[u8],
+    packet: &mut Packet,
+    tags: &mut Tags<R>,
+) -> ServerAnswer
+    requires received { IsReceived (message_of view.now) body.now }
+    requires name { length gpsk2.now.id_p.now ≤ max_name }
+    requires keys { (own : ServerSide) (nonce : List ℕ) → view_of stage.old ≡ asked own nonce
+        → keys ≡ (keys_with own nonce gpsk2.now user.now).keys }
+    requires size { length keys.sk ≡ ks_of gpsk2.now.suite }
+    ensures turn { (own : ServerSide) (nonce : List ℕ) → view_of stage.old ≡ asked own nonce → outcome_with result packet.new tags.new (view_of stage.new)
+        ≡ checks (login_with own nonce gpsk2.now user.now) user.now.barred next_id (message_of view.now) }
+    ensures capacity { requests result ≡ true → HasCapacity packet.new }
+{
+    let keys = Keys::new(gpsk2.suite, keys);
+    if !keys.is_tagged(view, body) {
+        return ServerAnswer::Discard(Cause::BadTag);
+    }
+    log_in(stage, gpsk2, user, keys, next_id, view, body, packet, tags)
 }
 
 /// A message at a server that has sent GPSK-1. `FieldMismatch`: GPSK-2 does not repeat what GPSK-1 said.
@@ -147,10 +200,7 @@ fn asked_receives<R: Records>(
         return ServerAnswer::Request;
     };
     let keys = own.keys(gpsk2, user);
-    if !keys.is_tagged(view, body) {
-        return ServerAnswer::Discard(Cause::BadTag);
-    }
-    log_in(stage, gpsk2, user, keys, next_id, view, body, packet, tags)
+    check(stage, gpsk2, user, keys, next_id, view, body, packet, tags)
 }
 
 /// The Type-Data at a server that has sent GPSK-1.

@@ -19,6 +19,7 @@ use crate::sealing::mac_place;
 use eap_method::{Records, Report, ServerSide, TagList};
 use eap_packet::Code;
 use gpsk_messages::{Gpsk1, Gpsk2, Gpsk3, GpskMessage, write_gpsk_into};
+use login_keys::{GpskKeys, gpsk_keys};
 use login_setup::User;
 use octet_lists::{GPSK_KIND, Identity, Nonce, Octets, Packet, Secret, Suite};
 use std::marker::Model;
@@ -38,6 +39,17 @@ impl Initial {
     ghost use Rattle.eap_method.specs.GpskTags.{suite_list};
     ghost use Rattle.eap_method.specs.GpskServer.{first, repeats};
     ghost use Rattle.gpsk_ends.specs.ServerStage.{keys_with};
+
+    /// An equal value.
+    pub fn copy(&self) -> Initial
+        ensures side { result.side ≡ self.now.side }
+        ensures nonce { result.nonce ≡ self.now.nonce }
+    {
+        Initial {
+            side: self.side.copy(),
+            nonce: self.nonce,
+        }
+    }
 
     /// CSuite_List: the entry of each suite that the server offers, in six octets (RFC 5433 section 9.2).
     #[tactic(auto, unfolding(eap_method::specs::GpskTags::suite_list))]
@@ -78,15 +90,16 @@ impl Initial {
 
     /// The keys of the login of the user that GPSK-2 names: they are derived here alone (RFC 5433 section 4).
     #[tactic(auto, unfolding(eap_method::specs::GpskServer::keys_of))]
-    pub fn keys(&self, gpsk2: &Gpsk2, user: &User) -> Keys
+    pub fn keys(&self, gpsk2: &Gpsk2, user: &User) -> GpskKeys
         requires name { length gpsk2.now.id_p.now ≤ max_name }
         requires key { 32 ≤ length user.now.psk }
-        ensures { result ≡ keys_with self.now.side self.now.nonce gpsk2.now user.now }
+        ensures keys { result ≡ (keys_with self.now.side self.now.nonce gpsk2.now user.now).keys }
+        ensures size { length result.sk ≡ ks_of gpsk2.now.suite }
     {
-        let psk = &user.psk;
+        let psk = user.psk.as_slice();
         let rand_p = &gpsk2.rand_p;
         let id_s = self.side.id_s.as_slice();
-        Keys::new(gpsk2.suite, psk, rand_p, gpsk2.id_p, &self.nonce, id_s)
+        gpsk_keys(gpsk2.suite, psk, rand_p, gpsk2.id_p, &self.nonce, id_s)
     }
 
     /// Whether the suite is one that the server offers.
@@ -131,16 +144,13 @@ impl Login {
     ghost use Rattle.gpsk_ends.specs.ServerStage.{keys_with, login_with};
 
     /// The login of the user that GPSK-2 names, with its keys.
-    pub fn new(own: &Initial, gpsk2: &Gpsk2, user: &User, keys: Keys) -> Login
+    pub fn new(own: Initial, gpsk2: &Gpsk2, user: &User, keys: Keys) -> Login
         requires name { length gpsk2.now.id_p.now ≤ max_name }
-        requires keys { keys ≡ keys_with own.now.side own.now.nonce gpsk2.now user.now }
-        ensures { result ≡ login_with own.now.side own.now.nonce gpsk2.now user.now }
+        requires keys { keys ≡ keys_with own.side own.nonce gpsk2.now user.now }
+        ensures { result ≡ login_with own.side own.nonce gpsk2.now user.now }
     {
         Login {
-            own: Initial {
-                side: own.side.copy(),
-                nonce: own.nonce,
-            },
+            own,
             id_p: Octets::of(gpsk2.id_p),
             psk: user.psk.copy(),
             rand_p: gpsk2.rand_p,
