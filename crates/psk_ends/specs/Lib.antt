@@ -3,3 +3,4 @@ pub mod Failures
 pub mod Nonces
 pub mod PeerStage
 pub mod ServerStage
+pub mod PeerKeys

@@ -23,6 +23,47 @@ pub struct Initial {
     ghost sixteen: { length cred.psk ≡ 16 },
 }
 
+/// The keys of a login, which are derived once.
+#[derive(Drop)]
+pub struct Keys {
+    /// AK, expanded.
+    pub ak: CmacKey,
+    /// TEK, MSK and EMSK.
+    pub keys: PskKeys,
+    /// TEK, expanded.
+    pub tek: CmacKey,
+}
+
+impl Initial {
+    ghost use Rattle.psk_ends.specs.PeerKeys.{AreKeysOf};
+
+    /// An equal value.
+    pub fn copy(&self) -> Initial
+        ensures cred { result.cred ≡ self.now.cred }
+        ensures nonce { result.nonce ≡ self.now.nonce }
+    {
+        Initial {
+            cred: self.cred.copy(),
+            nonce: self.nonce,
+        }
+    }
+
+    /// The keys of the login: they are derived here alone (RFC 4764 section 3.2). It is never inlined, so that they are not
+    /// derived above the octets of the login on the stack.
+    #[inline(never)]
+    pub fn keys(&self) -> Keys
+        ensures { AreKeysOf self.now.cred.psk self.now.nonce result }
+    {
+        let PskLong { ak, kdk } = long_keys(&self.cred.psk);
+        let keys = psk_session(&kdk, &rand_of(&self.nonce));
+        Keys {
+            ak: CmacKey::new(&ak),
+            tek: CmacKey::new(&keys.tek),
+            keys,
+        }
+    }
+}
+
 /// A login after PSK-1, with its keys, which are derived once. Contracts see what they come from.
 #[derive(Drop)]
 pub struct Login {
@@ -31,50 +72,38 @@ pub struct Login {
     id_s: Identity,
     /// RAND_S.
     rand_s: [u8; 16],
-    /// AK, expanded.
-    ak: CmacKey,
-    /// TEK, MSK and EMSK.
-    keys: PskKeys,
-    /// TEK, expanded.
-    tek: CmacKey,
+    keys: Keys,
 }
 
 impl Model for Login {
     ghost use Rattle.std.specs.Prelude.{◌≡◌, length};
-    ghost use Rattle.login_keys.specs.Psk.{psk_long_of, psk_keys_of};
-    ghost use Rattle.eap_method.specs.PskTags.{rand_of};
     ghost use Rattle.eap_method.specs.PskPeer as peer;
+    ghost use Rattle.psk_ends.specs.PeerKeys.{AreKeysOf};
 
     ghost Value = { peer.Login };
 
     ghost view = { λ l. record { cred = l.own.cred; nonce = l.own.nonce; id_s = l.id_s; rand_s = l.rand_s } };
 
-    ghost invariant = { λ l. (l.ak ≡ (psk_long_of l.own.cred.psk).ak) × (l.keys ≡ psk_keys_of (psk_long_of l.own.cred.psk).kdk (rand_of l.own.nonce))
-        × (l.tek ≡ l.keys.tek) × (length l.rand_s ≡ 16) };
+    ghost invariant = { λ l. AreKeysOf l.own.cred.psk l.own.nonce l.keys × (length l.rand_s ≡ 16) };
 }
 
 impl Login {
     ghost use Rattle.eap_method.specs.PskTags.{ak_record};
     ghost use Rattle.eap_method.specs.PskPeer.{rand_p_of, ak_of, keys_of, mac_p_covers, mac_p_of, mac_s_covers, mac_s_of, report_of};
     ghost use Rattle.psk_ends.specs.Nonces.{peer_nonces_of};
+    ghost use Rattle.psk_ends.specs.PeerKeys.{AreKeysOf};
     ghost use Rattle.psk_ends.specs.PeerStage.{login_with};
 
     /// The login of a peer that has accepted PSK-1.
-    pub fn new(own: &Initial, psk1: &Psk1) -> Login
-        requires { length psk1.now.id_s.now ≤ max_name }
-        ensures { result ≡ login_with own.now psk1.now }
+    pub fn new(own: Initial, psk1: &Psk1, keys: Keys) -> Login
+        requires name { length psk1.now.id_s.now ≤ max_name }
+        requires keys { AreKeysOf own.cred.psk own.nonce keys }
+        ensures { result ≡ login_with own psk1.now }
     {
-        let PskLong { ak, kdk } = long_keys(&own.cred.psk);
-        let keys = psk_session(&kdk, &rand_of(&own.nonce));
         Login {
-            own: Initial {
-                cred: own.cred.copy(),
-                nonce: own.nonce,
-            },
+            own,
             id_s: Octets::of(psk1.id_s),
             rand_s: psk1.rand_s,
-            ak: CmacKey::new(&ak),
-            tek: CmacKey::new(&keys.tek),
             keys,
         }
     }
@@ -113,7 +142,7 @@ impl Login {
     pub fn tek(&self) -> &CmacKey
         ensures { result.now ≡ (keys_of self.now).tek }
     {
-        &self.tek
+        &self.keys.tek
     }
 
     /// MAC_P (RFC 4764 section 5.2).
@@ -123,7 +152,7 @@ impl Login {
     {
         let rand_p = self.rand_p();
         mac_p(
-            &self.ak,
+            &self.keys.ak,
             self.own.cred.id_p.as_slice(),
             self.id_s.as_slice(),
             &self.rand_s,
@@ -136,7 +165,7 @@ impl Login {
     pub fn mac_s(&self) -> [u8; 16]
         ensures { result ≡ mac_s_of self.now }
     {
-        mac_s(&self.ak, self.id_s.as_slice(), &self.rand_p())
+        mac_s(&self.keys.ak, self.id_s.as_slice(), &self.rand_p())
     }
 
     /// Adds the record of this MAC_P.
@@ -187,8 +216,8 @@ impl Login {
             id_p: self.own.cred.id_p.copy(),
             id_s: self.id_s.copy(),
             suite: 0,
-            msk: self.keys.msk,
-            emsk: self.keys.emsk,
+            msk: self.keys.keys.msk,
+            emsk: self.keys.keys.emsk,
         }
     }
 }

@@ -1,21 +1,24 @@
 //! A peer's turn for each Request (RFC 4764 section 4).
 
-ghost use Rattle.std.specs.Prelude.{◌≡◌, ◌≤◌, length, true, IfOk};
+ghost use Rattle.std.specs.Prelude.{◌≡◌, ◌≤◌, ℕ, List, length, true, IfOk};
 ghost use Rattle.octet_lists.specs.Sizes.{max_name};
 ghost use Rattle.psk_messages.specs.Message.{psk2};
 ghost use Rattle.psk_messages.specs.Reading.{read_of};
 ghost use Rattle.eap_method.specs.Capacity.{HasCapacity, replies};
+ghost use Rattle.eap_method.specs.declared.values.Credential.{Credential};
 ghost use Rattle.eap_method.specs.declared.turn.PeerAnswer.TheVariants.{Reply};
 ghost use Rattle.eap_method.specs.declared.values.MethodState.TheVariants.{Cont};
 ghost use Rattle.eap_method.specs.declared.values.Decision.TheVariants.{Fail};
 ghost use Rattle.eap_method.specs.Turns.{id_of, body_of};
 ghost use Rattle.eap_method.specs.PskTags.{psk_response, header_of};
-ghost use Rattle.eap_method.specs.PskPeer.{wait, rand_p_of, answers, fresh_reads, wait_reads, step};
-ghost use Rattle.psk_ends.specs.PeerStage.{in_phase, view_of, outcome_with, fresh_with};
+ghost use Rattle.eap_method.specs.PskPeer.{wait, fresh, rand_p_of, answers, fresh_reads, wait_reads, step};
+ghost use Rattle.psk_ends.specs.PeerStage.{in_phase, view_of, outcome_with, fresh_with, login_with};
+ghost use Rattle.psk_ends.specs.PeerKeys.{AreKeysOf};
+ghost use Rattle.psk_ends.specs.declared.peer.login.Initial.{Initial};
 ghost use Rattle.psk_ends.specs.declared.peer.stage.Phase.TheVariants.{Wait};
 
 use crate::octets::{header_of, idle_cause, message_in};
-use crate::peer::login::{Initial, Login};
+use crate::peer::login::{Initial, Keys, Login};
 use crate::peer::psk4::handle_psk3;
 use crate::peer::stage::{Phase, Stage};
 use eap_method::{Decision, MethodState, PeerAnswer, Records, Tags};
@@ -74,6 +77,50 @@ fn answer<R: Records>(login: &Login, id: u8, packet: &mut Packet, tags: &mut Tag
     }
 }
 
+/// The PSK-1 that a peer accepts is answered by PSK-2, and the login begins.
+fn log_in<R: Records>(
+    stage: &mut Stage,
+    psk1: &Psk1,
+    keys: Keys,
+    id: u8,
+    packet: &mut Packet,
+    tags: &mut Tags<R>,
+) -> PeerAnswer
+    requires name { length psk1.now.id_s.now ≤ max_name }
+    requires keys { (cred : Credential) (nonce : List ℕ) → view_of stage.old ≡ fresh cred nonce → AreKeysOf cred.psk nonce keys }
+    ensures turn { (own : Initial) → view_of stage.old ≡ fresh own.cred own.nonce
+        → outcome_with result packet.new tags.new (view_of stage.new) ≡ answers (login_with own psk1.now) id }
+    ensures capacity { replies result ≡ true → HasCapacity packet.new }
+{
+    let Stage::Fresh { own } = stage else {
+        return PeerAnswer::Discard(Cause::WrongOp);
+    };
+    let own = own.copy();
+    settle(stage, own, psk1, keys);
+    let Stage::Known { login, .. } = stage else {
+        return PeerAnswer::Discard(Cause::WrongOp);
+    };
+    answer(login, id, packet, tags)
+}
+
+/// The login begins. It is never inlined, so that what the answer needs does not lie above a second login on the stack.
+#[inline(never)]
+fn settle(stage: &mut Stage, own: Initial, psk1: &Psk1, keys: Keys)
+    requires name { length psk1.now.id_s.now ≤ max_name }
+    requires keys { AreKeysOf own.cred.psk own.nonce keys }
+    ensures { view_of stage.new ≡ wait (login_with own psk1.now) }
+{
+    store(stage, Login::new(own, psk1, keys));
+}
+
+/// The peer awaits PSK-3. (By itself, since the compiler then builds the state where it stays.)
+fn store(stage: &mut Stage, login: Login)
+    ensures { view_of stage.new ≡ wait login }
+{
+    let phase = Phase::Wait;
+    *stage = Stage::Known { login, phase };
+}
+
 /// A Request at a peer that has sent PSK-2.
 fn wait_reads<R: Records>(
     login: &Login,
@@ -115,11 +162,8 @@ pub fn handle_request<R: Records>(
         Stage::Fresh { own } => match fresh_reads(own, request) {
             Err(cause) => PeerAnswer::Discard(cause),
             Ok(psk1) => {
-                let login = Login::new(own, &psk1);
-                let turn = answer(&login, request[1], packet, tags);
-                let phase = Phase::Wait;
-                *stage = Stage::Known { login, phase };
-                turn
+                let keys = own.keys();
+                log_in(stage, &psk1, keys, request[1], packet, tags)
             }
         },
         Stage::Known { login, phase } => match phase {

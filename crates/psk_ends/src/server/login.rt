@@ -3,7 +3,7 @@
 ghost use Rattle.std.specs.Prelude.{◌≡◌, ◌≤◌, ◌<◌, [], ◌∷◌, ◌++◌, length};
 ghost use Rattle.octet_lists.specs.Sizes.{max_name};
 ghost use Rattle.cmac_mac.specs.Cmac.{aes_cmac};
-ghost use Rattle.login_keys.specs.Psk.{psk_long_of};
+ghost use Rattle.login_keys.specs.Psk.{psk_keys_of, psk_long_of};
 ghost use Rattle.eap_method.specs.PskTags.{mac_p_octets, rand_of};
 ghost use Rattle.eap_method.specs.PskServer.{r_for};
 
@@ -28,6 +28,17 @@ pub struct Initial {
 }
 
 impl Initial {
+    /// An equal value.
+    pub fn copy(&self) -> Initial
+        ensures side { result.side ≡ self.now.side }
+        ensures nonce { result.nonce ≡ self.now.nonce }
+    {
+        Initial {
+            side: self.side.copy(),
+            nonce: self.nonce,
+        }
+    }
+
     /// MAC_P of PSK-2 under this AK (RFC 4764 section 5.2).
     pub fn mac_p(&self, ak: &CmacKey, psk2: &Psk2) -> [u8; 16]
         ensures { result ≡ aes_cmac ak.now
@@ -59,6 +70,34 @@ pub struct UserPsk2<'a> {
     ghost kdk_is: { kdk ≡ (psk_long_of user.now.psk).kdk },
 }
 
+impl UserPsk2<'_> {
+    ghost use Rattle.std.specs.Prelude.{◌≡◌};
+    ghost use Rattle.login_keys.specs.Psk.{psk_keys_of};
+
+    /// The keys of the login: they are derived here alone (RFC 4764 section 3.2). It is never inlined, so that they are not
+    /// derived above the octets of the login on the stack.
+    #[inline(never)]
+    pub fn keys(&self) -> Keys
+        ensures { result.keys ≡ psk_keys_of self.now.kdk self.now.psk2.rand_p }
+    {
+        let keys = psk_session(&self.kdk, &self.psk2.rand_p);
+        Keys {
+            tek: CmacKey::new(&keys.tek),
+            keys,
+        }
+    }
+}
+
+/// The keys of a login, which are derived once.
+#[derive(Drop)]
+pub struct Keys {
+    /// TEK, MSK and EMSK.
+    pub keys: PskKeys,
+    /// TEK, expanded.
+    pub tek: CmacKey,
+    ghost tek_is: { tek ≡ keys.tek },
+}
+
 /// A login after PSK-2, with its keys, which are derived once. Contracts see what they come from.
 #[derive(Drop)]
 pub struct Login {
@@ -73,10 +112,7 @@ pub struct Login {
     r: u8,
     /// AK, expanded.
     ak: CmacKey,
-    /// TEK, MSK and EMSK.
-    keys: PskKeys,
-    /// TEK, expanded.
-    tek: CmacKey,
+    keys: Keys,
 }
 
 impl Model for Login {
@@ -89,7 +125,7 @@ impl Model for Login {
     ghost view = { λ l. record { own = l.own.side; nonce = l.own.nonce; id_p = l.id_p; psk = l.psk; rand_p = l.rand_p; r = l.r } };
 
     ghost invariant = { λ l. (l.r < 4) × (l.ak ≡ (psk_long_of l.psk).ak)
-        × (l.keys ≡ psk_keys_of (psk_long_of l.psk).kdk l.rand_p) × (l.tek ≡ l.keys.tek) };
+        × (l.keys.keys ≡ psk_keys_of (psk_long_of l.psk).kdk l.rand_p) };
 }
 
 impl Login {
@@ -99,21 +135,17 @@ impl Login {
     ghost use Rattle.psk_ends.specs.ServerStage.{login_with};
 
     /// The login of a server that has accepted PSK-2.
-    pub fn new(own: &Initial, found: UserPsk2) -> Login
-        ensures { result ≡ login_with own.now found.entry }
+    pub fn new(own: Initial, found: UserPsk2, keys: Keys) -> Login
+        requires { keys.keys ≡ psk_keys_of found.kdk found.psk2.rand_p }
+        ensures { result ≡ login_with own found.entry }
     {
-        let keys = psk_session(&found.kdk, &found.psk2.rand_p);
         Login {
-            own: Initial {
-                side: own.side.copy(),
-                nonce: own.nonce,
-            },
+            own,
             id_p: Octets::of(found.psk2.id_p),
             psk: found.user.psk.copy(),
             rand_p: found.psk2.rand_p,
             r: r_for(found.user.barred),
             ak: found.ak,
-            tek: CmacKey::new(&keys.tek),
             keys,
         }
     }
@@ -145,7 +177,7 @@ impl Login {
     pub fn tek(&self) -> &CmacKey
         ensures { result.now ≡ (keys_of self.now).tek }
     {
-        &self.tek
+        &self.keys.tek
     }
 
     /// MAC_S (RFC 4764 section 5.3).
@@ -204,8 +236,8 @@ impl Login {
             id_p: self.id_p.copy(),
             id_s: self.own.side.id_s.copy(),
             suite: 0,
-            msk: self.keys.msk,
-            emsk: self.keys.emsk,
+            msk: self.keys.keys.msk,
+            emsk: self.keys.keys.emsk,
         }
     }
 }

@@ -6,12 +6,14 @@ ghost use Rattle.psk_messages.specs.Reading.{read_of};
 ghost use Rattle.eap_method.specs.Capacity.{HasCapacity, requests};
 ghost use Rattle.eap_method.specs.Turns.{body_of};
 ghost use Rattle.eap_method.specs.PskTags.{header_of};
-ghost use Rattle.eap_method.specs.PskServer.{first, is_initiated, first_step, checked_reads, step};
-ghost use Rattle.psk_ends.specs.ServerStage.{in_known, view_of, outcome_with};
+ghost use Rattle.eap_method.specs.PskServer.{answers, asked, checked, first, is_initiated, first_step, checked_reads, step};
+ghost use Rattle.login_keys.specs.Psk.{psk_keys_of};
+ghost use Rattle.psk_ends.specs.ServerStage.{in_known, login_with, view_of, outcome_with};
+ghost use Rattle.psk_ends.specs.declared.server.login.Initial.{Initial};
 ghost use Rattle.psk_ends.specs.declared.server.stage.KnownPhase.TheVariants.{Checked};
 
 use crate::octets::{header_of, idle_cause, message_in, rand_of};
-use crate::server::login::{Initial, Login};
+use crate::server::login::{Initial, Keys, Login, UserPsk2};
 use crate::server::psk3::{answer, asked_reads};
 use crate::server::psk4::handle_psk4;
 use crate::server::stage::{EarlyPhase, KnownPhase, Stage};
@@ -72,6 +74,54 @@ fn checked_reads<R: Records>(
     }
 }
 
+/// The PSK-2 of a user that a server knows is answered by PSK-3, and the login begins.
+fn log_in<R: Records>(
+    stage: &mut Stage,
+    found: UserPsk2,
+    keys: Keys,
+    next_id: u8,
+    packet: &mut Packet,
+    tags: &mut Tags<R>,
+) -> ServerAnswer
+    requires { keys.keys ≡ psk_keys_of found.kdk found.psk2.rand_p }
+    ensures turn { (own : Initial) → view_of stage.old ≡ asked own.side own.nonce
+        → outcome_with result packet.new tags.new (view_of stage.new) ≡ answers (login_with own found.entry) next_id found.entry.psk2.mac }
+    ensures capacity { requests result ≡ true → HasCapacity packet.new }
+{
+    let mac = found.psk2.mac;
+    let Stage::Early {
+        own,
+        phase: EarlyPhase::Asked,
+    } = stage
+    else {
+        return ServerAnswer::Discard(Cause::WrongOp);
+    };
+    let own = own.copy();
+    settle(stage, own, found, keys);
+    let Stage::Known { login, .. } = stage else {
+        return ServerAnswer::Discard(Cause::WrongOp);
+    };
+    answer(login, &mac, next_id, packet, tags);
+    ServerAnswer::Request
+}
+
+/// The login begins. It is never inlined, so that what the answer needs does not lie above a second login on the stack.
+#[inline(never)]
+fn settle(stage: &mut Stage, own: Initial, found: UserPsk2, keys: Keys)
+    requires { keys.keys ≡ psk_keys_of found.kdk found.psk2.rand_p }
+    ensures { view_of stage.new ≡ checked (login_with own found.entry) }
+{
+    store(stage, Login::new(own, found, keys));
+}
+
+/// The server awaits PSK-4. (By itself, since the compiler then builds the state where it stays.)
+fn store(stage: &mut Stage, login: Login)
+    ensures { view_of stage.new ≡ checked login }
+{
+    let phase = KnownPhase::Checked;
+    *stage = Stage::Known { login, phase };
+}
+
 /// The turn for the octets of a Response of Type 47. After a discard `packet` and `tags` are unspecified.
 #[tactic(auto, unfolding(eap_method::specs::PskServer::step))]
 pub fn handle_response<R: Records>(
@@ -98,12 +148,8 @@ pub fn handle_response<R: Records>(
                     ServerAnswer::Done { success: false }
                 }
                 Ok(Some(found)) => {
-                    let mac = found.psk2.mac;
-                    let login = Login::new(own, found);
-                    answer(&login, &mac, next_id, packet, tags);
-                    let phase = KnownPhase::Checked;
-                    *stage = Stage::Known { login, phase };
-                    ServerAnswer::Request
+                    let keys = found.keys();
+                    log_in(stage, found, keys, next_id, packet, tags)
                 }
             },
             EarlyPhase::Initial => ServerAnswer::Discard(idle_cause(response)),

@@ -1,4 +1,4 @@
-use Rattle.std.proofs.Common.{◌∙◌, ap}
+use Rattle.std.proofs.Common.{◌∙◌, ap, refl}
 use Rattle.eap_method.specs.PskServer.{step, begun, refused, over}
 use Rattle.eap_method.proofs.Capacities.{sends_nothing}
 use Rattle.psk_ends.proofs.server.turns.handle_response.Goals as goal
@@ -16,7 +16,8 @@ pub returns-in-Ok-Some-clause-turn : goal.returns-in-Ok-Some-clause-turn
 unfolding step
 returns-in-Ok-Some-clause-turn g c =
     rw (c.in-Early.is, c.in-Asked.is)
-    (c.answer.ensures.turn ∙ rw c.new-login.ensures (rw c.in-Ok-Some.field-0-is at (c.in-Ok-Some.ensures c.args.next_id)))
+    (c.log_in.ensures.turn c.in-Early.own (rw c.in-Asked.is refl)
+    ∙ rw c.in-Ok-Some.field-0-is at (c.in-Ok-Some.ensures c.args.next_id))
 
 pub returns-in-Initial-clause-turn : goal.returns-in-Initial-clause-turn
 unfolding step
