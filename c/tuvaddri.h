@@ -41,7 +41,7 @@ enum { TUV_PACKET_MAX = 1500, TUV_NAME_MAX = 253, TUV_KEY_MAX = 64,
 enum { TUV_NONCE_LEN = 32 };
 
 /* No call goes deeper into the stack. */
-#define TUV_STACK_MAX 16384
+#define TUV_STACK_MAX 13312
 
 /* Octets that belong to the caller. */
 struct tuv_octets {
