@@ -1,7 +1,7 @@
 -- The first object of a method in a peer's list of objects decides what the views of the list do.
 use Rattle.std.proofs.Common.{◌≡◌, ◌≢◌, ℕ, List, [], ◌∷◌, Bool, true, false, Option, Some, None, map, refl, sym, ◌∙◌, ap, ap₂}
-use Rattle.std.specs.Prelude.{if◌then◌else◌}
-use Rattle.std.proofs.lemmas.Bool.{cond-true, cond_both}
+use Rattle.std.specs.Prelude.{◌==◌, find, option_map, if◌then◌else◌}
+use Rattle.std.proofs.lemmas.Bool.{cond-true, cond_both, eqb-true, eqb-false}
 use Rattle.login_setup.specs.declared.setup.PeerSetup.{PeerSetup}
 use Rattle.octet_lists.specs.Among.{is_among}
 use Rattle.eap_packet.specs.declared.cause.Cause.{Cause}
@@ -11,7 +11,7 @@ use Rattle.eap_method.specs.PeerTurn.{PeerTurn}
 use Rattle.eap_method.specs.Peer.{PeerShown, PeerViews, peer_kind, peer_kinds, peer_step, peer_turn, peer_report, peer_report_of, peer_views, view_of, peer_started_in}
 use Rattle.eap_method.specs.Turns.{PeerOutcome}
 use Rattle.eap_method.proofs.Discards.{PeerPreserves, discard-keeps}
-use Rattle.eap_method.proofs.PeerViews.{step-kind, step-keeps, begun-kind, put, put_found, put_apart, put_again, put_both, found_kind, found_put, putting, turned, turn_at, reported, report_at, views_first}
+use Rattle.eap_method.proofs.PeerViews.{step-kind, step-keeps, begun-kind, put, put_found, put_apart, put_again, put_both, found_kind, found_put, putting, turned, turn_at, reported, report_at, report_none, views_first}
 
 -- a step keeps the Type
 pub step_kind : (s after : PeerShown) (octets : List ℕ) (turn : PeerTurn) → peer_step s octets ≡ record { turn = turn; after = after } → peer_kind after ≡ peer_kind s
@@ -95,6 +95,27 @@ pub report_miss : (allowed : List ℕ) (kind : ℕ) (s : PeerShown) (rest : List
 report_miss allowed kind s rest report is_other rests =
     rests ∙ (report_at kind (peer_views allowed rest)
     ∙ sym (report_at kind (peer_views allowed (s ∷ rest)) ∙ ap reported (view_miss allowed kind s rest is_other)))
+
+-- ---- the first object of the method, if there is one, has its report
+
+report_first : {M : Type 0} (shown : M → PeerShown) (allowed : List ℕ) (kind : ℕ) (first : M) (rest : List M) (test : Bool)
+    → (peer_kind (shown first) == kind) ≡ test → is_among allowed kind ≡ true
+    → reported (option_map shown (find (λ m. peer_kind (shown m) == kind) rest)) ≡ peer_report_of kind (peer_views allowed (map shown rest))
+    → reported (option_map shown (if test then Some first else find (λ m. peer_kind (shown m) == kind) rest))
+    ≡ peer_report_of kind (peer_views allowed (map shown (first ∷ rest)))
+report_first shown allowed kind first rest true is_kind is_allowed rests = report_hit allowed kind (shown first) (map shown rest) (eqb-true _ _ is_kind) is_allowed
+report_first shown allowed kind first rest false is_kind is_allowed rests = report_miss allowed kind (shown first) (map shown rest) _ (eqb-false _ _ is_kind) rests
+
+report_of_first : {M : Type 0} (shown : M → PeerShown) (allowed : List ℕ) (kind : ℕ) (objects : List M) → is_among allowed kind ≡ true
+    → reported (option_map shown (find (λ m. peer_kind (shown m) == kind) objects)) ≡ peer_report_of kind (peer_views allowed (map shown objects))
+report_of_first shown allowed kind [] is_allowed = report_none allowed kind
+report_of_first shown allowed kind (first ∷ rest) is_allowed =
+    report_first shown allowed kind first rest (peer_kind (shown first) == kind) refl is_allowed (report_of_first shown allowed kind rest is_allowed)
+
+pub report_found : {M : Type 0} (shown : M → PeerShown) (allowed : List ℕ) (kind : ℕ) (objects : List M) (found : Option M)
+    → found ≡ find (λ m. peer_kind (shown m) == kind) objects → is_among allowed kind ≡ true
+    → reported (option_map shown found) ≡ peer_report_of kind (peer_views allowed (map shown objects))
+report_found shown allowed kind objects found is is_allowed = rw is (report_of_first shown allowed kind objects is_allowed)
 
 -- ---- what is kept
 

@@ -1,7 +1,7 @@
 -- The first object of a method in a server's list of objects decides what the views of the list do.
 use Rattle.std.proofs.Common.{◌≡◌, ◌≢◌, ℕ, List, [], ◌∷◌, Bool, true, false, Option, Some, None, map, refl, sym, ◌∙◌, ap, ap₂}
-use Rattle.std.specs.Prelude.{if◌then◌else◌}
-use Rattle.std.proofs.lemmas.Bool.{cond-true, cond_both}
+use Rattle.std.specs.Prelude.{◌==◌, find, option_map, if◌then◌else◌}
+use Rattle.std.proofs.lemmas.Bool.{cond-true, cond_both, eqb-true, eqb-false}
 use Rattle.login_setup.specs.declared.setup.ServerSetup.{ServerSetup}
 use Rattle.login_setup.specs.declared.users.User.{User}
 use Rattle.octet_lists.specs.Among.{is_among}
@@ -182,6 +182,27 @@ turn_none users next_id order octets kind =
 -- there is no report
 pub report_none : (order : List ℕ) (kind : ℕ) → None ≡ server_report_of kind (server_views order [])
 report_none order kind = sym (report_at kind (server_views order []) ∙ ap reported (view_none order kind))
+
+-- ---- the first object of the method, if there is one, has its report
+
+report_first : {M : Type 0} (shown : M → ServerShown) (order : List ℕ) (kind : ℕ) (first : M) (rest : List M) (test : Bool)
+    → (server_kind (shown first) == kind) ≡ test → is_among order kind ≡ true
+    → reported (option_map shown (find (λ m. server_kind (shown m) == kind) rest)) ≡ server_report_of kind (server_views order (map shown rest))
+    → reported (option_map shown (if test then Some first else find (λ m. server_kind (shown m) == kind) rest))
+    ≡ server_report_of kind (server_views order (map shown (first ∷ rest)))
+report_first shown order kind first rest true is_kind is_proposed rests = report_hit order kind (shown first) (map shown rest) (eqb-true _ _ is_kind) is_proposed
+report_first shown order kind first rest false is_kind is_proposed rests = report_miss order kind (shown first) (map shown rest) _ (eqb-false _ _ is_kind) rests
+
+report_of_first : {M : Type 0} (shown : M → ServerShown) (order : List ℕ) (kind : ℕ) (objects : List M) → is_among order kind ≡ true
+    → reported (option_map shown (find (λ m. server_kind (shown m) == kind) objects)) ≡ server_report_of kind (server_views order (map shown objects))
+report_of_first shown order kind [] is_proposed = report_none order kind
+report_of_first shown order kind (first ∷ rest) is_proposed =
+    report_first shown order kind first rest (server_kind (shown first) == kind) refl is_proposed (report_of_first shown order kind rest is_proposed)
+
+pub report_found : {M : Type 0} (shown : M → ServerShown) (order : List ℕ) (kind : ℕ) (objects : List M) (found : Option M)
+    → found ≡ find (λ m. server_kind (shown m) == kind) objects → is_among order kind ≡ true
+    → reported (option_map shown found) ≡ server_report_of kind (server_views order (map shown objects))
+report_found shown order kind objects found is is_proposed = rw is (report_of_first shown order kind objects is_proposed)
 
 -- ---- a discard keeps the views
 

@@ -1,9 +1,9 @@
 //! The objects of a peer: beginning them, finding the one of a method, and calling it.
 
-ghost use Rattle.std.specs.Prelude.{◌≡◌, ℕ, List, true, map};
+ghost use Rattle.std.specs.Prelude.{◌≡◌, ◌==◌, ℕ, List, true, map, find, option_copied};
 ghost use Rattle.octet_lists.specs.Among.{is_among};
 ghost use Rattle.login_setup.specs.Setup.{IsSoundPeer, HasKeys};
-ghost use Rattle.eap_method.specs.Peer.{peer_kinds, peer_views, peer_turn, IsRequest, peer_report_of, views_started, have_each, key_for, credential_for, peer_started_in};
+ghost use Rattle.eap_method.specs.Peer.{peer_kind, peer_kinds, peer_views, peer_turn, IsRequest, peer_report_of, views_started, have_each, key_for, credential_for, peer_started_in};
 ghost use Rattle.eap_method.specs.Unnamed.{peers_unnamed};
 ghost use Rattle.eap_method.specs.PeerTurn.{peer_turn_with, peer_tags};
 ghost use Rattle.eap_method.specs.Capacity.{HasCapacity, replies};
@@ -71,16 +71,14 @@ pub fn call_peer_method<M: PeerMethod, R: Turns>(
 pub fn peer_report<M: PeerMethod>(methods: &[M], kind: u8) -> Option<Report>
     ensures { (allowed : List ℕ) → is_among allowed kind ≡ true → result ≡ peer_report_of kind (peer_views allowed (map M.peer_shown methods.now)) }
 {
-    match methods.split_first() {
-        None => None,
-        Some((first, rest)) => {
-            if first.kind() == kind {
-                first.report()
-            } else {
-                peer_report(rest, kind)
-            }
-        }
-    }
+    object_of(methods, kind)?.report()
+}
+
+/// The first object of this Type.
+fn object_of<M: PeerMethod>(methods: &[M], kind: u8) -> Option<&M>
+    ensures { option_copied result ≡ find (λ m. peer_kind (M.peer_shown m) == kind) methods.now }
+{
+    methods.iter().find(|method| method.kind() == kind)
 }
 
 fn start_each<M: PeerMethod>(methods: &mut [M], setup: &PeerSetup)

@@ -1,12 +1,12 @@
 //! The objects of a server: beginning them, finding the one of a method, and calling it.
 
-ghost use Rattle.std.specs.Prelude.{◌≡◌, ℕ, List, true, map, IsTrue, All, Some, None, if◌then◌else◌};
+ghost use Rattle.std.specs.Prelude.{◌≡◌, ◌==◌, ℕ, List, true, map, find, option_copied, IsTrue, All, Some, None, if◌then◌else◌};
 ghost use Rattle.octet_lists.specs.Among.{is_among};
 ghost use Rattle.login_setup.specs.Setup.{is_valid_for, are_suites};
 ghost use Rattle.eap_method.specs.Peer.{have_each};
 ghost use Rattle.eap_method.specs.Capacity.{HasCapacity, requests};
 ghost use Rattle.eap_method.specs.ServerTurn.{server_turn_with, server_tags};
-ghost use Rattle.eap_method.specs.Server.{server_kinds, server_views, server_offer, server_turn, IsResponse, server_report_of, side_of, views_started, server_started_in};
+ghost use Rattle.eap_method.specs.Server.{server_kind, server_kinds, server_views, server_offer, server_turn, IsResponse, server_report_of, side_of, views_started, server_started_in};
 ghost use Rattle.eap_method.specs.Unnamed.{servers_unnamed};
 
 use crate::server::ServerMethod;
@@ -107,16 +107,14 @@ pub fn call_server_method<M: ServerMethod, R: Turns>(
 pub fn server_report<M: ServerMethod>(methods: &[M], kind: u8) -> Option<Report>
     ensures { (order : List ℕ) → is_among order kind ≡ true → result ≡ server_report_of kind (server_views order (map M.server_shown methods.now)) }
 {
-    match methods.split_first() {
-        None => None,
-        Some((first, rest)) => {
-            if first.kind() == kind {
-                first.report()
-            } else {
-                server_report(rest, kind)
-            }
-        }
-    }
+    object_of(methods, kind)?.report()
+}
+
+/// The first object of this Type.
+fn object_of<M: ServerMethod>(methods: &[M], kind: u8) -> Option<&M>
+    ensures { option_copied result ≡ find (λ m. server_kind (M.server_shown m) == kind) methods.now }
+{
+    methods.iter().find(|method| method.kind() == kind)
 }
 
 fn start_each<M: ServerMethod>(methods: &mut [M], setup: &ServerSetup)

@@ -233,10 +233,7 @@ impl<M: PeerMethod> PeerMachine<M> {
     pub fn report(&self) -> Option<Report>
         ensures { result ≡ peer_reports (now_of M.peer_shown self.now) }
     {
-        match self.vars.selected {
-            None => None,
-            Some(kind) => peer_report(self.methods.as_slice(), kind),
-        }
+        peer_report(self.methods.as_slice(), self.vars.selected?)
     }
 
     /// The object of the selected method, the first of its Type, which shows the method's view. None if no method is

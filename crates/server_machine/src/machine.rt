@@ -425,16 +425,11 @@ impl<M: ServerMethod> ServerMachine<M> {
     pub fn report(&self) -> Option<Report>
         ensures { result ≡ server_reports (now_of M.server_shown self.now) }
     {
-        match self.vars.current {
-            None => None,
-            Some(kind) => {
-                if kind == IDENTITY {
-                    None
-                } else {
-                    server_report(self.methods.as_slice(), kind)
-                }
-            }
+        let kind = self.vars.current?;
+        if kind == IDENTITY {
+            return None;
         }
+        server_report(self.methods.as_slice(), kind)
     }
 
     /// The object of the current method, which shows its view; None before the first, in the Identity round, and if

@@ -81,12 +81,18 @@ fn book_one(book: &mut Vec<Entry>, event: u32, end: End, used: Use, tag: &TagRec
     ensures few { vec_len book.new ≡ vec_len book.old + 1 }
     ensures capacity { vec_capacity book.old ≤ vec_capacity book.new }
 {
-    let _ = book.push(Entry {
+    let mut entry = Entry {
         event,
         end,
         used,
-        tag: tag.copy(),
-    });
+        tag: TagRecord::default(),
+    };
+    entry.tag.method = tag.method;
+    entry.tag.label = tag.label;
+    entry.tag.psk.set(tag.psk.as_slice());
+    entry.tag.octets.set(tag.octets.as_slice());
+    entry.tag.tag.set(tag.tag.as_slice());
+    let _ = book.push(entry);
 }
 
 /// Whether each accepted tag of a book was made earlier by such an end.
