@@ -11,7 +11,7 @@ ghost use Rattle.eap_world.specs.World.{Called, Skipped, action_with, parties_of
 ghost use Rattle.eap_world.specs.World.{Parties, first_report, reported_before, held_by, reported_after, reported_with, report_of, role_in, told_of, result_with};
 ghost use Rattle.eap_world.specs.Sent.{Sent};
 
-use crate::act::{Action, CallResult, Machines};
+use crate::act::{Action, Machines};
 use crate::conversations::Conversations;
 use crate::store::Store;
 use crate::told::{Brief, Counts, Named, SentNumber, Skip, Told, sent_with};
@@ -604,21 +604,13 @@ fn store_result<P: PeerMethod, S: ServerMethod>(
     let number = next_number(sent.len());
     store_packet(sent, &action, &machines.packet);
     store_tags(book, event, &action, &machines.tags);
-    match action {
-        Action::Skipped(skip) => skip_result(event, skip),
-        Action::Called(
-            CallResult {
-                party,
-                port,
-                step,
-                ..
-            },
-        ) => {
-            let mut told = tell(event, number, party, port, step);
-            store_first_report(machines, party, held, &mut told.named);
-            told
-        }
-    }
+    let did = match action {
+        Action::Skipped(skip) => return skip_result(event, skip),
+        Action::Called(did) => did,
+    };
+    let mut told = tell(event, number, did.party, did.port, did.step);
+    store_first_report(machines, did.party, held, &mut told.named);
+    told
 }
 
 /// Returns the report that a party which acted has for the first time, and records that it was reported.

@@ -3,10 +3,10 @@ use Rattle.eap_world.proofs.Implying.{reported_named}
 use Rattle.eap_world.specs.World.{Called, did_with, first_report, has_reported, parties_of, report_of, told_of}
 use Rattle.eap_world.proofs.world.store_result.Goals as goal
 
-pub returns-in-Called-clause-reported : goal.returns-in-Called-clause-reported
-returns-in-Called-clause-reported g c =
-    let did = did_with c.in-Called.field-0 c.args.machines.now.packet c.args.machines.now.tags in
-    let said = c.tell-told.ensures.reported c.in-Called.field-0.is_delivery c.args.machines.now.packet c.args.machines.now.tags in
+pub returns-clause-reported : goal.returns-clause-reported
+returns-clause-reported g c =
+    let did = did_with c.in-Called.did c.args.machines.now.packet c.args.machines.now.tags in
+    let said = c.tell-told.ensures.reported c.in-Called.did.is_delivery c.args.machines.now.packet c.args.machines.now.tags in
     let number : c.next_number-number.result ≡ length c.args.sent.now.packets + 1 = c.next_number-number.ensures ∙ ap (λ (n : ℕ). n + 1) c.len.ensures in
     let is : c.tell-told.result ≡ told_of c.args.event (length c.args.sent.now.packets + 1) None (Called did) = search (said, number) in
     let named : c.store_first_report.new.named
