@@ -40,7 +40,7 @@ def pieces(texts: Texts) -> dict[Key, str]:
     repository = Repository(texts)
     found: dict[Key, str] = {}
     for source in repository.sources.values():
-        parts = tests_in(source) if source.crate.endswith("_tests") else pieces_of(repository, source)
+        parts = tests_in(source) if source.crate.endswith("_tests") else pieces_of(repository, source, is_whole=True)
         for key, text in parts.items():
             found[key] = found.get(key, "") + text
     for place, text in texts.items():
