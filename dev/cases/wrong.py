@@ -15,7 +15,8 @@ from unittest import mock
 
 from cases.lib.small import Run, Small, holds, texts_of
 
-CODE, EDIT, OTHER = "crates/small/src/lib.rt", "wrong/small/double__is_0.edit", "wrong/top/four__is_2.edit"
+CODE, REST = "crates/small/src/lib.rt", "crates/small/specs/Rest.antt"
+EDIT, OTHER = "wrong/small/double__is_0.edit", "wrong/top/four__is_2.edit"
 
 
 def case_tries(run: Run) -> Iterator[Optional[str]]:
@@ -45,8 +46,10 @@ def case_tries(run: Run) -> Iterator[Optional[str]]:
         yield tells(0, "wrong --stale", "wrong: 0 passed, 0 failed")
         small.turn(CODE, "", "// on a comment no refusal rests\n")
         yield tells(0, "wrong --stale", "wrong: 0 passed, 0 failed")
-        for old, new, words in ((r"^    1$", "    2 - 1", "small"), ("n ≤ 5", "n ≤ 4", "small top"), ("pub fn one", "pub fn single", "small top")):
-            small.turn(CODE, old, new)
+        for file, old, new, words in ((CODE, r"^    1$", "    2 - 1", "small"), (CODE, "n ≤ 5", "n ≤ 4", "small top"),
+                                      (CODE, "pub fn one", "pub fn single", "small top"), (REST, r"n - by \*", "by *", "small top"),
+                                      (REST, "", "abbrev pub unused : ℕ\nunused = 2\n", "small")):
+            small.turn(file, old, new)
             stale = words.count(" ") + 1
             yield tells(1, "wrong status", f"edits refused on today's sources: {2 - stale} passed, {stale} failed")
             yield tells(0, "wrong --stale", f"wrong: {stale} passed, 0 failed")

@@ -186,7 +186,7 @@ def fault_of(name: str, octets: bytes) -> str:
     return ""
 
 
-def take_message(reader: Reader, message: str) -> None:
+def read_message(reader: Reader, message: str) -> None:
     suite = 0
     for name, size in (it.rsplit(" ", 1) for it in MESSAGES[message]):
         if size.isdigit():
@@ -201,25 +201,25 @@ def take_message(reader: Reader, message: str) -> None:
             reader.fault(fault)
 
 
-def take_gpsk(reader: Reader) -> None:
+def read_gpsk(reader: Reader) -> None:
     op = reader.number("OP-Code", 1, named(OP_CODES))
     reader.reading.name = OP_CODES.get(op, f"EAP-GPSK with OP-Code {op}")
     if op not in OP_CODES:
         reader.fault(f"OP-Code {op} is none of 1 to 6")
     else:
-        take_message(reader, OP_CODES[op])
+        read_message(reader, OP_CODES[op])
 
 
-def take_psk(reader: Reader) -> None:
+def read_psk(reader: Reader) -> None:
     flags = reader.number("Flags", 1, lambda it: f"T = {it[0] >> 6}")
     reader.reading.name = f"PSK-{(flags >> 6) + 1}"
-    take_message(reader, reader.reading.name)
+    read_message(reader, reader.reading.name)
 
 
 # The packet: RFC 3748 section 4.
 
 
-def take_expanded(reader: Reader) -> None:
+def read_expanded(reader: Reader) -> None:
     """Type 254 (section 5.7): of the IETF's Types the data of the Type inside, or the list of a Nak (section 5.3.2)."""
     vendor = reader.number("Vendor-Id", 3)
     kind = reader.number("Vendor-Type", 4, named(TYPES if vendor == 0 else {}))
@@ -235,7 +235,7 @@ def take_expanded(reader: Reader) -> None:
             reader.fault("an entry of an Expanded Nak has 8 octets")
         reader.reading.name = "Expanded Nak"
     else:
-        take_data(reader, kind)
+        read_data(reader, kind)
         reader.reading.name = f"Expanded {reader.reading.name}"
 
 
@@ -244,11 +244,11 @@ def desired_of(octets: bytes) -> str:
     return "desired: " + (", ".join(TYPES.get(it, f"Type {it}") for it in octets if it) or "no method")
 
 
-def take_data(reader: Reader, kind: int) -> None:
+def read_data(reader: Reader, kind: int) -> None:
     """The Type-Data of a Type."""
     reader.reading.name = TYPES.get(kind, f"Type {kind}")
     if kind in (47, 51, 254):
-        {47: take_psk, 51: take_gpsk, 254: take_expanded}[kind](reader)
+        {47: read_psk, 51: read_gpsk, 254: read_expanded}[kind](reader)
     elif kind == 3:
         if not reader.rest("Type-Data", desired_of):
             reader.fault("a Nak desires no method")
@@ -256,7 +256,7 @@ def take_data(reader: Reader, kind: int) -> None:
         reader.rest("Type-Data", text_of)
 
 
-def take_header(reader: Reader) -> int:
+def read_header(reader: Reader) -> int:
     """Code, Identifier and Length; gives the Code."""
     code = reader.number("Code", 1, named(CODES))
     reader.number("Identifier", 1)
@@ -279,12 +279,12 @@ def read(octets: bytes) -> Reading:
     """The fields of a packet; who is given them changes nothing."""
     reader = Reader(octets)
     try:
-        code = take_header(reader)
+        code = read_header(reader)
         if code in (1, 2):
             kind = reader.number("Type", 1, named(TYPES))
             if (code, kind) == (1, 3):
                 reader.fault("a Nak is no Request")
-            take_data(reader, kind)
+            read_data(reader, kind)
     except Short:
         pass
     if reader.left():
