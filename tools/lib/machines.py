@@ -151,9 +151,9 @@ class Next:
     def token(self, name: str, *words: object) -> Token:
         return token(name, self.frame.place, *words)
 
-    def since(self, before: Frame) -> str:
-        seconds = abs(self.frame.at - before.at)
-        side = "later" if self.frame.at >= before.at else "earlier"
+    def since(self, at: float) -> str:
+        seconds = abs(self.frame.at - at)
+        side = "later" if self.frame.at >= at else "earlier"
         return side if not self.tap.has_times else f"{seconds * 1000:.1f} ms {side}" if seconds < 1 else f"{seconds:.1f} s {side}"
 
     def is_cut(self) -> bool:
@@ -199,7 +199,7 @@ class Next:
         f, world = self.frame, self.world
         twice = next((it for it in self.before[:3] if f.at - it.at <= DOUBLED and not self.is_other_reply(it)), None)
         if twice:
-            said = self.token("twice", twice.number, self.since(twice))
+            said = self.token("twice", twice.number, self.since(twice.at))
             if "doubling" not in world.facts:
                 yield world, [said]
             free = [self.token("doubling")] * ("doubling" not in world.facts) + [said._replace(cost=0)]
@@ -207,7 +207,7 @@ class Next:
         last = self.server if f.is_down else self.peer
         if self.before and self.before[0].place != last.place and (not twice or f.at - self.before[0].at > DOUBLED):
             was = self.before[0]
-            yield world, [self.token("copy" if f.at - was.at > DOUBLED else "twice", was.number, self.since(was))]
+            yield world, [self.token("copy" if f.at - was.at > DOUBLED else "twice", was.number, self.since(was.at))]
         elif not self.before and self.is_over():
             yield world, [self.token("stray")]
 
@@ -220,8 +220,9 @@ class Next:
         f, fact = self.frame, "same-nonces"
         if not self.before or not f.stage or self.is_old():
             return frozenset(), []
-        said = [token(fact, f.place, self.before[0].number, cost=0 if fact in self.world.facts else None)] if f.stage < 3 else []
-        return frozenset([fact]), said
+        is_known = fact in self.world.facts
+        said = [token(fact, f.place, self.before[0].number, cost=0 if is_known else None)]
+        return frozenset([fact]), said * (f.stage < 3 or not is_known)
 
     def is_over(self) -> bool:
         """Whether a message is of a run that is over, though the capture doesn't have it before the end."""
@@ -260,7 +261,7 @@ class Next:
         is_reply = f.radius and f.radius.request and any(it.radius is f.radius.request for it in self.near(False, 3))
         if server.place < 0 and (server.id, server.message) == (f.id, f.message) and f.message not in ENDS and (
                 is_reply or f.at - server.at >= TIMER):
-            yield self.on, []  # (the first of it isn't here)
+            yield self.on, self.asked_again()  # (the first of it isn't here)
             return
         if f.radius and f.radius.request and any(
                 it.radius and it.radius.request is f.radius.request and it.octets != f.octets for it in self.near(True)):
@@ -308,16 +309,16 @@ class Next:
                 return []
             is_other = any(map(self.is_other_reply, self.before[:1]))
             return self.unseen("an Access-Request", False) if is_other else [self.token("asked-behind")]
-        was = next((it for it in self.world.seen if it.turn == server.turn), f)
-        answers = self.answers(f.id, was.turn)
+        was, since = [it for it in self.world.seen if it.turn == server.turn], max(server.turn, self.world.begun - 1)
+        answers = self.answers(f.id, since)
         refused = [it for it in answers if it.word in MALFORMED]
-        if any(it.turn > was.turn and it.message == "Start" for it in self.world.seen):
+        if any(it.turn > since and it.message == "Start" for it in self.world.seen):
             return []
-        found = [] if f.at - was.at >= TIMER or refused else [self.token("early", self.since(was))]
+        found = [] if f.at - server.at >= TIMER or refused else [self.token("early", self.since(server.at))]
         if answers:
-            is_free = len(refused) == len(answers) or self.is_explained(was)
+            is_free = len(refused) == len(answers) or self.is_explained(*was)
             return [*found, token("lost", answers[0].place, f.number, cost=0 if is_free else None)]
-        return [*found, *[token("unanswered", was.place, f.number, self.since(was))] * (not self.is_cut())]
+        return [*found, *(token("unanswered", it.place, f.number, self.since(it.at)) for it in was if not self.is_cut())]
 
     def code(self) -> list[str]:
         """The Failure-Code of a message, and its name."""
@@ -417,6 +418,9 @@ class Next:
             yield self.on, [*missing, *self.order(), self.token("altered", ": its MAC is wrong, and that of the message before is right")]
         elif (seconds or others) and (names := other_fields(f, (seconds or others)[0]) or "RAND_S" * (not seconds)):
             second = (seconds or others)[0]
+            if self.is_explained(second):
+                yield self.on, [*missing, *self.unseen(name_of(f.kind, 2), False, not missing)]
+                return
             if f.word != "tag-good":
                 yield self.on, [*missing, self.token("altered", f": its {names} isn't that of packet {second.number}")]
             yield self.on, [*missing, token("altered-behind", second.place, f"packet {f.number} has another {names}")]
@@ -469,7 +473,7 @@ class Next:
                 return
             for it in world.seen[::-1]:
                 if it.message == f.message == "Reject" and it.radius and f.radius and it.radius.octets == f.radius.octets:
-                    yield world, [self.token("twice" if f.at - it.at <= DOUBLED else "copy", it.number, self.since(it))]
+                    yield world, [self.token("twice" if f.at - it.at <= DOUBLED else "copy", it.number, self.since(it.at))]
                     return
             if f.radius and server.message != "Success" and any(it.turn > server.turn for it in self.near(False)):
                 yield self.on, [self.token("forgotten")]
