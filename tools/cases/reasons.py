@@ -15,7 +15,7 @@ from unittest import mock
 from cases.lib import wire
 from cases.lib.small import Run, holds
 from cases.lib.wire import GROUP, KEY, OTHER_KEY, START, SWITCH, Item, Login, altered, eap
-from lib import listening, reasons, stories
+from lib import listening, observed, reasons, stories
 from lib.cases import spelled
 from lib.machines import CHOICES, Token
 
@@ -116,6 +116,7 @@ def files() -> Iterator[tuple[str, bytes, str, str]]:
     yield "key frames alone", wire.pcap([(100.0 + at, it) for at, it in exchange]), "keys alone", key
     encrypted = [(at, it[:9] + bytes([it[9] | 0x40]) + it[10:]) for at, it in ((at, wire.in_air(it)) for at, it in wrong)]
     yield "encrypted Wi-Fi", wire.pcap(encrypted, link=127), "encrypted", key
+    yield "a login over and over", wire.pcap(framed(*[*GOOD.whole, 20.0] * 90)), "good, same, over and over", key
     yield "padded", wire.pcap([(at, it.ljust(60, b"\0")) for at, it in wrong]), REFUSED, key
     yield "a file that ends in the middle", wire.pcap(wrong)[:-10], "server silent, ended, end of file, wrong key, received", key
     yield "three stations to a group", wire.pcap(stations()), "good, wrong key, received, at once, behind, given", key + " bob 51 " + KEY.hex()
@@ -266,6 +267,16 @@ def case_reasons(run: Run) -> Iterator[Optional[str]]:
     said += "".join(run(["why", "-"], it.encode())[1] for it in scenarios())
     for it in sentences():
         yield holds(it in said or it in NEVER, f"no case has the sentence `{it}`")
+
+
+def case_batches(run: Run) -> Iterator[Optional[str]]:
+    """What is asked of the program in batches is told as what is asked at once."""
+    logins = [Login(rand_p=bytes([it]) * 32, rand_s=bytes([100 + it]) * 32, at=it) for it in range(12)]
+    octets = wire.pcap(framed(*(it for login in logins for it in login.whole)))
+    words = ["why", "-", "alice", "51", KEY.hex()]
+    once = run(words, octets)
+    with mock.patch.multiple(observed, MOST_AT_ONCE=20, NEAR=8):
+        yield holds(run(words, octets) == once and once[1].count("is right") == 12, f"in batches: {once[1]}")
 
 
 def case_macs(run: Run) -> Iterator[Optional[str]]:

@@ -26,7 +26,7 @@ def form_of(octets: bytes) -> str:
         return "pcap"
     if refusals.odd(octets):
         return "odd"
-    front = octets.removeprefix(b"\xef\xbb\xbf").lstrip().lower()
+    front = octets.removeprefix(b"\xef\xbb\xbf").lstrip()[:16].lower()
     for header, form in HEADERS.items():
         if front.startswith(header):
             return form

@@ -6,6 +6,7 @@ from __future__ import annotations
 
 import heapq
 import io
+from collections import deque
 from itertools import islice
 from typing import Iterable, Iterator, NamedTuple, Optional, Sequence, Union
 
@@ -21,8 +22,9 @@ NONCES = {"GPSK-1": ("RAND_Server",), "GPSK-2": ("RAND_Server", "RAND_Peer"), "G
           **{f"PSK-{it}": ("RAND_S",) for it in range(1, 5)}}
 ENDS = ("Success", "Failure", "Reject")
 PLAIN_TYPES = (1, 2, 3, 47, 51, 254)
-# How many packets are asked of at once, how many are near one, and the messages of a method before and behind one.
-MOST_AT_ONCE, NEAR, BEFORE, BEHIND = 4000, 64, 16, 6
+# How many packets are asked of at once, how many are near one, and the messages of a method before and behind one; and of a
+# block of so few frames that comes again and again, octet for octet, how many are looked at.
+MOST_AT_ONCE, NEAR, BEFORE, BEHIND, BLOCK, REPEATED = 4000, 64, 16, 6, 64, 500
 
 
 class Frame(NamedTuple):
@@ -96,13 +98,38 @@ def frames_of(capture: Capture, part: Sequence[int]) -> Iterator[Frame]:
     without: Iterable[Event] = ((number, name, at) for name, found in (("Start", capture.starts), ("Logoff", capture.logoffs))
                                 for number, at in found)
     whole: Iterable[Event] = ((its.numbers[at], at, 0.0) for at in part)
-    for place, (number, which, when) in enumerate(heapq.merge(whole, sorted(without))):
+    for place, (number, which, when) in enumerate(once(capture, heapq.merge(whole, sorted(without)))):
         if isinstance(which, str):
             yield Frame(place, number, False, when, b"", which)
         else:
             it = its[which]
             # (of a text without times, a packet a second)
             yield frame_of(place, number, it.is_to_peer, float(place) if it.at is None else it.at, it.octets, it.radius)
+
+
+def once(capture: Capture, events: Iterable[Event]) -> Iterator[Event]:
+    """The frames without those of a block that goes on coming again, octet for octet: these are counted in a note."""
+    its, before, held = capture.packets, deque[object](maxlen=BLOCK), list[Event]()
+    period = run = left = 0
+    for event in events:
+        which = event[1]
+        radius = its.radius[which] if its.radius and isinstance(which, int) else None
+        key = which if isinstance(which, str) else (its.ways[which], its.octets[which], radius and radius.octets)
+        if not period or before[-period] != key:
+            yield from held
+            held, run = [], 0
+            period = next((at for at, it in enumerate(reversed(before), 1) if it == key), 0)
+        before.append(key)
+        run += 1
+        if run <= REPEATED or not period:
+            yield event
+            continue
+        held.append(event)
+        if len(held) == period:
+            left, held = left + period, []
+    yield from held
+    if left:
+        capture.notes.append(f"left out: frames of a block that comes again and again, octet for octet: {left}")
 
 
 # ---- What the program finds.

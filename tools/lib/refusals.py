@@ -300,7 +300,7 @@ def odd(octets: bytes) -> str:
         return "it has octets 00, as text in UTF-16 has: `iconv -f UTF-16 -t ASCII FILE` makes plain text of it"
     if re.match(rb"[0-9a-fA-F]{4,}[: ] ?([0-9a-fA-F]{2,4} ){4}", octets):
         return "it is a hex dump: `text2pcap -F pcap IN OUT` makes a file of it"
-    if frames.is_file(octets) or b"\0" not in octets.partition(b"\n")[0]:
+    if frames.is_file(octets) or not re.match(rb"[^\n]*\0", octets):
         return ""
     return "it has octets 00, so it is no text, nor a file of pcap, pcapng or snoop: `editcap -F pcap IN OUT` may make one of it"
 

@@ -10,17 +10,17 @@ from lib.common import Refused
 from lib.words import MOST_OCTETS
 
 
-# A line that says something; and the octets of the comments that are read.
-SAYS, MOST_COMMENTS = re.compile(rb"^(?!#|\r?$)[^\n]+", re.M), 1 << 16
+# A line that says something, behind the end of another; and the octets of the comments that are read.
+SAYS, MOST_COMMENTS = re.compile(rb"\n(?!#|\r?$)([^\n]+)", re.M), 1 << 16
 
 
 def lines_of(octets: bytes) -> Iterator[tuple[int, list[str]]]:
     """The lines of a text that say something: their numbers and their words."""
-    number, end = 1, 0
-    for it in SAYS.finditer(octets):
-        number += octets.count(b"\n", end, it.start())
-        end = it.start()
-        yield number, it[0].decode("latin-1").removesuffix("\r").split(" ")
+    text, number, end = b"\n" + octets, 0, 0
+    for it in SAYS.finditer(text):
+        number += text.count(b"\n", end, it.start(1))
+        end = it.start(1)
+        yield number, it[1].decode("latin-1").removesuffix("\r").split(" ")
 
 
 def comments_of(octets: bytes) -> list[str]:
