@@ -388,10 +388,13 @@ class Next:
         elif server.kind != f.kind and any(it.kind == server.kind and it.stage for it in self.answers(f.id - 1, self.world.begun)):
             # (RFC 3748 section 2.1)
             yield self.unread(), [self.token("altered", ": its Type isn't that of the method that goes on")]
-        elif server.kind != f.kind:
-            yield self.on, [*self.needs("Nak"), *self.order()]
         else:
-            if f.radius and any(it.message == "Identity" and it.turn > server.turn for it in self.near(False)):
+            if server.kind != f.kind:
+                missing = self.needs("Nak")
+                yield self.on, [*missing, *self.order()]
+                if not missing:
+                    return
+            elif f.radius and any(it.message == "Identity" and it.turn > server.turn for it in self.near(False)):
                 yield self.on, [self.token("anew")]
             yield self.anew(self.on.server), [self.token("gap")]
 
@@ -511,7 +514,8 @@ class Next:
     def refusals(self, it: Frame) -> Iterator[list[Token]]:
         """Why a server can refuse an answer."""
         asked = next(iter(self.asked(it.id)), None)
-        other = token("altered-behind", it.place, "the server got another packet than this one")
+        sent = f", or sent another than {f'packet {asked.number}' if asked else 'the Request that it answers'}"
+        other = token("altered-behind", it.place, "the server got another packet than this one" + sent * (it.message != "Identity"))
         if self.is_explained(it, *([asked] if asked else [])):
             yield []
         elif it.message == "Identity":
@@ -519,8 +523,7 @@ class Next:
             yield from [[other]] * (not self.frame.radius)
         elif it.message == "Nak":
             yield [token("no-method", it.place, *self.proposed(it))]
-            sent = f", or sent another than packet {asked.number}" if asked else ""
-            yield [other._replace(words=(other.words[0] + sent,))]
+            yield [other]
         elif it.word == "malformed" or it.message in FAILS:
             yield []
         elif it.word == "tag-bad":
@@ -684,7 +687,9 @@ class Next:
             return
         if f.message == "Nak" or f.word != "tag-bad":
             why = "desires what it refuses" if f.message == "Nak" else f"has another {names}"
-            yield [token("altered-behind", asked.place, f"its answer, packet {f.number}, {why}")], None
+            same = [it.place for it in self.asked(f.id) if it.octets == asked.octets]
+            for place in {same[0], same[-1]}:
+                yield [token("altered-behind", place, f"its answer, packet {f.number}, {why}")], None
         if f.message != "Nak" and f.word != "tag-good":
             yield [self.token("altered", f": its {names} isn't that of packet {asked.number}, which it answers")], None
 
