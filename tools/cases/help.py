@@ -2,12 +2,20 @@
 
 from __future__ import annotations
 
+import contextlib
+import functools
+import io
 import os
 import re
+import runpy
 import subprocess
+import sys
 import tempfile
+from importlib.machinery import SourceFileLoader
 from pathlib import Path
+from types import ModuleType
 from typing import Iterator, Optional
+from unittest import mock
 
 from cases.lib.small import Run
 from lib.common import ROOT
@@ -32,18 +40,41 @@ def head_of(text: str) -> str:
     return found[1].removesuffix('"""') if found else ""
 
 
+def place_of(module: ModuleType) -> str:
+    return getattr(module, "__file__", "") or next(iter(getattr(module, "__path__", [])), "")
+
+
+def answer_of(path: Path) -> tuple[int, str, str]:
+    """What a script says of itself. One in Python runs here, with modules of its own, as Python's start would take the longest."""
+    if not path.read_text().startswith("#!/usr/bin/env -S python3 -B\n"):
+        done = subprocess.run([path, "--help"], stdin=subprocess.DEVNULL, capture_output=True, text=True, timeout=60)
+        return done.returncode, done.stdout, done.stderr
+    out, errors, status = io.TextIOWrapper(io.BytesIO(), write_through=True), io.StringIO(), 0
+    others = {name: it for name, it in sys.modules.items() if not place_of(it).startswith(str(ROOT))}
+    with contextlib.ExitStack() as changes:
+        changes.enter_context(mock.patch.multiple(sys, argv=[str(path), "--help"], stdout=out, stderr=errors, stdin=io.StringIO(),
+                                                  path=[str(path.parent), *(it for it in sys.path if not it.startswith(str(ROOT)))]))
+        changes.enter_context(mock.patch.dict(sys.modules, others, clear=True))
+        try:
+            runpy.run_path(str(path), run_name="__main__")
+        except SystemExit as ended:
+            status = ended.code if isinstance(ended.code, int) else 0
+    return status, out.buffer.getvalue().decode(), errors.getvalue()
+
+
 def case_help(_: Run) -> Iterator[Optional[str]]:
-    with tempfile.TemporaryDirectory() as folder:
+    compiled = functools.lru_cache(maxsize=None)(SourceFileLoader.source_to_code)
+    with tempfile.TemporaryDirectory() as folder, mock.patch.object(SourceFileLoader, "source_to_code", compiled), mock.patch.dict(
+            os.environ, PATH=f"{folder}:{os.environ['PATH']}"):
         for name in WORK:
             stub = Path(folder) / name
             stub.write_text(f"#!/bin/sh\n: >'{folder}/begun'\nexit 9\n")
             stub.chmod(0o755)
         for path, text in scripts():
             head, begun = head_of(text), Path(folder) / "begun"
-            done = subprocess.run([path, "--help"], cwd=folder, stdin=subprocess.DEVNULL, capture_output=True, text=True, timeout=60,
-                                  env={**os.environ, "PATH": f"{folder}:{os.environ['PATH']}"})
-            if (done.returncode, done.stderr) != (0, "") or not head or head not in done.stdout or begun.exists():
+            status, out, errors = answer_of(path)
+            if (status, errors) != (0, "") or not head or head not in out or begun.exists():
                 begun.unlink(missing_ok=True)
-                yield f"{path.relative_to(ROOT)} --help ends with {done.returncode} and writes {(done.stdout + done.stderr)[:80]!r}"
+                yield f"{path.relative_to(ROOT)} --help ends with {status} and writes {(out + errors)[:80]!r}"
             else:
                 yield None

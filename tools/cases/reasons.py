@@ -116,7 +116,7 @@ def files() -> Iterator[tuple[str, bytes, str, str]]:
     yield "key frames alone", wire.pcap([(100.0 + at, it) for at, it in exchange]), "keys alone", key
     encrypted = [(at, it[:9] + bytes([it[9] | 0x40]) + it[10:]) for at, it in ((at, wire.in_air(it)) for at, it in wrong)]
     yield "encrypted Wi-Fi", wire.pcap(encrypted, link=127), "encrypted", key
-    yield "a login over and over", wire.pcap(framed(*[*GOOD.whole, 20.0] * 90)), "good, same, over and over", key
+    yield "a login over and over", wire.pcap(framed(*[*GOOD.whole, 20.0] * 30)), "good, same, over and over", key
     yield "padded", wire.pcap([(at, it.ljust(60, b"\0")) for at, it in wrong]), REFUSED, key
     yield "a file that ends in the middle", wire.pcap(wrong)[:-10], "server silent, ended, end of file, wrong key, received", key
     yield "three stations to a group", wire.pcap(stations()), "good, wrong key, received, at once, behind, given", key + " bob 51 " + KEY.hex()

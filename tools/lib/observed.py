@@ -24,7 +24,7 @@ ENDS = ("Success", "Failure", "Reject")
 PLAIN_TYPES = (1, 2, 3, 47, 51, 254)
 # How many packets are asked of at once, how many are near one, and the messages of a method before and behind one; and of a
 # block of so few frames that comes again and again, octet for octet, how many are looked at.
-MOST_AT_ONCE, NEAR, BEFORE, BEHIND, BLOCK, REPEATED = 4000, 64, 16, 6, 64, 500
+MOST_AT_ONCE, NEAR, BEFORE, BEHIND, BLOCK, REPEATED = 4000, 64, 16, 6, 64, 150
 
 
 class Frame(NamedTuple):
