@@ -573,7 +573,7 @@ class Next:
             yield fresh, [] if self.server.is_idle else [self.token("restart-peer")]
             return
         other = self.other_answer()
-        if other and (f.stage == 4 or not self.asked(f.id, other.turn)):
+        if other and (f.stage == 4 or "Nak" in (f.message, other.message) or not self.asked(f.id, other.turn)):
             return
         more = [self.token("restart-peer")] * bool(other)
         for missing, request in requests:
