@@ -212,25 +212,27 @@ class Next:
             yield world, [self.token("stray")]
 
     def is_old(self) -> bool:
-        """Whether a message of a method was here before in this login, so that it is no new one."""
-        return bool(self.before and self.frame.stage) and self.before[0].turn >= self.world.begun
+        """Whether a message of a method was here before, in this login or in one whose nonces didn't come again, so that it is no
+        new one."""
+        may_be_new = self.frame.stage < 3 or "same-nonces" in self.world.facts
+        return bool(self.before and self.frame.stage) and (self.before[0].turn >= self.world.begun or not may_be_new)
 
     def same_nonces(self) -> tuple[frozenset[str], list[Token]]:
         """What it means that a message of an earlier login is a new one: its end used a nonce again. (then the next one is no wonder)"""
         f, fact = self.frame, "same-nonces"
         if not self.before or not f.stage or self.is_old():
             return frozenset(), []
-        is_known = fact in self.world.facts
-        said = [token(fact, f.place, self.before[0].number, cost=0 if is_known else None)]
-        return frozenset([fact]), said * (f.stage < 3 or not is_known)
+        said = [token(fact, f.place, self.before[0].number, cost=0 if fact in self.world.facts else None)] if f.stage < 3 else []
+        return frozenset([fact]), said
 
     def is_over(self) -> bool:
         """Whether a message is of a run that is over, though the capture doesn't have it before the end."""
         f, server = self.frame, self.server
-        its = [it for it in self.world.seen if it.turn >= self.world.begun and it.stage]
+        its = [it for it in self.world.seen if it.turn >= self.world.begun and (it.stage or it.message == f.message)]
         is_asked = not f.is_down and bool(self.asked(f.id))
-        return server.message in ENDS and f.stage in (1, 2, 3) and not is_asked and (server.id - f.id) % 256 <= 2 and all(
-            it.stage != f.stage and it.is_of_run(f) for it in its)
+        is_early = f.stage in (1, 2, 3) or f.message == "Identity"
+        return server.message in ENDS and is_early and not is_asked and (server.id - f.id) % 256 <= 2 and all(
+            it.message != f.message and (not f.stage or it.is_of_run(f)) for it in its)
 
     def is_other_reply(self, it: Frame) -> bool:
         """Whether a RADIUS packet is another reply than one with the same EAP packet."""
@@ -551,6 +553,8 @@ class Next:
 
     def of_peer(self) -> Iterator[Way]:
         f, peer = self.frame, self.peer
+        if f.stage in (1, 3):
+            return  # (a peer sends no such message)
         if self.before and peer.place >= 0 and peer.octets == f.octets:
             was = next((it for it in self.world.seen if it.turn == peer.turn), f)
             asked = self.asked(f.id, was.turn)
