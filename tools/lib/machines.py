@@ -689,6 +689,9 @@ class Next:
         if fits and not names:
             yield [], None
             return
+        if self.is_explained(asked):
+            yield self.unseen(asked.message, True), None
+            return
         if f.message == "Nak" or f.word != "tag-bad":
             why = "desires what it refuses" if f.message == "Nak" else f"has another {names}"
             same = [it.place for it in self.asked(f.id) if it.octets == asked.octets]
