@@ -553,8 +553,6 @@ class Next:
 
     def of_peer(self) -> Iterator[Way]:
         f, peer = self.frame, self.peer
-        if f.stage in (1, 3):
-            return  # (a peer sends no such message)
         if self.before and peer.place >= 0 and peer.octets == f.octets:
             was = next((it for it in self.world.seen if it.turn == peer.turn), f)
             asked = self.asked(f.id, was.turn)
@@ -562,6 +560,9 @@ class Next:
             if asked or f.radius or len(self.asked(f.id)) > len(self.before):
                 return
         if self.is_old() or not self.before and self.is_over():
+            return
+        if f.stage in (1, 3):
+            yield self.on, [self.token("altered", f": a peer sends no {f.message}")]
             return
         if f.word == "malformed":
             yield from ((self.on._replace(facts=self.on.facts | facts), found) for facts, found in self.misshaped())
