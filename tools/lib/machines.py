@@ -488,7 +488,8 @@ class Next:
             yield self.on, [self.token("rejected")]
             return
         if not server.message and not self.peer.message and f.message != "Reject":
-            yield self.on, [*self.opening(), self.unseen_refused(0)]
+            # (with the begin little more than a refusal that is here, and so no cheaper than that out of order)
+            yield self.on, [*self.opening(), self.unseen_refused(3)]
             return
         answers = [it for it in self.near(False) if (server.place < 0 or it.turn > server.turn - 3)
                    and server.id in (-1, it.id) and it.id == f.id or f.radius and it.radius and it.radius is f.radius.request]
