@@ -498,16 +498,21 @@ class Next:
             return
         for it in answers[:2]:
             yield from ((self.on, found) for found in self.refusals(it))
-        if not answers:
+        if not answers or not f.radius and answers[0].turn < server.turn and self.has_waited():
             yield self.on, self.given_up()
+
+    def has_waited(self) -> bool:
+        """Whether the server asked so long ago that it may give up."""
+        f, server = self.frame, self.server
+        first = min((it.at for it in self.near(True) if it.octets == server.octets), default=server.at)
+        return f.at - first >= GIVES_UP and f.id == server.id
 
     def given_up(self) -> list[Token]:
         """A Failure to an answer that isn't here."""
         f, server = self.frame, self.server
         if server.id >= 0 and not server.is_idle and (f.id - server.id) % 256 > 3:
             return [self.jump(), self.unseen_refused(0)]
-        first = min((it.at for it in self.near(True) if it.octets == server.octets), default=server.at)
-        if f.at - first >= GIVES_UP and f.id == server.id:
+        if self.has_waited():
             is_answered = any(it.id == f.id and it.turn > self.world.begun for it in self.near(False))
             return [token("no-answer", server.place)] * (
                 server.place >= 0 and not is_answered and not self.tap.hides_peer and not self.is_cut()) + [self.token("gave-up")]
