@@ -9,11 +9,14 @@ import subprocess
 import sys
 import tempfile
 import time
+from contextlib import ExitStack
 from pathlib import Path
 from typing import Iterator, Optional
 from unittest import mock
 
+from cases.lib.parts import module_of
 from cases.lib.small import Run, Small, holds, texts_of
+from lib.common import ROOT
 
 CODE, REST = "crates/small/src/lib.rt", "crates/small/specs/Rest.antt"
 EDIT, OTHER = "wrong/small/double__is_0.edit", "wrong/top/four__is_2.edit"
@@ -22,9 +25,13 @@ EDIT, OTHER = "wrong/small/double__is_0.edit", "wrong/top/four__is_2.edit"
 def case_tries(run: Run) -> Iterator[Optional[str]]:
     """An edit counts as refused where a clause refused it, and rt came to its end over sources that stayed; a row is of the
     sources that it was tried on, and of what the crates below give; one that is stopped leaves nothing."""
-    with tempfile.TemporaryDirectory() as folder, tempfile.TemporaryDirectory() as rooms, mock.patch.dict(os.environ):
+    with tempfile.TemporaryDirectory() as folder, tempfile.TemporaryDirectory() as rooms, mock.patch.dict(os.environ), ExitStack() as changes:
         os.makedirs(f"{folder}/bin")
-        shutil.copy("dev/cases/rt", f"{folder}/bin/rt")
+        for it in ("rt", "rattle"):
+            shutil.copy(f"dev/cases/{it}", f"{folder}/bin/{it}")
+        kit = Path(f"{folder}/bin/rtlib.py")
+        kit.write_text(f"from unittest.mock import MagicMock\nRATTLE, Crate = '{folder}/bin/rattle', MagicMock()\n")
+        changes.enter_context(mock.patch.object(module_of(ROOT / "dev/wrong").front_end, "rtlib", return_value=module_of(kit)))
         os.environ["PATH"] = f"{folder}/bin:{os.environ['PATH']}"
         texts = {**texts_of("dev/cases/small.texts"), OTHER: "file: src/lib.rt\nold: double(2)\nnew: double(1)\n"}
         small = Small(f"{folder}/small", texts)
@@ -59,14 +66,16 @@ def case_tries(run: Run) -> Iterator[Optional[str]]:
         os.remove(small.root / OTHER)
         yield tells(1, "wrong", "dev/wrong: small/double__is_0.edit: it was not tried", STOPS="yes")
         yield tells(1, "wrong", "dev/wrong: small: a source changed meanwhile", CHANGES=str(small.root / CODE))
-        for kind in ("by_name", "by_limit", "is_bad", "is_untried", "is_proved"):
-            small.write(f"wrong/small/double__{kind}.edit", small.texts[EDIT])
-        yield tells(1, "wrong", "wrong: 1 passed, 5 failed")
-        for it in ("dev/wrong", "cases/settings", *map(str, Path("tools/lib").glob("*.py"))):
+        for kind in ("also", "by_name", "by_limit", "is_bad", "is_untried", "is_proved", "is_whole"):
+            small.write(f"wrong/small/double__{kind}.edit", small.texts[EDIT].replace("    n\n", f"    n // {kind}\n"))
+        small.write("wrong/small/one__is_1.edit", "file: src/lib.rt\nold:     1\nnew:     2 - 1\n")
+        yield tells(1, "wrong --jobs 3", "dev/wrong: small/one__is_1.edit: NOT REFUSED: the crate is still proved with this edit")
+        yield tells(1, "wrong --jobs 3", "wrong: 3 passed, 6 failed")
+        for it in ("dev/wrong", ".ci/front_end.py", "cases/settings", *map(str, Path("tools/lib").glob("*.py"))):
             small.write(it, Path(it).read_text())
         working = subprocess.Popen([sys.executable, "-B", small.root / "dev/wrong"], env={**os.environ, "TMPDIR": rooms, "SLEEPS": "yes"},
                                    stdin=subprocess.DEVNULL, stdout=subprocess.DEVNULL, stderr=subprocess.DEVNULL)
-        while not list(Path(rooms).glob("*/crates/small/must-fail/*")) and working.poll() is None:
+        while not list(Path(rooms).glob("*/0/src")) and working.poll() is None:
             time.sleep(0.05)
         working.send_signal(signal.SIGTERM)
         found = working.wait(), os.listdir(rooms)
