@@ -1,8 +1,7 @@
 -- A conversation's events and draws, one by one and all together.
-use Rattle.std.proofs.Common.{◌≡◌, ◌≤◌, ℕ, false, suc, ◌+◌, ◌*◌, List, [], ◌∷◌, ◌++◌, refl, sym, ap, subst, ◌∙◌, arith, add-one, codes}
+use Rattle.std.proofs.Common.{◌≡◌, ◌≤◌, ℕ, suc, ◌+◌, ◌*◌, List, [], ◌∷◌, ◌++◌, refl, sym, ap, subst, ◌∙◌, arith, add-one, codes}
 use Rattle.login_setup.specs.declared.event.Event.TheVariants.{Deliver}
 use Rattle.login_setup.specs.declared.setup.Setup.{Setup}
-use Rattle.eap_world.specs.Run.{run_of}
 use Rattle.eap_world.specs.World.{WorldNow}
 use Rattle.login_setup.specs.declared.setup.Later.{Later}
 use Rattle.login_setup.specs.declared.setup.PeerSetup.{PeerSetup}
@@ -16,6 +15,7 @@ use Rattle.bulk_run.specs.Conversation.{login_methods, alice, srv, known_with, s
 use Rattle.bulk_run.specs.Draws.{octet_at, octets_after}
 use Rattle.bulk_run.specs.Summing.{IsAtMost, events_of, summary_of, plus, counts_of, ended_at, drawn_each, nothing_counted}
 use Rattle.bulk_run.specs.declared.summary.Summary.{Summary}
+use Rattle.world_laws.specs.Runs.{run_of}
 
 -- settings as the code puts them together
 abbrev setup_of : PeerSetup → ServerSetup → Later → Setup

@@ -9,10 +9,10 @@ use Rattle.login_setup.specs.declared.setup.Setup.{Setup}
 use Rattle.login_setup.specs.declared.users.User.{User}
 use Rattle.octet_lists.specs.Among.{gpsk_kind}
 use Rattle.login_setup.specs.Plain.{plain_peer, plain_server, plain_setup}
-use Rattle.eap_world.specs.Run.{run_of}
 use Rattle.eap_world.specs.Sent.{Sent, packet_numbered}
 use Rattle.eap_world.specs.World.{octets_of}
 use Rattle.bulk_run.specs.Draws.{octet_at, octets_after}
+use Rattle.world_laws.specs.Runs.{run_of}
 
 -- the method that both ends allow
 abbrev pub login_methods : List ℕ

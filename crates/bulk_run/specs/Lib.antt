@@ -7,4 +7,4 @@ pub mod Summing
 -- What a step does to a world.
 pub mod RunningEnd
 -- The objects of both ends, by their methods.
-pub mod Kinds
+pub mod ObjectMethods

@@ -2,7 +2,6 @@
 use Rattle.std.specs.Prelude.{◌≡◌, ◌≤◌, ℕ, zero, suc, ◌+◌, ◌*◌, ◌%◌, ◌==◌, List, Bool, true, false, if◌then◌else◌}
 use Rattle.login_setup.specs.declared.event.Event.{Event}
 use Rattle.login_setup.specs.declared.setup.Setup.{Setup}
-use Rattle.eap_world.specs.Run.{run_of}
 use Rattle.tag_book.specs.Book.{tags_verdict}
 use Rattle.eap_world.specs.Judgement.{verdict_of}
 use Rattle.eap_world.specs.World.{WorldNow, one_if}
@@ -12,6 +11,7 @@ use Rattle.eap_world.specs.declared.verdict.Verdict.{Verdict}
 use Rattle.eap_world.specs.declared.verdict.Verdict.TheVariants as verdict
 use Rattle.bulk_run.specs.Conversation.{setup_at, deliveries, chances}
 use Rattle.bulk_run.specs.declared.summary.Summary.{Summary}
+use Rattle.world_laws.specs.Runs.{run_of}
 
 -- over an odd number the first packets are delivered in order, over an even one drawn octets choose the events
 abbrev pub is_even : ℕ → Bool

@@ -2,15 +2,17 @@
 
 ghost use Rattle.std.specs.Prelude.{◌≡◌, ◌+◌, ℕ, [], length, map, true, false, IfOk};
 ghost use Rattle.login_setup.specs.declared.setup.Setup.{Setup};
+ghost use Rattle.eap_method.specs.BothPeers as both_peers;
+ghost use Rattle.eap_method.specs.BothServers as both_servers;
 ghost use Rattle.eap_method.specs.Peer.{peer_kinds, have_each};
 ghost use Rattle.eap_method.specs.Server.{server_kinds};
-ghost use Rattle.eap_world.specs.Run.{run_of};
-ghost use Rattle.eap_world.specs.World.{HasObjects, now_of, initial_world};
-ghost use Rattle.bulk_run.specs.Kinds.{PreservesKinds, HaveSameKinds};
+ghost use Rattle.eap_world.specs.World.{HasObjects, now_of};
+ghost use Rattle.bulk_run.specs.ObjectMethods.{PreservesMethods, HaveSameMethods};
 ghost use Rattle.bulk_run.specs.Conversation.{login_methods, alice, known_with, deliveries, chances};
 ghost use Rattle.bulk_run.specs.Draws.{state_at};
 ghost use Rattle.bulk_run.specs.RunningEnd.{AreFew};
 ghost use Rattle.bulk_run.specs.Summing.{counts_of, drawn_each, drawn_for_events, ended_at, events_of, IsAtMost};
+ghost use Rattle.world_laws.specs.Runs.{initial_world, run_of};
 
 use crate::draws::Draws;
 use crate::summary::Summary;
@@ -29,7 +31,7 @@ const SERVER: &[u8] = b"srv";
 
 /// The conversation that begins at the present place of the draws. It takes the objects, which begin
 /// again, and returns them; `counts` is its result. `Memory` comes only for want of memory.
-#[tactic(auto, using(crate::proofs::TwoRecords::same_kinds))]
+#[tactic(auto, using(crate::proofs::TwoRecords::same_methods))]
 pub fn converse<P: PeerMethod, S: ServerMethod>(
     alloc: Global,
     number: u32,
@@ -39,11 +41,13 @@ pub fn converse<P: PeerMethod, S: ServerMethod>(
 ) -> Result<Methods<P, S>, Memory>
     requires peer_objects { have_each (peer_kinds (map P.peer_shown methods.peer.items)) login_methods ≡ true }
     requires server_objects { have_each (server_kinds (map S.server_shown methods.server.items)) login_methods ≡ true }
+    requires both_peers { both_peers.are_both (map P.peer_shown methods.peer.items) ≡ true }
+    requires both_servers { both_servers.are_both (map S.server_shown methods.server.items) ≡ true }
     ensures counts { IfOk result (λ after. (place : ℕ) → draws.old.state ≡ state_at number place → counts.new ≡ counts_of (ended_at number place)) }
     ensures small { IfOk result (λ after. IsAtMost counts.new 40) }
     ensures state { IfOk result (λ after. (place : ℕ) → draws.old.state ≡ state_at number place
         → draws.new.state ≡ state_at number (place + drawn_each number)) }
-    ensures kinds { IfOk result (λ after. HaveSameKinds P.peer_shown S.server_shown
+    ensures methods { IfOk result (λ after. HaveSameMethods P.peer_shown S.server_shown
         methods.peer.items methods.server.items after.peer.items after.server.items) }
 {
     let peer_nonce = draws.octets();
@@ -116,7 +120,7 @@ fn talk<P: PeerMethod, S: ServerMethod>(
     ensures state { IfOk result (λ done. (place : ℕ) → draws.old.state ≡ state_at number place
         → draws.new.state ≡ state_at number (place + drawn_for_events number)) }
     ensures few { IfOk result (λ done. AreFew world.new.counts 40) }
-    ensures kinds { IfOk result (λ done. PreservesKinds P.peer_shown S.server_shown world.old world.new) }
+    ensures methods { IfOk result (λ done. PreservesMethods P.peer_shown S.server_shown world.old world.new) }
 {
     let mut packets = start_run(world)?;
     if number % 2 == 0 {
@@ -138,7 +142,7 @@ fn deliver_all<P: PeerMethod, S: ServerMethod>(
     ensures run { IfOk result (λ done. (setup : Setup) → now_of P.peer_shown S.server_shown world.old ≡ run_of setup []
         → now_of P.peer_shown S.server_shown world.new ≡ run_of setup (deliveries 7)) }
     ensures few { IfOk result (λ done. AreFew world.new.counts 7) }
-    ensures kinds { IfOk result (λ done. PreservesKinds P.peer_shown S.server_shown world.old world.new) }
+    ensures methods { IfOk result (λ done. PreservesMethods P.peer_shown S.server_shown world.old world.new) }
 {
     for passed in 0..7_u32 {
         step_event(world, packets, &Event::Deliver { number: passed + 1 })?;
@@ -162,7 +166,7 @@ fn step_by_chance<P: PeerMethod, S: ServerMethod>(
     ensures state { IfOk result (λ done. (number place : ℕ) → draws.old.state ≡ state_at number place
         → draws.new.state ≡ state_at number (place + 80)) }
     ensures few { IfOk result (λ done. AreFew world.new.counts 40) }
-    ensures kinds { IfOk result (λ done. PreservesKinds P.peer_shown S.server_shown world.old world.new) }
+    ensures methods { IfOk result (λ done. PreservesMethods P.peer_shown S.server_shown world.old world.new) }
 {
     for _ in 0..40_u32 {
         let v = draws.octet();

@@ -3,25 +3,25 @@
 ghost use Rattle.std.specs.Prelude.{◌≡◌, ◌<◌, ◌+◌, ◌%◌, ℕ, List, [], length, true, false, IfOk};
 ghost use Rattle.login_setup.specs.declared.event.Event.{Event};
 ghost use Rattle.login_setup.specs.declared.setup.Setup.{Setup};
-ghost use Rattle.eap_world.specs.Run.{run_of, StartsRun, HasContinued};
 ghost use Rattle.eap_world.specs.World.{HasObjects, now_of, octets_of};
-ghost use Rattle.bulk_run.specs.Kinds.{PreservesKinds};
+ghost use Rattle.bulk_run.specs.ObjectMethods.{PreservesMethods};
 ghost use Rattle.eap_world.specs.Sent.{packet_numbered};
 ghost use Rattle.bulk_run.specs.Conversation.{choice, chosen, with_event};
 ghost use Rattle.bulk_run.specs.RunningEnd.{AreFew, sent_after};
+ghost use Rattle.world_laws.specs.Runs.{run_of, StartsRun, HasContinued};
 
 use eap_method::{PeerMethod, ServerMethod};
 use eap_world::{Brief, MAX_EVENTS, Memory, World};
 use login_setup::{Event, Party};
 
 /// Starts a world in which nothing was sent, and answers how many packets were sent then. Each method of an end has an object.
-#[tactic(auto, using(crate::proofs::TwoRecords::same_kinds))]
+#[tactic(auto, using(crate::proofs::TwoRecords::same_methods))]
 pub fn start_run<P: PeerMethod, S: ServerMethod>(world: &mut World<P, S>) -> Result<u32, Memory>
     requires unstarted { world.old.started ≡ false }
     requires unsent { world.old.sent ≡ [] }
     requires objects { HasObjects P.peer_shown S.server_shown world.old }
     ensures run { IfOk result (λ packets. StartsRun P.peer_shown S.server_shown world.old world.new) }
-    ensures kinds { PreservesKinds P.peer_shown S.server_shown world.old world.new }
+    ensures methods { PreservesMethods P.peer_shown S.server_shown world.old world.new }
     ensures objects { HasObjects P.peer_shown S.server_shown world.new }
     ensures started { IfOk result (λ packets. world.new.started ≡ true) }
     ensures packets { IfOk result (λ packets. packets ≡ length world.new.sent) }
@@ -32,7 +32,7 @@ pub fn start_run<P: PeerMethod, S: ServerMethod>(world: &mut World<P, S>) -> Res
 }
 
 /// Takes an event. `packets` counts the packets that were sent. Each method of an end has an object.
-#[tactic(auto, using(crate::proofs::TwoRecords::same_kinds))]
+#[tactic(auto, using(crate::proofs::TwoRecords::same_methods))]
 pub fn step_event<P: PeerMethod, S: ServerMethod>(
     world: &mut World<P, S>,
     packets: &mut u32,
@@ -43,7 +43,7 @@ pub fn step_event<P: PeerMethod, S: ServerMethod>(
     requires packets { packets.old ≡ length world.old.sent }
     requires objects { HasObjects P.peer_shown S.server_shown world.old }
     ensures run { IfOk result (λ done. HasContinued P.peer_shown S.server_shown event.now world.old world.new) }
-    ensures kinds { PreservesKinds P.peer_shown S.server_shown world.old world.new }
+    ensures methods { PreservesMethods P.peer_shown S.server_shown world.old world.new }
     ensures objects { HasObjects P.peer_shown S.server_shown world.new }
     ensures started { IfOk result (λ done. world.new.started ≡ true) }
     ensures packets { IfOk result (λ done. packets.new ≡ length world.new.sent) }
@@ -77,7 +77,7 @@ pub fn step_chosen<P: PeerMethod, S: ServerMethod>(
     requires objects { HasObjects P.peer_shown S.server_shown world.old }
     ensures run { IfOk result (λ done. (setup : Setup) (events : List Event) → now_of P.peer_shown S.server_shown world.old ≡ run_of setup events
         → now_of P.peer_shown S.server_shown world.new ≡ run_of setup (with_event events (chosen world.old.sent v u))) }
-    ensures kinds { PreservesKinds P.peer_shown S.server_shown world.old world.new }
+    ensures methods { PreservesMethods P.peer_shown S.server_shown world.old world.new }
     ensures objects { HasObjects P.peer_shown S.server_shown world.new }
     ensures started { IfOk result (λ done. world.new.started ≡ true) }
     ensures packets { IfOk result (λ done. packets.new ≡ length world.new.sent) }

@@ -4,9 +4,8 @@
 use crate::plain_calls::{LOGINS, Login, are_equal, settings_of};
 use access_point::AccessPoint;
 use eap_base::Octets;
-use eap_method::{Methods, Outcome, PeerMethod, ServerMethod};
+use eap_method::{Methods, Outcome, PeerMethod, ServerMethod, peer_pair, server_pair};
 use gpsk_ends::{GpskPeer, GpskServer};
-use login_run::methods_of;
 use login_server::Session;
 use login_setup::Setup;
 use octet_lists::{GPSK_KIND, PSK_KIND};
@@ -75,7 +74,10 @@ fn goes_over<P: PeerMethod, S: ServerMethod>(
     {
         return Ok(false);
     }
-    let methods = methods_of(alloc, gpsk_peer, psk_peer, gpsk_server, psk_server)?;
+    let methods = Methods {
+        peer: peer_pair(alloc, gpsk_peer, psk_peer)?,
+        server: server_pair(alloc, gpsk_server, psk_server)?,
+    };
     let Some(setup) = settings_of(login) else {
         return Ok(false);
     };

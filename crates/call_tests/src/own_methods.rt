@@ -2,9 +2,11 @@
 //! another, so what both ends send is known: in a box, and around any box. They go by every way of `plain_calls`.
 
 use crate::plain_calls::{LOGINS, Login, WAYS, Way, by_way};
-use eap_method::{Credential, PeerMethod, PeerTurn, Report, ServerMethod, ServerSide, ServerTurn};
+use eap_method::{
+    Credential, Methods, PeerMethod, PeerTurn, Report, ServerMethod, ServerSide, ServerTurn,
+    peer_pair, server_pair,
+};
 use gpsk_ends::{GpskPeer, GpskServer};
-use login_run::methods_of;
 use login_setup::Users;
 use octet_lists::{GPSK_KIND, Nonce, PSK_KIND, Packet};
 use psk_ends::{PskPeer, PskServer};
@@ -132,7 +134,10 @@ fn goes_over<P: PeerMethod, S: ServerMethod>(
     {
         return Ok(false);
     }
-    let methods = methods_of(alloc, gpsk_peer, psk_peer, gpsk_server, psk_server)?;
+    let methods = Methods {
+        peer: peer_pair(alloc, gpsk_peer, psk_peer)?,
+        server: server_pair(alloc, gpsk_server, psk_server)?,
+    };
     Ok(by_way(alloc, way, methods, login))
 }
 

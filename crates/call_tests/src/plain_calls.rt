@@ -4,7 +4,7 @@
 
 ghost use Rattle.std.specs.Prelude.{◌≤◌, IfSome};
 ghost use Rattle.scenario_text.specs.Valid.{IsValidPeer, IsValidServer, IsValidSetup};
-ghost use Rattle.world_commands.specs.Replay.{HasBoth};
+ghost use Rattle.world_commands.specs.Replay.{HasEach};
 
 use crate::messages::is_written_again;
 use eap_base::{Event, Mode, Octets, Packet, Party, PeerSetup, ServerSetup, Setup};
@@ -209,7 +209,7 @@ fn in_world<P: PeerMethod, S: ServerMethod>(
     login: Login,
 ) -> bool
     requires valid { IsValidSetup setup }
-    requires both { HasBoth P.peer_shown S.server_shown methods }
+    requires both { HasEach P.peer_shown S.server_shown methods }
 {
     let mut world = World::new(alloc, setup, methods);
     if world.started() || !world.has_objects() {
@@ -266,7 +266,7 @@ fn between_machines<P: PeerMethod, S: ServerMethod>(
     login: Login,
 ) -> bool
     requires valid { IsValidSetup setup }
-    requires both { HasBoth P.peer_shown S.server_shown methods }
+    requires both { HasEach P.peer_shown S.server_shown methods }
 {
     let mut peer = PeerMachine::new(setup.peer, methods.peer);
     let mut server = ServerMachine::new(
@@ -352,7 +352,7 @@ fn through_pass<P: PeerMethod, S: ServerMethod>(
     login: Login,
 ) -> bool
     requires valid { IsValidSetup setup }
-    requires both { HasBoth P.peer_shown S.server_shown methods }
+    requires both { HasEach P.peer_shown S.server_shown methods }
 {
     let mut peer = PeerMachine::new(setup.peer, methods.peer);
     let mut pass = PassThrough::new(setup.first_id, setup.max_retrans);
@@ -385,7 +385,7 @@ fn input_of(packet: &Packet) -> EndInput {
 
 /// Between two ends, each read from its own text.
 fn between_pipes<P: PeerMethod, S: ServerMethod>(methods: Methods<P, S>, login: Login) -> bool
-    requires both { HasBoth P.peer_shown S.server_shown methods }
+    requires both { HasEach P.peer_shown S.server_shown methods }
 {
     let (Some(setup), Some((server_setup, first_id, max_retrans))) = (
         peer_settings(),
@@ -432,7 +432,7 @@ pub(crate) fn by_way<P: PeerMethod, S: ServerMethod>(
     methods: Methods<P, S>,
     login: Login,
 ) -> bool
-    requires { HasBoth P.peer_shown S.server_shown methods }
+    requires { HasEach P.peer_shown S.server_shown methods }
 {
     let Some(setup) = settings_of(login) else {
         return false;

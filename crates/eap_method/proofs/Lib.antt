@@ -26,5 +26,9 @@ pub mod ServerViews
 pub mod Unnamed
 -- Rows that were worked: which objects an end doesn't name.
 pub mod Worked
+-- A peer whose objects are of EAP-PSK and EAP-GPSK, one at least of each method that it allows, begins as one that has one of each.
+pub mod BothPeers
+-- A server whose objects are of EAP-PSK and EAP-GPSK, one at least of each method that it proposes, begins as one that has one of each.
+pub mod BothServers
 -- Where an end has an object of both methods, it has one of each method that settings can name.
 mod BothMethods

@@ -58,7 +58,7 @@ servers_started setup [] = refl
 servers_started setup (s ∷ rest) =
     let after = map (server_started_in setup) rest in
     elim (cases_Bool (is_among setup.methods (server_kind s))) [
-      | inl is ↦ server_hit setup.methods (server_kind s) s (server_started_in setup s) after (server.begun-kind-in setup s) refl is
+      | inl is ↦ server_hit setup.methods (server_kind s) s (server_started_in setup s) after (server.begun-kind setup s) refl is
       | inr is ↦ ap (λ s. servers_unnamed setup.methods (s ∷ after)) (sym (server.stays setup s is))
     ]
     ∙ server_miss setup.methods s rest after (servers_started setup rest)

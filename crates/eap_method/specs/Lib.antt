@@ -1,3 +1,5 @@
+pub mod BothPeers
+pub mod BothServers
 pub mod GpskPeer
 pub mod GpskServer
 pub mod GpskTags

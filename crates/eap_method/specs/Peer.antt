@@ -1,31 +1,92 @@
 -- The peer's methods by kind: what an object is, its state, and its calls.
-use Rattle.std.specs.Prelude.{◌≡◌, ℕ, List, [], ◌∷◌, Bool, ◌==◌, if◌then◌else◌, Option, Some, None, unwrap_or, map}
+use Rattle.std.specs.Prelude.{◌≡◌, ℕ, List, [], Bool, false, ◌==◌, if◌then◌else◌, Option, Some, None, unwrap_or, map, find, option_map}
 use Rattle.std.specs.List.{list_all}
 use Rattle.login_setup.specs.Setup.{key_of}
 use Rattle.login_setup.specs.declared.setup.PeerSetup.{PeerSetup}
-use Rattle.octet_lists.specs.Among.{psk_kind, gpsk_kind, is_among}
-use Rattle.eap_packet.specs.Packet.{request, spelled, IsPacket}
+use Rattle.octet_lists.specs.Among.{psk_kind, gpsk_kind, nak_kind, is_among}
+use Rattle.eap_packet.specs.Packet.{request, response, spelled, IsPacket}
+use Rattle.eap_packet.specs.declared.cause.Cause.{Cause}
 use Rattle.eap_packet.specs.declared.cause.Cause.TheVariants.{WrongOp}
 use Rattle.eap_method.specs.declared.values.Credential.{Credential}
+use Rattle.eap_method.specs.declared.values.Decision.{Decision}
+use Rattle.eap_method.specs.declared.values.MethodState.{MethodState}
 use Rattle.eap_method.specs.declared.values.Report.{Report}
 use Rattle.eap_method.specs.PskPeer as psk_peer
 use Rattle.eap_method.specs.GpskPeer as gpsk_peer
-use Rattle.eap_method.specs.Turns.{PeerOutcome, discarded}
+use Rattle.eap_method.specs.PeerTurn.{Discard, Reply}
+use Rattle.eap_method.specs.Tags.{Tags}
+use Rattle.eap_method.specs.Turns.{PeerOutcome, discarded, id_of}
+
+-- the packet is a Response of this Type to the Request with this Identifier
+pub record Responds (id kind : ℕ) (packet : List ℕ) : Type 0 where
+  pub body : List ℕ
+  pub encoding_of : packet ≡ spelled (response id kind body)
+
+-- a method of a maker: its Type, which isn't Nak's, and its tables over a state of octets; a discard keeps the state, and a
+-- Response answers the Request
+pub record Custom : Type 0 where
+  pub kind : ℕ
+  pub no_nak : (kind == nak_kind) ≡ false
+  pub fresh : Credential → List ℕ → List ℕ
+  pub step : List ℕ → List ℕ → PeerOutcome (List ℕ)
+  pub report : List ℕ → Option Report
+  pub discards : (view octets : List ℕ) (cause : Cause) → (step view octets).turn ≡ Discard cause → (step view octets).after ≡ view
+  pub responds : (view octets packet : List ℕ) (state : MethodState) (decision : Decision) (tags : Tags)
+      → (step view octets).turn ≡ Reply packet state decision tags → Responds (id_of octets) kind packet
+
+-- the methods
+pub data Method : Type 0 where
+  by_psk : Method
+  by_gpsk : Method
+  by_other : Custom → Method
+
+-- a method's Type, the state of its objects, and their calls
+abbrev pub kind_of : Method → ℕ
+kind_of by_psk = psk_kind
+kind_of by_gpsk = gpsk_kind
+kind_of (by_other custom) = custom.kind
+
+abbrev pub View : Method → Type 0
+View by_psk = psk_peer.View
+View by_gpsk = gpsk_peer.View
+View (by_other custom) = List ℕ
+
+abbrev pub fresh : (m : Method) → Credential → List ℕ → View m
+fresh by_psk cred nonce = psk_peer.fresh cred nonce
+fresh by_gpsk cred nonce = gpsk_peer.fresh cred nonce
+fresh (by_other custom) cred nonce = custom.fresh cred nonce
+
+abbrev pub step : (m : Method) → View m → List ℕ → PeerOutcome (View m)
+step by_psk view octets = psk_peer.step view octets
+step by_gpsk view octets = gpsk_peer.step view octets
+step (by_other custom) view octets = custom.step view octets
+
+abbrev pub report : (m : Method) → View m → Option Report
+report by_psk view = psk_peer.report view
+report by_gpsk view = gpsk_peer.report view
+report (by_other custom) view = custom.report view
 
 -- an object: its method, and its state
-pub data PeerShown : Type 0 where
-  psk : psk_peer.View → PeerShown
-  gpsk : gpsk_peer.View → PeerShown
+pub record PeerShown : Type 0 where
+  pub method : Method
+  pub view : View method
+
+abbrev pub psk : psk_peer.View → PeerShown
+psk view = record { method = by_psk; view = view }
+
+abbrev pub gpsk : gpsk_peer.View → PeerShown
+gpsk view = record { method = by_gpsk; view = view }
+
+abbrev pub other : Custom → List ℕ → PeerShown
+other custom view = record { method = by_other custom; view = view }
 
 -- the object's Type
 abbrev pub peer_kind : PeerShown → ℕ
-peer_kind (psk view) = psk_kind
-peer_kind (gpsk view) = gpsk_kind
+peer_kind s = kind_of s.method
 
 -- the object after it has begun
 abbrev pub started_peer : Credential → List ℕ → PeerShown → PeerShown
-started_peer cred nonce (psk view) = psk (psk_peer.fresh cred nonce)
-started_peer cred nonce (gpsk view) = gpsk (gpsk_peer.fresh cred nonce)
+started_peer cred nonce s = record { method = s.method; view = fresh s.method cred nonce }
 
 -- the octets are a Request of this Type with nothing past its Length
 pub record IsRequest (kind : ℕ) (octets : List ℕ) : Type 0 where
@@ -34,78 +95,63 @@ pub record IsRequest (kind : ℕ) (octets : List ℕ) : Type 0 where
   pub packet : IsPacket (request id kind body)
   pub encoding_of : octets ≡ spelled (request id kind body)
 
-abbrev pub psk_turns : PeerOutcome psk_peer.View → PeerOutcome PeerShown
-psk_turns out = record { turn = out.turn; after = psk out.after }
-
-abbrev pub gpsk_turns : PeerOutcome gpsk_peer.View → PeerOutcome PeerShown
-gpsk_turns out = record { turn = out.turn; after = gpsk out.after }
+abbrev pub turns : (m : Method) → PeerOutcome (View m) → PeerOutcome PeerShown
+turns m out = record { turn = out.turn; after = record { method = m; view = out.after } }
 
 -- the object's turn for a Request of its Type
 unfoldable pub peer_step : PeerShown → List ℕ → PeerOutcome PeerShown
-peer_step (psk view) octets = psk_turns (psk_peer.step view octets)
-peer_step (gpsk view) octets = gpsk_turns (gpsk_peer.step view octets)
+peer_step s octets = turns s.method (step s.method s.view octets)
 
 -- the report of the object
 unfoldable pub peer_report : PeerShown → Option Report
-peer_report (psk view) = psk_peer.report view
-peer_report (gpsk view) = gpsk_peer.report view
+peer_report s = report s.method s.view
 
--- the views of both methods; that of a method which the peer doesn't allow, or has no object of, is unset
-pub record PeerViews : Type 0 where
-  pub psk : psk_peer.View
-  pub gpsk : gpsk_peer.View
+-- the first object of a Type
+abbrev pub first_of : ℕ → List PeerShown → Option PeerShown
+first_of kind shown = find (λ s. peer_kind s == kind) shown
 
--- the view of the first object of each method
-abbrev pub psk_view_of : List PeerShown → psk_peer.View
-psk_view_of [] = psk_peer.unset
-psk_view_of (psk view ∷ rest) = view
-psk_view_of (gpsk view ∷ rest) = psk_view_of rest
+-- what the peer's object of each Type shows; none of a Type that it doesn't allow, or has no object of
+abbrev pub PeerViews : Type 0
+PeerViews = ℕ → Option PeerShown
 
-abbrev pub gpsk_view_of : List PeerShown → gpsk_peer.View
-gpsk_view_of [] = gpsk_peer.unset
-gpsk_view_of (psk view ∷ rest) = gpsk_view_of rest
-gpsk_view_of (gpsk view ∷ rest) = view
+unfoldable pub peer_views : List ℕ → List PeerShown → PeerViews
+peer_views allowed shown = λ kind. if is_among allowed kind then first_of kind shown else None
 
--- the views of the objects, of the methods that are allowed
-unfoldable pub views_where : Bool → Bool → List PeerShown → PeerViews
-views_where has_psk has_gpsk shown = record {
-  psk = if has_psk then psk_view_of shown else psk_peer.unset;
-  gpsk = if has_gpsk then gpsk_view_of shown else gpsk_peer.unset;
-}
-
-abbrev pub peer_views : List ℕ → List PeerShown → PeerViews
-peer_views allowed shown = views_where (is_among allowed psk_kind) (is_among allowed gpsk_kind) shown
-
--- the view of a method, by its Type
 abbrev pub view_of : PeerViews → ℕ → Option PeerShown
-view_of views kind =
-    if kind == psk_kind then Some (psk views.psk)
-    else if kind == gpsk_kind then Some (gpsk views.gpsk)
-    else None
+view_of views kind = views kind
 
--- the Types of the objects, in their order
+-- the methods of the objects, in their order, and their Types
+abbrev pub method_of : PeerShown → Method
+method_of s = s.method
+
+abbrev pub peer_methods : List PeerShown → List Method
+peer_methods shown = map method_of shown
+
 abbrev pub peer_kinds : List PeerShown → List ℕ
-peer_kinds shown = map peer_kind shown
+peer_kinds shown = map kind_of (peer_methods shown)
 
--- the turn of a method, by its Type, and both views after it
-abbrev pub psk_turn : PeerViews → PeerOutcome psk_peer.View → PeerOutcome PeerViews
-psk_turn views out = record { turn = out.turn; after = record views { psk = out.after } }
+-- the views with this one at a Type
+abbrev pub put : ℕ → PeerShown → PeerViews → PeerViews
+put kind s views = λ other. if other == kind then Some s else views other
 
-abbrev pub gpsk_turn : PeerViews → PeerOutcome gpsk_peer.View → PeerOutcome PeerViews
-gpsk_turn views out = record { turn = out.turn; after = record views { gpsk = out.after } }
+-- the turn of a method, by its Type, and the views after it
+abbrev pub putting : ℕ → PeerViews → PeerOutcome PeerShown → PeerOutcome PeerViews
+putting kind views out = record { turn = out.turn; after = put kind out.after views }
+
+abbrev pub turned : ℕ → PeerViews → List ℕ → Option PeerShown → PeerOutcome PeerViews
+turned kind views octets None = discarded views WrongOp
+turned kind views octets (Some s) = putting kind views (peer_step s octets)
 
 unfoldable pub peer_turn : ℕ → PeerViews → List ℕ → PeerOutcome PeerViews
-peer_turn kind views octets =
-    if kind == psk_kind then psk_turn views (psk_peer.step views.psk octets)
-    else if kind == gpsk_kind then gpsk_turn views (gpsk_peer.step views.gpsk octets)
-    else discarded views WrongOp
+peer_turn kind views octets = turned kind views octets (views kind)
 
 -- the report of a method, by its Type
+abbrev pub reported : Option PeerShown → Option Report
+reported None = None
+reported (Some s) = peer_report s
+
 unfoldable pub peer_report_of : ℕ → PeerViews → Option Report
-peer_report_of kind views =
-    if kind == psk_kind then psk_peer.report views.psk
-    else if kind == gpsk_kind then gpsk_peer.report views.gpsk
-    else None
+peer_report_of kind views = reported (views kind)
 
 -- what the peer of these settings brings into a method: the key is the one for it, or none
 abbrev pub key_for : PeerSetup → ℕ → List ℕ
@@ -116,15 +162,12 @@ credential_for setup kind = record { id_p = setup.name; accepts = setup.accepts;
 
 -- the object after a peer of these settings has begun: one of a method that it doesn't allow stays as it is
 unfoldable pub peer_started_in : PeerSetup → PeerShown → PeerShown
-peer_started_in setup (psk view) = psk (if is_among setup.methods psk_kind then psk_peer.fresh (credential_for setup psk_kind) setup.nonce else view)
-peer_started_in setup (gpsk view) = gpsk (if is_among setup.methods gpsk_kind then gpsk_peer.fresh (credential_for setup gpsk_kind) setup.nonce else view)
+peer_started_in setup s =
+    if is_among setup.methods (peer_kind s) then started_peer (credential_for setup (peer_kind s)) setup.nonce s else s
 
 -- the views of a peer that begins
-unfoldable pub views_started : PeerSetup → PeerViews
-views_started setup = record {
-  psk = if is_among setup.methods psk_kind then psk_peer.fresh (credential_for setup psk_kind) setup.nonce else psk_peer.unset;
-  gpsk = if is_among setup.methods gpsk_kind then gpsk_peer.fresh (credential_for setup gpsk_kind) setup.nonce else gpsk_peer.unset;
-}
+unfoldable pub views_started : PeerSetup → PeerViews → PeerViews
+views_started setup views = λ kind. option_map (peer_started_in setup) (views kind)
 
 -- there is an object of each of these Types
 abbrev pub have_each : List ℕ → List ℕ → Bool

@@ -20,11 +20,14 @@ mod values;
 pub use outcome::Outcome;
 pub use pairs::{peer_pair, server_pair};
 pub use peer::PeerMethod;
-pub use peer_objects::{call_peer_method, peer_report, start_peers};
+pub use peer_objects::{call_peer_method, find_peer, has_peers, peer_report, start_peers};
 pub use psk_macs::{mac_p, mac_s};
 pub use records::{NoRecords, Records, TwoRecords};
 pub use server::ServerMethod;
-pub use server_objects::{call_server_method, offer_method, server_report, side_of, start_servers};
+pub use server_objects::{
+    call_server_method, find_server, has_servers, offer_method, server_report, side_of,
+    start_servers,
+};
 pub use step::{Step, WholeStep, has_ended};
 pub use tags::{Covering, Label, TagList, TagRecord, Tags};
 pub use turn::{PeerAnswer, PeerTurn, ServerAnswer, ServerTurn};

@@ -1,9 +1,9 @@
 //! The objects of a peer: beginning them, finding the one of a method, and calling it.
 
-ghost use Rattle.std.specs.Prelude.{◌≡◌, ◌==◌, ℕ, List, true, map, find, option_copied};
+ghost use Rattle.std.specs.Prelude.{◌≡◌, ◌==◌, ℕ, List, true, map, find, option_copied, option_map};
 ghost use Rattle.octet_lists.specs.Among.{is_among};
 ghost use Rattle.login_setup.specs.Setup.{IsSoundPeer, HasKeys};
-ghost use Rattle.eap_method.specs.Peer.{peer_kind, peer_kinds, peer_views, peer_turn, IsRequest, peer_report_of, views_started, have_each, key_for, credential_for, peer_started_in};
+ghost use Rattle.eap_method.specs.Peer.{peer_kind, peer_kinds, peer_methods, first_of, have_each, peer_views, peer_turn, IsRequest, peer_report_of, views_started, key_for, credential_for, peer_started_in};
 ghost use Rattle.eap_method.specs.Unnamed.{peers_unnamed};
 ghost use Rattle.eap_method.specs.PeerTurn.{peer_turn_with, peer_tags};
 ghost use Rattle.eap_method.specs.Capacity.{HasCapacity, replies};
@@ -23,9 +23,9 @@ use octet_lists::{Packet, Secret};
 pub fn start_peers<M: PeerMethod>(methods: &mut [M], setup: &PeerSetup)
     requires sound { IsSoundPeer setup.now }
     requires keys { HasKeys setup.now }
-    ensures views { have_each (peer_kinds (map M.peer_shown methods.old)) setup.now.methods ≡ true
-        → peer_views setup.now.methods (map M.peer_shown methods.new) ≡ views_started setup.now }
-    ensures kinds { peer_kinds (map M.peer_shown methods.new) ≡ peer_kinds (map M.peer_shown methods.old) }
+    ensures views { peer_views setup.now.methods (map M.peer_shown methods.new)
+        ≡ views_started setup.now (peer_views setup.now.methods (map M.peer_shown methods.old)) }
+    ensures methods { peer_methods (map M.peer_shown methods.new) ≡ peer_methods (map M.peer_shown methods.old) }
     ensures unnamed { peers_unnamed setup.now.methods (map M.peer_shown methods.new) ≡ peers_unnamed setup.now.methods (map M.peer_shown methods.old) }
 {
     start_each(methods, setup);
@@ -47,7 +47,7 @@ pub fn call_peer_method<M: PeerMethod, R: Turns>(
         ≡ record { turn = peer_turn_with result packet.new tags.new; after = peer_views allowed (map M.peer_shown methods.new) } }
     ensures tags { tags.new ≡ peer_tags (peer_turn_with result packet.new tags.new) }
     ensures capacity { replies result ≡ true → HasCapacity packet.new }
-    ensures kinds { peer_kinds (map M.peer_shown methods.new) ≡ peer_kinds (map M.peer_shown methods.old) }
+    ensures methods { peer_methods (map M.peer_shown methods.new) ≡ peer_methods (map M.peer_shown methods.old) }
     ensures unnamed { (allowed : List ℕ) → is_among allowed kind ≡ true
         → peers_unnamed allowed (map M.peer_shown methods.new) ≡ peers_unnamed allowed (map M.peer_shown methods.old) }
 {
@@ -74,11 +74,31 @@ pub fn peer_report<M: PeerMethod>(methods: &[M], kind: u8) -> Option<Report>
     object_of(methods, kind)?.report()
 }
 
-/// The first object of this Type.
+/// The first object of this Type; None if there is none.
+pub fn find_peer<M: PeerMethod>(methods: &[M], kind: u8) -> Option<&M>
+    ensures { option_map (λ o. M.peer_shown o.now) result ≡ first_of kind (map M.peer_shown methods.now) }
+{
+    object_of(methods, kind)
+}
+
 fn object_of<M: PeerMethod>(methods: &[M], kind: u8) -> Option<&M>
     ensures { option_copied result ≡ find (λ m. peer_kind (M.peer_shown m) == kind) methods.now }
 {
     methods.iter().find(|method| method.kind() == kind)
+}
+
+/// Whether there is an object of each of these Types.
+pub fn has_peers<M: PeerMethod>(methods: &[M], kinds: &[u8]) -> bool
+    ensures { result ≡ have_each (peer_kinds (map M.peer_shown methods.now)) kinds.now }
+{
+    kinds.iter().all(|kind| has_peer(methods, *kind))
+}
+
+/// Whether there is an object of this Type.
+fn has_peer<M: PeerMethod>(methods: &[M], kind: u8) -> bool
+    ensures { result ≡ is_among (peer_kinds (map M.peer_shown methods.now)) kind }
+{
+    find_peer(methods, kind).is_some()
 }
 
 fn start_each<M: PeerMethod>(methods: &mut [M], setup: &PeerSetup)

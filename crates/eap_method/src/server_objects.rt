@@ -1,12 +1,12 @@
 //! The objects of a server: beginning them, finding the one of a method, and calling it.
 
-ghost use Rattle.std.specs.Prelude.{◌≡◌, ◌==◌, ℕ, List, true, map, find, option_copied, IsTrue, All, Some, None, if◌then◌else◌};
+ghost use Rattle.std.specs.Prelude.{◌≡◌, ◌==◌, ℕ, List, true, map, find, option_copied, option_map, IsTrue, All, Some, None, if◌then◌else◌};
 ghost use Rattle.octet_lists.specs.Among.{is_among};
 ghost use Rattle.login_setup.specs.Setup.{is_valid_for, are_suites};
-ghost use Rattle.eap_method.specs.Peer.{have_each};
 ghost use Rattle.eap_method.specs.Capacity.{HasCapacity, requests};
 ghost use Rattle.eap_method.specs.ServerTurn.{server_turn_with, server_tags};
-ghost use Rattle.eap_method.specs.Server.{server_kind, server_kinds, server_views, server_offer, server_turn, IsResponse, server_report_of, side_of, views_started, server_started_in};
+ghost use Rattle.eap_method.specs.Peer.{have_each};
+ghost use Rattle.eap_method.specs.Server.{server_kind, server_kinds, server_methods, first_of, server_views, server_offer, server_turn, IsResponse, server_report_of, side_of, views_started, server_started_in};
 ghost use Rattle.eap_method.specs.Unnamed.{servers_unnamed};
 
 use crate::server::ServerMethod;
@@ -21,9 +21,9 @@ use octet_lists::{Nonce, Packet, is_among};
 /// Begins each object whose method the settings propose, whatever its state before; the others stay as they are.
 pub fn start_servers<M: ServerMethod>(methods: &mut [M], setup: &ServerSetup)
     requires { IsTrue (are_suites setup.now.suites) }
-    ensures views { have_each (server_kinds (map M.server_shown methods.old)) setup.now.methods ≡ true
-        → server_views setup.now.methods (map M.server_shown methods.new) ≡ views_started setup.now }
-    ensures kinds { server_kinds (map M.server_shown methods.new) ≡ server_kinds (map M.server_shown methods.old) }
+    ensures views { server_views setup.now.methods (map M.server_shown methods.new)
+        ≡ views_started setup.now (server_views setup.now.methods (map M.server_shown methods.old)) }
+    ensures methods { server_methods (map M.server_shown methods.new) ≡ server_methods (map M.server_shown methods.old) }
     ensures unnamed { servers_unnamed setup.now.methods (map M.server_shown methods.new) ≡ servers_unnamed setup.now.methods (map M.server_shown methods.old) }
 {
     start_each(methods, setup);
@@ -45,7 +45,7 @@ pub fn offer_method<M: ServerMethod>(
         → server_offer own.now nonce.now kind id (server_views order (map M.server_shown methods.old))
         ≡ record { packet = if result then Some packet.new else None; after = server_views order (map M.server_shown methods.new) } }
     ensures capacity { result ≡ true → HasCapacity packet.new }
-    ensures kinds { server_kinds (map M.server_shown methods.new) ≡ server_kinds (map M.server_shown methods.old) }
+    ensures methods { server_methods (map M.server_shown methods.new) ≡ server_methods (map M.server_shown methods.old) }
     ensures unnamed { (order : List ℕ) → is_among order kind ≡ true
         → servers_unnamed order (map M.server_shown methods.new) ≡ servers_unnamed order (map M.server_shown methods.old) }
 {
@@ -83,7 +83,7 @@ pub fn call_server_method<M: ServerMethod, R: Turns>(
         ≡ record { turn = server_turn_with result packet.new tags.new; after = server_views order (map M.server_shown methods.new) } }
     ensures tags { tags.new ≡ server_tags (server_turn_with result packet.new tags.new) }
     ensures capacity { requests result ≡ true → HasCapacity packet.new }
-    ensures kinds { server_kinds (map M.server_shown methods.new) ≡ server_kinds (map M.server_shown methods.old) }
+    ensures methods { server_methods (map M.server_shown methods.new) ≡ server_methods (map M.server_shown methods.old) }
     ensures unnamed { (order : List ℕ) → is_among order kind ≡ true
         → servers_unnamed order (map M.server_shown methods.new) ≡ servers_unnamed order (map M.server_shown methods.old) }
 {
@@ -110,11 +110,31 @@ pub fn server_report<M: ServerMethod>(methods: &[M], kind: u8) -> Option<Report>
     object_of(methods, kind)?.report()
 }
 
-/// The first object of this Type.
+/// The first object of this Type; None if there is none.
+pub fn find_server<M: ServerMethod>(methods: &[M], kind: u8) -> Option<&M>
+    ensures { option_map (λ o. M.server_shown o.now) result ≡ first_of kind (map M.server_shown methods.now) }
+{
+    object_of(methods, kind)
+}
+
 fn object_of<M: ServerMethod>(methods: &[M], kind: u8) -> Option<&M>
     ensures { option_copied result ≡ find (λ m. server_kind (M.server_shown m) == kind) methods.now }
 {
     methods.iter().find(|method| method.kind() == kind)
+}
+
+/// Whether there is an object of each of these Types.
+pub fn has_servers<M: ServerMethod>(methods: &[M], kinds: &[u8]) -> bool
+    ensures { result ≡ have_each (server_kinds (map M.server_shown methods.now)) kinds.now }
+{
+    kinds.iter().all(|kind| has_server(methods, *kind))
+}
+
+/// Whether there is an object of this Type.
+fn has_server<M: ServerMethod>(methods: &[M], kind: u8) -> bool
+    ensures { result ≡ is_among (server_kinds (map M.server_shown methods.now)) kind }
+{
+    find_server(methods, kind).is_some()
 }
 
 fn start_each<M: ServerMethod>(methods: &mut [M], setup: &ServerSetup)

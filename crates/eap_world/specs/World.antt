@@ -11,8 +11,8 @@ use Rattle.login_setup.specs.declared.setup.Party.TheVariants as party
 use Rattle.login_setup.specs.declared.event.Event.{Event}
 use Rattle.login_setup.specs.declared.event.Event.TheVariants as event
 use Rattle.eap_packet.specs.declared.state.State.{State}
-use Rattle.eap_method.specs.Peer.{PeerShown, have_each, peer_kinds}
-use Rattle.eap_method.specs.Server.{ServerShown, server_kinds}
+use Rattle.eap_method.specs.Peer.{PeerShown, PeerViews, have_each, peer_kinds}
+use Rattle.eap_method.specs.Server.{ServerShown, server_kinds, ServerViews}
 use Rattle.eap_method.specs.Steps.{Step, step_with, is_end}
 use Rattle.eap_method.specs.Tags.{Tags, no_tags}
 use Rattle.eap_method.specs.Unnamed.{PreservesPeers, PreservesServers}
@@ -146,13 +146,13 @@ abbrev pub role_in : Mode → Role
 role_in mode.Alone = role.StandAlone
 role_in mode.Through = role.Backend
 
--- the world before its start
-abbrev pub initial_world : Setup → WorldNow
-initial_world setup = record {
+-- the world before its start, of ends that have these objects
+abbrev pub initial_world : Setup → PeerViews → ServerViews → WorldNow
+initial_world setup peer server = record {
   parties = record {
     mode = setup.mode;
-    peer = initial_peer setup.peer;
-    server = initial_server (role_in setup.mode) setup.server setup.first_id setup.max_retrans;
+    peer = initial_peer setup.peer peer;
+    server = initial_server (role_in setup.mode) setup.server server setup.first_id setup.max_retrans;
     pass = initial_pass setup.first_id setup.max_retrans;
   };
   sent = [];

@@ -87,8 +87,8 @@ impl<P, S> Model for World<P, S> {
 }
 
 impl<P: PeerMethod, S: ServerMethod> World<P, S> {
-    ghost use Rattle.eap_method.specs.Peer.{peer_kinds, have_each, key_for};
-    ghost use Rattle.eap_method.specs.Server.{server_kinds};
+    ghost use Rattle.eap_method.specs.Peer.{peer_kinds, have_each, key_for, peer_views};
+    ghost use Rattle.eap_method.specs.Server.{server_kinds, server_views};
     ghost use Rattle.eap_world.specs.Run.{StartsRun, HasContinued};
     ghost use Rattle.tag_book.specs.Book.{tags_verdict, tags_verdict_either, under};
     ghost use Rattle.eap_world.specs.Judgement.{verdict_of};
@@ -117,7 +117,9 @@ impl<P: PeerMethod, S: ServerMethod> World<P, S> {
         requires sound_server { IsSoundServer setup.server }
         requires peer_objects { have_each (peer_kinds (map P.peer_shown methods.peer.items)) setup.peer.methods ≡ true }
         requires server_objects { have_each (server_kinds (map S.server_shown methods.server.items)) setup.server.methods ≡ true }
-        ensures initial { now_of P.peer_shown S.server_shown result ≡ initial_world setup }
+        ensures initial { now_of P.peer_shown S.server_shown result ≡ initial_world setup
+            (peer_views setup.peer.methods (map P.peer_shown methods.peer.items))
+            (server_views setup.server.methods (map S.server_shown methods.server.items)) }
         ensures preserves { PreservesObjects P.peer_shown S.server_shown setup.peer.methods setup.server.methods
             methods.peer.items methods.server.items result.peer.methods result.server.methods }
         ensures objects { HasObjects P.peer_shown S.server_shown result }

@@ -1,5 +1,5 @@
 -- What an object of either method shows: its view, the nonces of a login that has succeeded, and whether it has failed.
-use Rattle.std.specs.Prelude.{Bool, Option, option_map}
+use Rattle.std.specs.Prelude.{Bool, false, Option, None, option_map}
 use Rattle.eap_method.specs.Peer as peer
 use Rattle.eap_method.specs.Peer.{PeerShown}
 use Rattle.eap_method.specs.Server as server
@@ -31,26 +31,46 @@ of_psk nonces = record { peer = nonces.rand_p; server = nonces.rand_s }
 abbrev pub of_gpsk : gpsk_declared.Nonces → Nonces
 of_gpsk nonces = record { peer = nonces.rand_p; server = nonces.rand_s }
 
--- the nonces of a login that has succeeded
+-- the nonces of a login that has succeeded; none of a method of a maker
+abbrev pub peer_nonces_of : (m : peer.Method) → peer.View m → Option Nonces
+peer_nonces_of peer.by_psk view = option_map of_psk (psk_nonces.peer_nonces view)
+peer_nonces_of peer.by_gpsk view = option_map of_gpsk (gpsk_nonces.peer_nonces view)
+peer_nonces_of (peer.by_other custom) view = None
+
 unfoldable pub peer_nonces : PeerShown → Option Nonces
-peer_nonces (peer.psk view) = option_map of_psk (psk_nonces.peer_nonces view)
-peer_nonces (peer.gpsk view) = option_map of_gpsk (gpsk_nonces.peer_nonces view)
+peer_nonces s = peer_nonces_of s.method s.view
+
+abbrev pub server_nonces_of : (m : server.Method) → server.View m → Option Nonces
+server_nonces_of server.by_psk view = option_map of_psk (psk_nonces.server_nonces view)
+server_nonces_of server.by_gpsk view = option_map of_gpsk (gpsk_nonces.server_nonces view)
+server_nonces_of (server.by_other custom) view = None
 
 unfoldable pub server_nonces : ServerShown → Option Nonces
-server_nonces (server.psk view) = option_map of_psk (psk_nonces.server_nonces view)
-server_nonces (server.gpsk view) = option_map of_gpsk (gpsk_nonces.server_nonces view)
+server_nonces s = server_nonces_of s.method s.view
 
--- whether the server has refused a peer
+-- whether the server has refused a peer, as far as the two methods tell
+abbrev pub peer_has_failed_by : (m : peer.Method) → peer.View m → Bool
+peer_has_failed_by peer.by_psk view = psk_failures.peer_has_failed view
+peer_has_failed_by peer.by_gpsk view = gpsk_failures.peer_has_failed view
+peer_has_failed_by (peer.by_other custom) view = false
+
 unfoldable pub peer_has_failed : PeerShown → Bool
-peer_has_failed (peer.psk view) = psk_failures.peer_has_failed view
-peer_has_failed (peer.gpsk view) = gpsk_failures.peer_has_failed view
+peer_has_failed s = peer_has_failed_by s.method s.view
 
--- whether a server has refused a user that it doesn't know
+-- whether a server has refused a user that it doesn't know, likewise
+abbrev pub is_unknown_by : (m : server.Method) → server.View m → Bool
+is_unknown_by server.by_psk view = psk_failures.is_unknown view
+is_unknown_by server.by_gpsk view = gpsk_failures.is_unknown view
+is_unknown_by (server.by_other custom) view = false
+
 unfoldable pub is_unknown : ServerShown → Bool
-is_unknown (server.psk view) = psk_failures.is_unknown view
-is_unknown (server.gpsk view) = gpsk_failures.is_unknown view
+is_unknown s = is_unknown_by s.method s.view
 
--- whether the login of a user that a server knows has failed
+-- whether the login of a user that a server knows has failed, likewise
+abbrev pub server_has_failed_by : (m : server.Method) → server.View m → Bool
+server_has_failed_by server.by_psk view = psk_failures.server_has_failed view
+server_has_failed_by server.by_gpsk view = gpsk_failures.server_has_failed view
+server_has_failed_by (server.by_other custom) view = false
+
 unfoldable pub server_has_failed : ServerShown → Bool
-server_has_failed (server.psk view) = psk_failures.server_has_failed view
-server_has_failed (server.gpsk view) = gpsk_failures.server_has_failed view
+server_has_failed s = server_has_failed_by s.method s.view

@@ -1,8 +1,10 @@
 //! An object of either method, for each side.
 
-ghost use Rattle.std.specs.Prelude.{◌≡◌, true};
-ghost use Rattle.octet_lists.specs.Among.{is_kind};
+ghost use Rattle.std.specs.Prelude.{◌≡◌, ◌==◌, true, if◌then◌else◌};
+ghost use Rattle.octet_lists.specs.Among.{is_kind, psk_kind};
+ghost use Rattle.eap_method.specs.Peer as peers;
 ghost use Rattle.eap_method.specs.Peer.{peer_kind};
+ghost use Rattle.eap_method.specs.Server as servers;
 ghost use Rattle.eap_method.specs.Server.{server_kind};
 ghost use Rattle.end_objects.specs.Objects.{peer_object_shown, server_object_shown};
 
@@ -55,7 +57,8 @@ pub enum PeerObject {
 /// The peer's object of the method, 47 or 51.
 pub fn peer_object(kind: u8) -> PeerObject
     requires { is_kind kind ≡ true }
-    ensures { peer_kind (peer_object_shown result) ≡ kind }
+    ensures kind { peer_kind (peer_object_shown result) ≡ kind }
+    ensures method { peers.method_of (peer_object_shown result) ≡ (if kind == psk_kind then peers.by_psk else peers.by_gpsk) }
 {
     if kind == PSK_KIND {
         PeerObject::Psk(PskPeer::new())
@@ -68,7 +71,6 @@ impl PeerObject {
     ghost use Rattle.end_objects.specs.Objects.{peer_object_shown, peer_nonces, peer_has_failed};
 
     /// The nonces of a login that has succeeded; None before and after any other.
-    #[tactic(auto, unfolding(crate::specs::Objects::peer_nonces))]
     pub fn nonces(&self) -> Option<Nonces>
         ensures { result ≡ peer_nonces (peer_object_shown self.now) }
     {
@@ -79,7 +81,6 @@ impl PeerObject {
     }
 
     /// Whether the login has failed within the method: the server has refused the peer.
-    #[tactic(auto, unfolding(crate::specs::Objects::peer_has_failed))]
     pub fn has_failed(&self) -> bool
         ensures { result ≡ peer_has_failed (peer_object_shown self.now) }
     {
@@ -153,7 +154,8 @@ pub enum ServerObject {
 /// The server's object of the method, 47 or 51.
 pub fn server_object(kind: u8) -> ServerObject
     requires { is_kind kind ≡ true }
-    ensures { server_kind (server_object_shown result) ≡ kind }
+    ensures kind { server_kind (server_object_shown result) ≡ kind }
+    ensures method { servers.method_of (server_object_shown result) ≡ (if kind == psk_kind then servers.by_psk else servers.by_gpsk) }
 {
     if kind == PSK_KIND {
         ServerObject::Psk(PskServer::new())
@@ -166,7 +168,6 @@ impl ServerObject {
     ghost use Rattle.end_objects.specs.Objects.{server_object_shown, server_nonces, is_unknown, server_has_failed};
 
     /// The nonces of a login that has succeeded; None before and after any other.
-    #[tactic(auto, unfolding(crate::specs::Objects::server_nonces))]
     pub fn nonces(&self) -> Option<Nonces>
         ensures { result ≡ server_nonces (server_object_shown self.now) }
     {
@@ -177,7 +178,6 @@ impl ServerObject {
     }
 
     /// Whether the server has refused a user that it doesn't know.
-    #[tactic(auto, unfolding(crate::specs::Objects::is_unknown))]
     pub fn is_unknown(&self) -> bool
         ensures { result ≡ is_unknown (server_object_shown self.now) }
     {
@@ -188,7 +188,6 @@ impl ServerObject {
     }
 
     /// Whether the login of a user that the server knows has failed within the method.
-    #[tactic(auto, unfolding(crate::specs::Objects::server_has_failed))]
     pub fn has_failed(&self) -> bool
         ensures { result ≡ server_has_failed (server_object_shown self.now) }
     {

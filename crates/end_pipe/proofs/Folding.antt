@@ -1,6 +1,7 @@
 -- One more input at the end of others: what is told of it comes last, and the end is where it leaves it.
 use Rattle.std.proofs.Common.{◌≡◌, ℕ, List, [], ◌∷◌, ◌++◌, refl, sym, ap, ◌∙◌}
 use Rattle.login_setup.specs.declared.setup.ServerSetup.{ServerSetup}
+use Rattle.eap_method.specs.Server.{ServerViews}
 use Rattle.server_machine.specs.ServerTable.{ServerNow}
 use Rattle.end_pipe.specs.EndRun.{EndNow, EndOutcome, EndTold, HasContinued, IsServerAfter, IsStateAfter, end_after, outcome, server_starts, server_unstarted, told_of}
 use Rattle.end_pipe.specs.declared.input.EndInput.{EndInput}
@@ -28,8 +29,8 @@ module _ {N : Type 0} (step : EndNow N → EndInput → EndOutcome N) where
       }
 
 -- a server that starts stands for no inputs
-pub starts_so : (setup : ServerSetup) (first_id max_retrans : ℕ) (e after : EndNow ServerNow) (told : EndTold)
-    → server_starts e ≡ outcome told after → e ≡ server_unstarted setup first_id max_retrans → IsServerAfter setup first_id max_retrans [] after
+pub starts_so : (setup : ServerSetup) (views : ServerViews) (first_id max_retrans : ℕ) (e after : EndNow ServerNow) (told : EndTold)
+    → server_starts e ≡ outcome told after → e ≡ server_unstarted setup views first_id max_retrans → IsServerAfter setup views first_id max_retrans [] after
 unfolding end_after
-starts_so setup first_id max_retrans e after told is unstarted =
+starts_so setup views first_id max_retrans e after told is unstarted =
     sym (ap (λ (x : EndNow ServerNow). (server_starts x).after) (sym unstarted) ∙ ap (λ (out : EndOutcome ServerNow). out.after) is)

@@ -3,8 +3,10 @@ use Rattle.std.specs.Prelude.{◌≡◌, ℕ, List, [], ◌∷◌, ◌++◌, Boo
 use Rattle.login_setup.specs.declared.setup.PeerSetup.{PeerSetup}
 use Rattle.login_setup.specs.declared.setup.ServerSetup.{ServerSetup}
 use Rattle.eap_packet.specs.declared.state.State.{State}
-use Rattle.eap_method.specs.Peer.{PeerShown}
-use Rattle.eap_method.specs.Server.{ServerShown}
+use Rattle.eap_method.specs.BothPeers as both_peers
+use Rattle.eap_method.specs.BothServers as both_servers
+use Rattle.eap_method.specs.Peer.{PeerShown, PeerViews}
+use Rattle.eap_method.specs.Server.{ServerShown, ServerViews}
 use Rattle.eap_method.specs.Steps.{Step, enters, step_with}
 use Rattle.eap_method.specs.Tags.{Tags, no_tags}
 use Rattle.eap_method.specs.declared.values.Report.{Report}
@@ -97,12 +99,14 @@ peer_answers now None = peers.answer (enters [] no_tags) now
 abbrev pub peer_moved : PeerAnswer → Moved PeerNow
 peer_moved out = move_of out.step out.after
 
-abbrev pub started_peer : PeerSetup → EndNow PeerNow
-started_peer setup = record { now = initial_peer setup; held = false }
+-- a peer that begins, of objects with these views
+abbrev pub started_peer : PeerSetup → PeerViews → EndNow PeerNow
+started_peer setup views = record { now = initial_peer setup views; held = false }
 
+-- over lines it has an object of each of the two methods that it allows
 abbrev pub peer_table : MachineTable PeerNow
 peer_table = record {
-  begins = λ settings. peer_setup_of settings >>= λ setup. Ok (record { told = None; after = started_peer setup });
+  begins = λ settings. peer_setup_of settings >>= λ setup. Ok (record { told = None; after = started_peer setup (both_peers.both_of setup.methods) });
   moves = λ now input. peer_moved (peer_answers now (peer_input input));
   state = λ now. now.vars.state;
   reports = peer_reports;
@@ -120,8 +124,8 @@ server_answers now None = servers.answer (enters [] no_tags) now
 abbrev pub server_moved : ServerAnswer → Moved ServerNow
 server_moved out = move_of out.step out.after
 
-abbrev pub server_unstarted : ServerSetup → ℕ → ℕ → EndNow ServerNow
-server_unstarted setup first_id max_retrans = record { now = initial_server StandAlone setup first_id max_retrans; held = false }
+abbrev pub server_unstarted : ServerSetup → ServerViews → ℕ → ℕ → EndNow ServerNow
+server_unstarted setup views first_id max_retrans = record { now = initial_server StandAlone setup views first_id max_retrans; held = false }
 
 unfoldable pub server_starts : EndNow ServerNow → EndOutcome ServerNow
 server_starts e = goes server_reports e.held (server_moved (server_start e.now))
@@ -129,14 +133,14 @@ server_starts e = goes server_reports e.held (server_moved (server_start e.now))
 abbrev pub started_with : EndOutcome ServerNow → EndStart ServerNow
 started_with out = record { told = Some out.told; after = out.after }
 
-abbrev pub started_server : ServerSetup → ℕ → ℕ → EndNow ServerNow
-started_server setup first_id max_retrans = (server_starts (server_unstarted setup first_id max_retrans)).after
+abbrev pub started_server : ServerSetup → ServerViews → ℕ → ℕ → EndNow ServerNow
+started_server setup views first_id max_retrans = (server_starts (server_unstarted setup views first_id max_retrans)).after
 
 abbrev pub server_table : MachineTable ServerNow
 server_table = record {
   begins = λ settings.
       server_setup_of settings >>= λ setup.
-      Ok (started_with (server_starts (server_unstarted setup (unwrap_or settings.first_id 0) (unwrap_or settings.max_retrans 4))));
+      Ok (started_with (server_starts (server_unstarted setup (both_servers.both_of setup.methods) (unwrap_or settings.first_id 0) (unwrap_or settings.max_retrans 4))));
   moves = λ now input. server_moved (server_answers now (server_input input));
   state = λ now. now.vars.state;
   reports = server_reports;
@@ -165,12 +169,12 @@ module _ {N : Type 0} (step : EndNow N → EndInput → EndOutcome N) where
     pub next : told_of begun (inputs ++ input ∷ []) ≡ told_of begun inputs ++ told ∷ []
     pub stands : IsStateAfter begun (inputs ++ input ∷ []) after
 
-abbrev pub IsPeerAfter : PeerSetup → List EndInput → EndNow PeerNow → Type 0
-IsPeerAfter setup = IsStateAfter peer_step (started_peer setup)
+abbrev pub IsPeerAfter : PeerSetup → PeerViews → List EndInput → EndNow PeerNow → Type 0
+IsPeerAfter setup views = IsStateAfter peer_step (started_peer setup views)
 
 -- a server that has started
-abbrev pub IsServerAfter : ServerSetup → ℕ → ℕ → List EndInput → EndNow ServerNow → Type 0
-IsServerAfter setup first_id max_retrans = IsStateAfter server_step (started_server setup first_id max_retrans)
+abbrev pub IsServerAfter : ServerSetup → ServerViews → ℕ → ℕ → List EndInput → EndNow ServerNow → Type 0
+IsServerAfter setup views first_id max_retrans = IsStateAfter server_step (started_server setup views first_id max_retrans)
 
 -- a pipe as its fields show it, and what it is, if that of its machine is shown
 pub record PipeValue (E : Type 0) : Type 0 where

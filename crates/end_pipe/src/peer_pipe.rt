@@ -2,7 +2,7 @@
 
 ghost use Rattle.std.specs.Prelude.{◌≡◌, [], map, true};
 ghost use Rattle.login_setup.specs.Setup.{IsSoundPeer, HasKeys};
-ghost use Rattle.eap_method.specs.Peer.{have_each, peer_kinds};
+ghost use Rattle.eap_method.specs.Peer.{have_each, peer_kinds, peer_views};
 ghost use Rattle.end_pipe.specs.EndRun.{IsPeerAfter, started_peer, peer_end};
 
 use crate::input::EndInput;
@@ -23,8 +23,8 @@ impl<M: PeerMethod> PeerPipe<M> {
         requires sound { IsSoundPeer setup }
         requires keys { HasKeys setup }
         requires objects { have_each (peer_kinds (map M.peer_shown methods.items)) setup.methods ≡ true }
-        ensures started { peer_end M.peer_shown result ≡ started_peer setup }
-        ensures state { IsPeerAfter setup [] (peer_end M.peer_shown result) }
+        ensures started { peer_end M.peer_shown result ≡ started_peer setup (peer_views setup.methods (map M.peer_shown methods.items)) }
+        ensures state { IsPeerAfter setup (peer_views setup.methods (map M.peer_shown methods.items)) [] (peer_end M.peer_shown result) }
     {
         EndPipe {
             machine: PeerMachine::new(setup, methods),

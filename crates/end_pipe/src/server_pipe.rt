@@ -4,7 +4,7 @@ ghost use Rattle.std.specs.Prelude.{◌≡◌, ◌≤◌, [], ℕ, map, true, fa
 ghost use Rattle.login_setup.specs.Setup.{IsSoundServer};
 ghost use Rattle.login_setup.specs.declared.setup.ServerSetup.{ServerSetup};
 ghost use Rattle.eap_method.specs.Peer.{have_each};
-ghost use Rattle.eap_method.specs.Server.{server_kinds};
+ghost use Rattle.eap_method.specs.Server.{server_kinds, server_views, ServerViews};
 ghost use Rattle.server_machine.specs.ServerTable.{is_started};
 ghost use Rattle.end_pipe.specs.EndRun.{IsServerAfter, outcome, server_end, server_starts, server_unstarted, result_with};
 
@@ -46,7 +46,8 @@ impl<M: ServerMethod> ServerPipe<M> {
         requires sound { IsSoundServer setup }
         requires few { max_retrans ≤ 10 }
         requires objects { have_each (server_kinds (map M.server_shown methods.items)) setup.methods ≡ true }
-        ensures unstarted { server_end M.server_shown result ≡ server_unstarted setup first_id max_retrans }
+        ensures unstarted { server_end M.server_shown result
+            ≡ server_unstarted setup (server_views setup.methods (map M.server_shown methods.items)) first_id max_retrans }
     {
         EndPipe {
             machine: StandAloneServer {
@@ -62,9 +63,9 @@ impl<M: ServerMethod> ServerPipe<M> {
         ensures start { server_starts (server_end M.server_shown self.old)
             ≡ outcome (result_with result packet.new tags.new) (server_end M.server_shown self.new) }
         ensures started { is_started self.new.machine.vars ≡ true }
-        ensures state { (setup : ServerSetup) (first_id max_retrans : ℕ)
-            → server_end M.server_shown self.old ≡ server_unstarted setup first_id max_retrans
-            → IsServerAfter setup first_id max_retrans [] (server_end M.server_shown self.new) }
+        ensures state { (setup : ServerSetup) (views : ServerViews) (first_id max_retrans : ℕ)
+            → server_end M.server_shown self.old ≡ server_unstarted setup views first_id max_retrans
+            → IsServerAfter setup views first_id max_retrans [] (server_end M.server_shown self.new) }
     {
         self.start_by_table(packet, tags)
     }
@@ -74,9 +75,9 @@ impl<M: ServerMethod> ServerPipe<M> {
         requires { is_started self.old.machine.vars ≡ false }
         ensures start { server_starts (server_end M.server_shown self.old) ≡ outcome result (server_end M.server_shown self.new) }
         ensures started { is_started self.new.machine.vars ≡ true }
-        ensures state { (setup : ServerSetup) (first_id max_retrans : ℕ)
-            → server_end M.server_shown self.old ≡ server_unstarted setup first_id max_retrans
-            → IsServerAfter setup first_id max_retrans [] (server_end M.server_shown self.new) }
+        ensures state { (setup : ServerSetup) (views : ServerViews) (first_id max_retrans : ℕ)
+            → server_end M.server_shown self.old ≡ server_unstarted setup views first_id max_retrans
+            → IsServerAfter setup views first_id max_retrans [] (server_end M.server_shown self.new) }
     {
         let mut packet = Packet::new();
         let mut tags = Tags::new();

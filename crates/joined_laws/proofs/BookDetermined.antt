@@ -2,6 +2,8 @@
 use Rattle.std.proofs.Common.{◌≡◌, ℕ, ◌+◌, List, [], ◌∷◌, ◌++◌, Bool, true, false, map, Some, refl, sym, ap, ◌∙◌, cond, append_assoc, append-nil, Option}
 use Rattle.std.proofs.lemmas.Bool.{and_parts}
 use Rattle.std.specs.List.{list_all}
+use Rattle.eap_method.specs.BothPeers as both_peers
+use Rattle.eap_method.specs.BothServers as both_servers
 use Rattle.login_setup.specs.declared.setup.Mode.TheVariants as mode
 use Rattle.login_setup.specs.declared.setup.Setup.{Setup}
 use Rattle.eap_method.specs.Steps.{is_end}
@@ -15,7 +17,7 @@ use Rattle.server_machine.specs.Inputs.{server_accepts}
 use Rattle.server_machine.specs.ServerTable.{ServerNow, server_start}
 use Rattle.tag_book.specs.Book.{entries_of}
 use Rattle.eap_world.specs.World as world
-use Rattle.eap_world.specs.World.{Action, Called, Parties, Skipped, WorldNow, act, booked_by, called_unless, counts_after, first_skip, run_after, initial_world, world_start, world_step}
+use Rattle.eap_world.specs.World.{Action, Called, Parties, Skipped, WorldNow, act, booked_by, called_unless, counts_after, first_skip, run_after, world_start, world_step}
 use Rattle.tag_book.specs.declared.book.End.TheVariants as end
 use Rattle.tag_book.specs.declared.book.Entry.{Entry}
 use Rattle.eap_world.specs.declared.told.Counts.{Counts}
@@ -26,6 +28,7 @@ use Rattle.end_pipe.specs.declared.input.EndInput.{EndInput}
 use Rattle.end_pipe.specs.declared.input.EndInput.TheVariants as inputs
 use Rattle.joined_laws.proofs.Interleaved.{acts_so, begun, moves, peer_moved, server_moved}
 use Rattle.joined_laws.specs.Joined.{BookIsDetermined, Arrives, event_of, is_input, to_peer, to_server, interleaved_book}
+use Rattle.world_laws.specs.Runs.{initial_world}
 
 -- the tags of an end at an input
 abbrev peer_tags : PeerNow → EndInput → Tags
@@ -139,8 +142,8 @@ starts setup alone = rw alone (record { book = refl; events = refl })
 pub book_is_determined : BookIsDetermined
 book_is_determined setup list alone fit =
     let b = begun setup alone in
-    let p = started_peer setup.peer in
-    let s = started_server setup.server setup.first_id setup.max_retrans in
+    let p = started_peer setup.peer (both_peers.both_of setup.peer.methods) in
+    let s = started_server setup.server (both_servers.both_of setup.server.methods) setup.first_id setup.max_retrans in
     let w : WorldNow = (world_start (initial_world setup)).after in
     let first = starts setup alone in
     told w p s list b.alone b.peer b.server fit

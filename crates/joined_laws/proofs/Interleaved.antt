@@ -2,6 +2,8 @@
 use Rattle.std.proofs.Common.{◌≡◌, List, [], ◌∷◌, Bool, true, false, map, Some, refl, sym, ap, ◌∙◌, cond, Option}
 use Rattle.std.proofs.lemmas.Bool.{and_parts}
 use Rattle.std.specs.List.{list_all}
+use Rattle.eap_method.specs.BothPeers as both_peers
+use Rattle.eap_method.specs.BothServers as both_servers
 use Rattle.login_setup.specs.declared.setup.Mode.TheVariants as mode
 use Rattle.login_setup.specs.declared.setup.Setup.{Setup}
 use Rattle.eap_method.specs.Steps.{is_end}
@@ -15,13 +17,14 @@ use Rattle.server_machine.specs.ServerTable.{ServerNow}
 use Rattle.eap_world.specs.Conversations.{Conversations}
 use Rattle.eap_world.specs.Sent.{Sent}
 use Rattle.eap_world.specs.World as world
-use Rattle.eap_world.specs.World.{Parties, WorldNow, act, called_unless, first_skip, run_after, initial_world, world_start, world_step}
+use Rattle.eap_world.specs.World.{Parties, WorldNow, act, called_unless, first_skip, run_after, world_start, world_step}
 use Rattle.eap_world.specs.declared.told.Skip.TheVariants.{Ended, NoTimer}
 use Rattle.end_pipe.specs.EndRun.{EndNow, Moved, MachineTable, end_after, end_step, goes as end_goes, peer_answers, started_peer, peer_step, peer_table, skips, server_answers, started_server, server_starts, server_step, server_table}
 use Rattle.end_pipe.specs.Inputs.{is_skipped, peer_input, server_input}
 use Rattle.joined_laws.specs.Joined.{Arrives, InterleavingsAreRuns, event_of, is_input, peers_of, servers_of, to_peer, to_server}
 use Rattle.end_pipe.specs.declared.input.EndInput.{EndInput}
 use Rattle.end_pipe.specs.declared.input.EndInput.TheVariants as inputs
+use Rattle.world_laws.specs.Runs.{initial_world}
 
 -- what an input makes of the variables and views of an end
 abbrev pub peer_moved : PeerNow → EndInput → PeerNow
@@ -124,8 +127,8 @@ goes w p s (to_server input ∷ rest) alone peer server fit =
 
 pub record ConversationStart (setup : Setup) (w : WorldNow) : Type 0 where
   pub alone : w.parties.mode ≡ mode.Alone
-  pub peer : w.parties.peer ≡ (started_peer setup.peer).now
-  pub server : w.parties.server ≡ (started_server setup.server setup.first_id setup.max_retrans).now
+  pub peer : w.parties.peer ≡ (started_peer setup.peer (both_peers.both_of setup.peer.methods)).now
+  pub server : w.parties.server ≡ (started_server setup.server (both_servers.both_of setup.server.methods) setup.first_id setup.max_retrans).now
 
 pub begun : (setup : Setup) → setup.mode ≡ mode.Alone → ConversationStart setup (world_start (initial_world setup)).after
 unfolding world_start server_starts
@@ -135,5 +138,5 @@ pub interleavings_are_runs : InterleavingsAreRuns
 interleavings_are_runs setup list alone fit =
     let b = begun setup alone in
     let g =
-    goes (world_start (initial_world setup)).after (started_peer setup.peer) (started_server setup.server setup.first_id setup.max_retrans) list b.alone b.peer b.server fit in
+    goes (world_start (initial_world setup)).after (started_peer setup.peer (both_peers.both_of setup.peer.methods)) (started_server setup.server (both_servers.both_of setup.server.methods) setup.first_id setup.max_retrans) list b.alone b.peer b.server fit in
     record { peer = g.peer; server = g.server }

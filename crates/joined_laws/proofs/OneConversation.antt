@@ -11,11 +11,12 @@ use Rattle.peer_machine.specs.Inputs as peer_inputs
 use Rattle.server_machine.specs.Inputs as server_inputs
 use Rattle.eap_world.specs.Conversations.{Conversations}
 use Rattle.eap_world.specs.World as world
-use Rattle.eap_world.specs.World.{Call, WorldNow, call_of, conversations_after, conversed_by, conversed_unless, first_skip, run_after, skip_table, initial_world, world_start, world_step}
+use Rattle.eap_world.specs.World.{Call, WorldNow, call_of, conversations_after, conversed_by, conversed_unless, first_skip, run_after, skip_table, world_start, world_step}
 use Rattle.eap_world.specs.declared.conversations.ConversationStart.{ConversationStart}
 use Rattle.eap_world.specs.declared.told.Skip.{Skip}
 use Rattle.joined_laws.specs.Joined.{Arrives, event_of, is_input, to_peer, to_server, world_of}
 use Rattle.end_pipe.specs.declared.input.EndInput.TheVariants as inputs
+use Rattle.world_laws.specs.Runs.{initial_world}
 
 unless_started : (number : ℕ) (all : Conversations) (skip : Option Skip) (call : Call) → (conversations_after number all call).begun ≡ all.begun
     → (conversed_unless number all skip (Some call)).begun ≡ all.begun

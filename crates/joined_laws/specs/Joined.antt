@@ -1,6 +1,8 @@
 -- Both ends, each alone over its own inputs, and the world over an interleaving of them.
 use Rattle.std.specs.Prelude.{◌≡◌, ℕ, ◌+◌, List, [], ◌∷◌, ◌++◌, map, Bool, true}
 use Rattle.std.specs.List.{list_all}
+use Rattle.eap_method.specs.BothPeers as both_peers
+use Rattle.eap_method.specs.BothServers as both_servers
 use Rattle.login_setup.specs.declared.event.Event.{Event}
 use Rattle.login_setup.specs.declared.event.Event.TheVariants as event
 use Rattle.login_setup.specs.declared.setup.Mode.TheVariants as mode
@@ -10,7 +12,6 @@ use Rattle.login_setup.specs.declared.setup.Port.TheVariants as port
 use Rattle.login_setup.specs.declared.setup.Setup.{Setup}
 use Rattle.peer_machine.specs.PeerTable.{PeerNow, peer_reports}
 use Rattle.server_machine.specs.ServerTable.{ServerNow, server_reports}
-use Rattle.eap_world.specs.Run.{run_of}
 use Rattle.world_laws.specs.Agreement.{AreTheirs, IsWhole}
 use Rattle.tag_book.specs.Book.{entries_of, tags_verdict_either}
 use Rattle.eap_world.specs.Judgement.{is_success, agreement_of}
@@ -22,6 +23,7 @@ use Rattle.end_pipe.specs.EndRun.{EndNow, end_after, started_peer, peer_step, st
 use Rattle.end_pipe.specs.Inputs.{is_of_peer, is_of_server}
 use Rattle.end_pipe.specs.declared.input.EndInput.{EndInput}
 use Rattle.end_pipe.specs.declared.input.EndInput.TheVariants as inputs
+use Rattle.world_laws.specs.Runs.{run_of}
 
 -- what comes to one of both ends
 pub data Arrives : Type 0 where
@@ -64,11 +66,11 @@ servers_of (first ∷ rest) = server_first first (servers_of rest)
 
 -- each end alone after its inputs
 abbrev pub peer_alone : Setup → List Arrives → PeerNow
-peer_alone setup list = (end_after peer_step (started_peer setup.peer) (peers_of list)).now
+peer_alone setup list = (end_after peer_step (started_peer setup.peer (both_peers.both_of setup.peer.methods)) (peers_of list)).now
 
 abbrev pub server_alone : Setup → List Arrives → ServerNow
 server_alone setup list =
-    (end_after server_step (started_server setup.server setup.first_id setup.max_retrans) (servers_of list)).now
+    (end_after server_step (started_server setup.server (both_servers.both_of setup.server.methods) setup.first_id setup.max_retrans) (servers_of list)).now
 
 -- the world over the events
 abbrev pub world_of : Setup → List Arrives → WorldNow
@@ -96,7 +98,7 @@ interleaved_book number p s (to_server input ∷ rest) =
 abbrev pub BookIsDetermined : Type 0
 BookIsDetermined =
     (setup : Setup) (list : List Arrives) → setup.mode ≡ mode.Alone → list_all is_input list ≡ true
-    → (world_of setup list).book ≡ interleaved_book 0 (started_peer setup.peer) (started_server setup.server setup.first_id setup.max_retrans) list
+    → (world_of setup list).book ≡ interleaved_book 0 (started_peer setup.peer (both_peers.both_of setup.peer.methods)) (started_server setup.server (both_servers.both_of setup.server.methods) setup.first_id setup.max_retrans) list
 
 -- both ends are in SUCCESS
 abbrev pub HaveSucceeded : PeerNow → ServerNow → Type 0

@@ -1,9 +1,8 @@
 //! The objects of both methods at both ends, as the program's call takes them.
 
 ghost use Rattle.std.specs.Prelude.{◌≡◌, IfOk};
-ghost use Rattle.octet_lists.specs.Among.{psk_kind, gpsk_kind};
-ghost use Rattle.eap_method.specs.Peer.{peer_kind};
-ghost use Rattle.eap_method.specs.Server.{server_kind};
+ghost use Rattle.eap_method.specs.Peer as peers;
+ghost use Rattle.eap_method.specs.Server as servers;
 ghost use Rattle.world_commands.specs.Replay.{HasBoth};
 
 use eap_method::{Methods, PeerMethod, ServerMethod, peer_pair, server_pair};
@@ -17,10 +16,10 @@ pub fn methods_of<P: PeerMethod, S: ServerMethod>(
     gpsk_server: S,
     psk_server: S,
 ) -> Result<Methods<P, S>, AllocError>
-    requires gpsk_peer { peer_kind (P.peer_shown gpsk_peer) ≡ gpsk_kind }
-    requires psk_peer { peer_kind (P.peer_shown psk_peer) ≡ psk_kind }
-    requires gpsk_server { server_kind (S.server_shown gpsk_server) ≡ gpsk_kind }
-    requires psk_server { server_kind (S.server_shown psk_server) ≡ psk_kind }
+    requires gpsk_peer { peers.method_of (P.peer_shown gpsk_peer) ≡ peers.by_gpsk }
+    requires psk_peer { peers.method_of (P.peer_shown psk_peer) ≡ peers.by_psk }
+    requires gpsk_server { servers.method_of (S.server_shown gpsk_server) ≡ servers.by_gpsk }
+    requires psk_server { servers.method_of (S.server_shown psk_server) ≡ servers.by_psk }
     ensures { IfOk result (HasBoth P.peer_shown S.server_shown) }
 {
     Ok(Methods {

@@ -5,7 +5,7 @@
 ghost use Rattle.std.specs.Prelude.{◌≡◌, ◌≢◌, ◌↔◌, true, map, IfSome, IfNone, IsSome, option_map};
 ghost use Rattle.login_setup.specs.Setup.{IsSoundServer};
 ghost use Rattle.eap_method.specs.Peer.{have_each};
-ghost use Rattle.eap_method.specs.Server.{server_kinds};
+ghost use Rattle.eap_method.specs.Server.{server_kinds, server_views};
 ghost use Rattle.radius_carry.specs.Packet.{RadiusPacket, eap_of};
 ghost use Rattle.server_machine.specs.Expanded.{server_receives};
 ghost use Rattle.server_machine.specs.ServerTable.{now_of, initial_backend, server_reports};
@@ -33,7 +33,8 @@ impl<M: ServerMethod> Session<M> {
     pub fn new(setup: ServerSetup, methods: Vec<M>, state: Octets<64>) -> Option<Session<M>>
         ensures accepted { IsSome result ↔ (IsSoundServer setup
             × (have_each (server_kinds (map M.server_shown methods.items)) setup.methods ≡ true)) }
-        ensures initial { IfSome result (λ session. now_of M.server_shown session.backend ≡ initial_backend setup) }
+        ensures initial { IfSome result (λ session. now_of M.server_shown session.backend
+            ≡ initial_backend setup (server_views setup.methods (map M.server_shown methods.items))) }
         ensures state { IfSome result (λ session. session.state ≡ state) }
     {
         if Backend::takes(&setup, methods.as_slice()) {

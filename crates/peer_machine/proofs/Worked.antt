@@ -1,5 +1,5 @@
 -- What a peer answers that reads Expanded Types (RFC 3748 section 5.7), and one that doesn't, from the definitions alone.
-use Rattle.std.proofs.Common.{◌≡◌, ℕ, List, [], ◌∷◌, true, false, Some, refl}
+use Rattle.std.proofs.Common.{◌≡◌, ℕ, List, [], ◌∷◌, true, false, Some, None, refl}
 use Rattle.login_setup.specs.declared.setup.PeerSetup.{PeerSetup}
 use Rattle.eap_packet.specs.Packet.{spelled}
 use Rattle.eap_packet.specs.Fault.{fault, packet_of}
@@ -12,7 +12,7 @@ use Rattle.peer_machine.specs.PeerTable.{PeerNow, PeerAnswer, initial_peer, peer
 
 -- a peer that allows EAP-GPSK and EAP-PSK and is named "a"
 abbrev peer : PeerSetup → PeerNow
-peer setup = initial_peer (record setup { name = 97 ∷ []; methods = 51 ∷ 47 ∷ [] })
+peer setup = initial_peer (record setup { name = 97 ∷ []; methods = 51 ∷ 47 ∷ [] }) (λ kind. None)
 
 abbrev reading : PeerSetup → PeerNow
 reading setup = peer (record setup { expanded = true })

@@ -1,5 +1,5 @@
 -- The peer of RFC 4137 section 4, over the views of its methods: each call as a function.
-use Rattle.std.specs.Prelude.{◌≡◌, ℕ, List, [], ◌∷◌, ◌++◌, Bool, true, false, ◌==◌, ◌&&◌, if◌then◌else◌, Option, Some, None, Result, Ok, Err, map, find}
+use Rattle.std.specs.Prelude.{◌≡◌, ℕ, List, [], ◌∷◌, ◌++◌, Bool, true, false, ◌==◌, ◌&&◌, if◌then◌else◌, Option, Some, None, Result, Ok, Err, map}
 use Rattle.login_setup.specs.declared.setup.PeerSetup.{PeerSetup}
 use Rattle.octet_lists.specs.Among.{is_among, identity_kind, notification_kind, nak_kind}
 use Rattle.login_setup.specs.Setup.{IsSoundPeer, HasKeys}
@@ -18,7 +18,7 @@ use Rattle.eap_method.specs.declared.values.MethodState.TheVariants as method
 use Rattle.eap_method.specs.declared.values.Decision.{Decision}
 use Rattle.eap_method.specs.declared.values.Decision.TheVariants as decision
 use Rattle.eap_method.specs.declared.values.Report.{Report}
-use Rattle.eap_method.specs.Peer.{PeerShown, peer_kind, PeerViews, peer_views, view_of, views_started, peer_turn, peer_report_of}
+use Rattle.eap_method.specs.Peer.{PeerShown, first_of, PeerViews, peer_views, view_of, views_started, peer_turn, peer_report_of}
 use Rattle.eap_method.specs.Steps.{sends, enters, discards, is_end}
 use Rattle.eap_method.specs.Tags.{no_tags}
 use Rattle.eap_method.specs.Unnamed.{PreservesPeers}
@@ -68,8 +68,8 @@ initial_vars setup = record {
   last_response = [];
 }
 
-abbrev pub initial_peer : PeerSetup → PeerNow
-initial_peer setup = record { vars = initial_vars setup; views = views_started setup }
+abbrev pub initial_peer : PeerSetup → PeerViews → PeerNow
+initial_peer setup views = record { vars = initial_vars setup; views = views_started setup views }
 
 -- the settings with this nonce
 abbrev pub setup_with_nonce : PeerSetup → List ℕ → PeerSetup
@@ -77,7 +77,7 @@ setup_with_nonce setup nonce = record setup { nonce = nonce }
 
 -- a new conversation with it: every variable and the view of each allowed method as INITIALIZE sets it
 unfoldable pub peer_restart : PeerNow → List ℕ → PeerAnswer
-peer_restart now nonce = answer (enters (state.Initialize ∷ state.Idle ∷ []) no_tags) (initial_peer (setup_with_nonce now.vars.setup nonce))
+peer_restart now nonce = answer (enters (state.Initialize ∷ state.Idle ∷ []) no_tags) (initial_peer (setup_with_nonce now.vars.setup nonce) now.views)
 
 -- whether the Identifier is lastId
 abbrev pub is_last_id : Option ℕ → ℕ → Bool
@@ -224,10 +224,6 @@ selected_report views (Some kind) = peer_report_of kind views
 -- what the peer reports
 abbrev pub peer_reports : PeerNow → Option Report
 peer_reports now = selected_report now.views now.vars.selected
-
--- what the first object of a method shows
-abbrev pub first_of : ℕ → List PeerShown → Option PeerShown
-first_of kind shown = find (λ s. peer_kind s == kind) shown
 
 -- what the object of the selected method shows; none without a method or an object
 abbrev pub selected_shown : Option ℕ → List PeerShown → Option PeerShown

@@ -36,13 +36,13 @@ ghost use Rattle.eap_method.specs.Tags.{no_tags};
 ghost use Rattle.eap_method.specs.Tags as records;
 ghost use Rattle.eap_method.specs.Unnamed.{PreservesPeers};
 ghost use Rattle.peer_machine.specs.Expanded.{express};
-ghost use Rattle.peer_machine.specs.PeerTable.{Preserves, before_method, method_answers, views_after, answer, is_allowed, first_of, selected_shown, selected_view};
+ghost use Rattle.peer_machine.specs.PeerTable.{Preserves, before_method, method_answers, views_after, answer, is_allowed, selected_shown, selected_view};
 ghost use Rattle.eap_method.specs.Peer.{IsRequest, PeerShown, PeerViews, have_each, peer_views, peer_turn, peer_kinds};
 
 use crate::variables::PeerVariables;
 use eap_method::{
     Decision, MethodState, PeerAnswer, PeerMethod, Report, Step, Tags, Turns, call_peer_method,
-    has_ended, peer_report, start_peers,
+    find_peer, has_ended, has_peers, peer_report, start_peers,
 };
 use eap_packet::{
     Cause, Code, PacketView, State, decode, encode_into, init_into, is_bad_expanded, wrap_in_place,
@@ -84,7 +84,7 @@ impl<M: PeerMethod> PeerMachine<M> {
         ensures { IsTrue result ↔ (IsSoundPeer setup.now × HasKeys setup.now
             × (have_each (peer_kinds (map M.peer_shown methods.now)) setup.now.methods ≡ true)) }
     {
-        is_sound_peer(setup) && has_each(methods, setup.methods.as_slice())
+        is_sound_peer(setup) && has_peers(methods, setup.methods.as_slice())
     }
 
     /// INITIALIZE (RFC 4137 section 4.5): begins the objects of the methods that the setup allows; the peer is then in
@@ -93,7 +93,7 @@ impl<M: PeerMethod> PeerMachine<M> {
         requires sound { IsSoundPeer setup }
         requires keys { HasKeys setup }
         requires objects { have_each (peer_kinds (map M.peer_shown methods.items)) setup.methods ≡ true }
-        ensures initial { now_of M.peer_shown result ≡ initial_peer setup }
+        ensures initial { now_of M.peer_shown result ≡ initial_peer setup (peer_views setup.methods (map M.peer_shown methods.items)) }
         ensures preserves { PreservesPeers setup.methods (map M.peer_shown methods.items) (map M.peer_shown result.methods) }
     {
         let mut methods = methods;
@@ -245,7 +245,7 @@ impl<M: PeerMethod> PeerMachine<M> {
     {
         match self.vars.selected {
             None => None,
-            Some(kind) => object_of(self.methods.as_slice(), kind),
+            Some(kind) => find_peer(self.methods.as_slice(), kind),
         }
     }
 
@@ -253,7 +253,7 @@ impl<M: PeerMethod> PeerMachine<M> {
     pub fn has_objects(&self) -> bool
         ensures { result ≡ have_each (peer_kinds (map M.peer_shown self.now.methods)) self.now.vars.setup.methods }
     {
-        has_each(self.methods.as_slice(), self.vars.setup.methods.as_slice())
+        has_peers(self.methods.as_slice(), self.vars.setup.methods.as_slice())
     }
 
     /// The objects, in the order in which they were given, with the views that they have.
@@ -732,37 +732,4 @@ fn method_replies(selects: bool) -> Step
 {
     let step = Step::sending(&[State::Method, State::SendResponse, State::Idle]);
     step.after(states_before(selects))
-}
-
-/// Whether there is an object of each of these Types.
-fn has_each<M: PeerMethod>(methods: &[M], kinds: &[u8]) -> bool
-    ensures { result ≡ have_each (peer_kinds (map M.peer_shown methods.now)) kinds.now }
-{
-    kinds.iter().all(|kind| has_object(methods, *kind))
-}
-
-/// Whether there is an object of this Type.
-fn has_object<M: PeerMethod>(methods: &[M], kind: u8) -> bool
-    ensures { result ≡ is_among (peer_kinds (map M.peer_shown methods.now)) kind }
-{
-    match methods.split_first() {
-        None => false,
-        Some((first, rest)) => first.kind() == kind || has_object(rest, kind),
-    }
-}
-
-/// The first object of this Type.
-fn object_of<M: PeerMethod>(methods: &[M], kind: u8) -> Option<&M>
-    ensures { option_map (λ o. M.peer_shown o.now) result ≡ first_of kind (map M.peer_shown methods.now) }
-{
-    match methods.split_first() {
-        None => None,
-        Some((first, rest)) => {
-            if first.kind() == kind {
-                Some(first)
-            } else {
-                object_of(rest, kind)
-            }
-        }
-    }
 }

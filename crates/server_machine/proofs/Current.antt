@@ -3,10 +3,10 @@ use Rattle.std.proofs.Common.{◌≡◌, ℕ, List, [], ◌∷◌, Bool, true, f
 use Rattle.std.specs.Prelude.{◌==◌, ◌||◌, if◌then◌else◌}
 use Rattle.std.proofs.lemmas.Bool.{eqb-true, eqb-false}
 use Rattle.octet_lists.specs.Among.{is_among}
-use Rattle.eap_method.specs.Server.{ServerShown, server_kind, server_views, view_of}
+use Rattle.eap_method.specs.Server.{ServerShown, server_kind, server_views, view_of, first_of}
 use Rattle.eap_method.proofs.ServerObjects.{view_hit, view_miss}
 use Rattle.eap_method.proofs.ServerViews.{view_none, not_identity}
-use Rattle.server_machine.specs.ServerTable.{first_of, is_current}
+use Rattle.server_machine.specs.ServerTable.{is_current}
 
 -- a current method that has an object isn't Identity
 is_proposed : (order : List ℕ) (s : ServerShown) → is_current order (Some (server_kind s)) ≡ true → is_among order (server_kind s) ≡ true

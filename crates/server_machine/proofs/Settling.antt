@@ -1,5 +1,8 @@
 -- An offer and a turn of a method, settled in the variables, are the server's rows.
-use Rattle.std.proofs.Common.{◌≡◌, ℕ, List, Option, Some, None, refl, ap, ◌∙◌, sym}
+use Rattle.std.proofs.Common.{◌≡◌, ℕ, List, [], ◌∷◌, Option, Some, None, refl, ap, ◌∙◌, sym}
+use Rattle.std.specs.Prelude.{◌==◌, find}
+use Rattle.std.proofs.lemmas.Bool.{cond_both}
+use Rattle.octet_lists.specs.Among.{identity_kind, is_among}
 use Rattle.eap_packet.specs.declared.state.State.{State}
 use Rattle.login_policy.specs.Policy.{next_kind}
 use Rattle.eap_method.specs.declared.step.Step as brief
@@ -8,15 +11,24 @@ use Rattle.eap_method.specs.declared.turn.ServerAnswer as short
 use Rattle.eap_method.specs.Steps.{Step, step_with}
 use Rattle.eap_method.specs.ServerTurn.{ServerTurn}
 use Rattle.eap_method.specs.ServerTurn.{Discard, Request, Done, server_turn_with, server_tags}
-use Rattle.eap_method.specs.Server.{ServerShown, ServerViews, server_views, server_turn, server_offer, side_of, server_report_of}
+use Rattle.eap_method.specs.Server.{ServerShown, ServerViews, server_views, server_turn, server_offer, side_of, server_report_of, server_kind, reported}
+use Rattle.eap_method.proofs.ServerViews.{not_identity}
 use Rattle.eap_method.proofs.ServerObjects.{server_turn_preserves}
 use Rattle.server_machine.specs.ServerTable.{ServerNow, answer, method_answers, views_after, server_method, select_action, offers, ends_badly, next_id}
 use Rattle.server_machine.specs.declared.variables.ServerVariables.{ServerVariables}
 
 -- the Identity round has no report
-pub identity_reports : (views : ServerViews) → None ≡ server_report_of 1 views
+none_found : (shown : List ServerShown) → find (λ s. server_kind s == identity_kind) shown ≡ None
+none_found [] = refl
+none_found (s ∷ rest) = rw (not_identity s) (none_found rest)
+
+no_view : (order : List ℕ) (shown : List ServerShown) → server_views order shown identity_kind ≡ None
+unfolding server_views
+no_view order shown = cond_both (is_among order identity_kind) _ _ (λ (found : Option ServerShown). found ≡ None) (λ _. none_found shown) (λ _. refl)
+
+pub identity_reports : (order : List ℕ) (shown : List ServerShown) → None ≡ server_report_of identity_kind (server_views order shown)
 unfolding server_report_of
-identity_reports views = refl
+identity_reports order shown = ap reported (sym (no_view order shown))
 
 -- where there is no next method
 pub none_settles : (entered : List State) (before vars : ServerVariables) (shown : List ServerShown) (id : ℕ) (desired : Option (List ℕ)) (step : Step)

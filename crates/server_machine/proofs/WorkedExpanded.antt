@@ -46,10 +46,10 @@ nak_of_repeated id = refl
 
 -- a stand-alone server that waits for the identity, and a backend that waits for its first Response
 abbrev waits : ServerSetup → ServerNow
-waits setup = (server_start (initial_server StandAlone (record setup { expanded = true }) 1 4)).after
+waits setup = (server_start (initial_server StandAlone (record setup { expanded = true }) (λ kind. None) 1 4)).after
 
 abbrev backend : ServerSetup → ServerNow
-backend setup = initial_backend (record setup { expanded = true })
+backend setup = initial_backend (record setup { expanded = true }) (λ kind. None)
 
 -- Type 254 with one octet of Type-Data
 abbrev short : List ℕ

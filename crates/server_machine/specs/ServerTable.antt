@@ -1,6 +1,6 @@
 -- The stand-alone server of RFC 4137 section 5 and the backend of section 6, over the views of their
 -- methods: each call as a function. The backend is the same table, entered by its first Response.
-use Rattle.std.specs.Prelude.{◌≡◌, ◌≤◌, ℕ, ◌+◌, ◌%◌, List, [], ◌∷◌, ◌++◌, Bool, true, false, ◌==◌, ◌&&◌, ◌||◌, not, nat_le, if◌then◌else◌, Option, Some, None, Result, Ok, Err, map, find}
+use Rattle.std.specs.Prelude.{◌≡◌, ◌≤◌, ℕ, ◌+◌, ◌%◌, List, [], ◌∷◌, ◌++◌, Bool, true, false, ◌==◌, ◌&&◌, ◌||◌, not, nat_le, if◌then◌else◌, Option, Some, None, Result, Ok, Err, map}
 use Rattle.login_setup.specs.declared.setup.ServerSetup.{ServerSetup}
 use Rattle.login_setup.specs.declared.users.User.{User}
 use Rattle.octet_lists.specs.Among.{is_among, identity_kind, nak_kind}
@@ -17,7 +17,7 @@ use Rattle.eap_method.specs.Tags.{Tags, no_tags}
 use Rattle.eap_method.specs.ServerTurn.{ServerTurn}
 use Rattle.eap_method.specs.ServerTurn as turn
 use Rattle.eap_method.specs.declared.values.Report.{Report}
-use Rattle.eap_method.specs.Server.{ServerShown, server_kind, ServerViews, server_views, view_of, views_started, side_of, server_offer, server_turn, server_report_of}
+use Rattle.eap_method.specs.Server.{ServerShown, ServerViews, server_views, view_of, views_started, side_of, server_offer, server_turn, server_report_of}
 use Rattle.eap_method.specs.Steps.{sends, enters, discards, is_end}
 use Rattle.eap_method.specs.Unnamed.{PreservesServers}
 use Rattle.server_machine.specs.declared.variables.ServerVariables.{ServerVariables}
@@ -72,12 +72,12 @@ initial_vars_of of setup first_id max_retrans = record {
   proposed = [];
 }
 
-abbrev pub initial_server : Role → ServerSetup → ℕ → ℕ → ServerNow
-initial_server of setup first_id max_retrans = record { vars = initial_vars_of of setup first_id max_retrans; views = views_started setup }
+abbrev pub initial_server : Role → ServerSetup → ServerViews → ℕ → ℕ → ServerNow
+initial_server of setup views first_id max_retrans = record { vars = initial_vars_of of setup first_id max_retrans; views = views_started setup views }
 
 -- a backend before its first Response; it has no first Identifier of its own, and sends nothing again
-abbrev pub initial_backend : ServerSetup → ServerNow
-initial_backend setup = initial_server role.Backend setup 0 0
+abbrev pub initial_backend : ServerSetup → ServerViews → ServerNow
+initial_backend setup views = initial_server role.Backend setup views 0 0
 
 -- the next Identifier: the first one, or one more modulo 256
 abbrev pub next_id_after : ℕ → Option ℕ → ℕ
@@ -274,7 +274,7 @@ with_users value users = record value { vars = record value.vars { setup = own_u
 
 -- every variable and the view of each method as INITIALIZE sets it, with this nonce
 abbrev pub made_again : ServerNow → List ℕ → ServerNow
-made_again now nonce = initial_server now.vars.role (setup_with_nonce now.vars.setup nonce) now.vars.first_id now.vars.max_retrans
+made_again now nonce = initial_server now.vars.role (setup_with_nonce now.vars.setup nonce) now.views now.vars.first_id now.vars.max_retrans
 
 -- a new conversation: a stand-alone server starts, and a backend waits for its first Response
 unfoldable pub server_restart : ServerNow → List ℕ → ServerAnswer
@@ -310,10 +310,6 @@ current_report views (Some kind) = server_report_of kind views
 -- what the server reports
 abbrev pub server_reports : ServerNow → Option Report
 server_reports now = current_report now.views now.vars.current
-
--- what the first object of a method shows
-abbrev pub first_of : ℕ → List ServerShown → Option ServerShown
-first_of kind shown = find (λ s. server_kind s == kind) shown
 
 -- the view of the current method
 abbrev pub current_of : ServerViews → Option ℕ → Option ServerShown

@@ -16,7 +16,7 @@ ghost use Rattle.octet_lists.specs.Among.{is_kind};
 ghost use Rattle.login_setup.specs.Setup.{IsSoundServer, is_valid_for};
 ghost use Rattle.login_setup.specs.Users as users;
 ghost use Rattle.eap_method.specs.Peer.{have_each};
-ghost use Rattle.eap_method.specs.Server.{server_kinds};
+ghost use Rattle.eap_method.specs.Server.{server_kinds, server_views};
 ghost use Rattle.eap_method.specs.Steps.{is_end, step_with};
 ghost use Rattle.eap_method.specs.Tags.{no_tags};
 ghost use Rattle.eap_method.specs.Unnamed.{PreservesServers};
@@ -67,7 +67,7 @@ impl<M: ServerMethod> Backend<M> {
     pub fn new(setup: ServerSetup, methods: Vec<M>) -> Backend<M>
         requires sound { IsSoundServer setup }
         requires objects { have_each (server_kinds (map M.server_shown methods.items)) setup.methods ≡ true }
-        ensures initial { now_of M.server_shown result ≡ initial_backend setup }
+        ensures initial { now_of M.server_shown result ≡ initial_backend setup (server_views setup.methods (map M.server_shown methods.items)) }
         ensures preserves { PreservesServers setup.methods (map M.server_shown methods.items) (map M.server_shown result.methods) }
     {
         Backend {

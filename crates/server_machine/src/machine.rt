@@ -34,14 +34,14 @@ ghost use Rattle.eap_method.specs.Steps.{step_with};
 ghost use Rattle.eap_method.specs.Tags.{no_tags};
 ghost use Rattle.eap_method.specs.Unnamed.{PreservesServers};
 ghost use Rattle.server_machine.specs.Expanded.{MayWrap, reads_response};
-ghost use Rattle.server_machine.specs.ServerTable.{Preserves, answer, before_proposal, identity_request, next_id, AreInOrder, first_of};
+ghost use Rattle.server_machine.specs.ServerTable.{Preserves, answer, before_proposal, identity_request, next_id, AreInOrder};
 
 use crate::expanded::{awaits_first, wrap_sent, write_if_accepted};
 use crate::outcome::{end_badly, next_id, settle, settle_offer};
 use crate::variables::{Progress, ProposalPath, Role, ServerVariables};
 use eap_method::{
-    Report, ServerAnswer, ServerMethod, Step, Tags, Turns, call_server_method, has_ended,
-    offer_method, server_report, side_of, start_servers,
+    Report, ServerAnswer, ServerMethod, Step, Tags, Turns, call_server_method, find_server,
+    has_ended, has_servers, offer_method, server_report, side_of, start_servers,
 };
 use eap_packet::{Cause, Code, PacketView, State, decode, encode_into, is_bad_expanded};
 use login_policy::next_method;
@@ -84,7 +84,9 @@ impl<M: ServerMethod> ServerMachine<M> {
         ensures { IsTrue result ↔ (IsSoundServer setup.now × (max_retrans ≤ 10)
             × (have_each (server_kinds (map M.server_shown methods.now)) setup.now.methods ≡ true)) }
     {
-        is_sound_server(setup) && max_retrans <= 10 && has_each(methods, setup.methods.as_slice())
+        is_sound_server(setup)
+            && max_retrans <= 10
+            && has_servers(methods, setup.methods.as_slice())
     }
 
     /// A stand-alone server that has not started: begins the objects of the methods that the setup
@@ -98,7 +100,8 @@ impl<M: ServerMethod> ServerMachine<M> {
         requires sound { IsSoundServer setup }
         requires few { max_retrans ≤ 10 }
         requires objects { have_each (server_kinds (map M.server_shown methods.items)) setup.methods ≡ true }
-        ensures initial { now_of M.server_shown result ≡ initial_server StandAlone setup first_id max_retrans }
+        ensures initial { now_of M.server_shown result
+            ≡ initial_server StandAlone setup (server_views setup.methods (map M.server_shown methods.items)) first_id max_retrans }
         ensures preserves { PreservesServers setup.methods (map M.server_shown methods.items) (map M.server_shown result.methods) }
     {
         ServerMachine::in_role(Role::StandAlone, setup, first_id, max_retrans, methods)
@@ -116,7 +119,8 @@ impl<M: ServerMethod> ServerMachine<M> {
         requires sound { IsSoundServer setup }
         requires few { max_retrans ≤ 10 }
         requires objects { have_each (server_kinds (map M.server_shown methods.items)) setup.methods ≡ true }
-        ensures initial { now_of M.server_shown result ≡ initial_server role setup first_id max_retrans }
+        ensures initial { now_of M.server_shown result
+            ≡ initial_server role setup (server_views setup.methods (map M.server_shown methods.items)) first_id max_retrans }
         ensures preserves { PreservesServers setup.methods (map M.server_shown methods.items) (map M.server_shown result.methods) }
     {
         let mut methods = methods;
@@ -440,7 +444,7 @@ impl<M: ServerMethod> ServerMachine<M> {
     {
         match self.vars.current {
             None => None,
-            Some(kind) => object_of(self.methods.as_slice(), kind),
+            Some(kind) => find_server(self.methods.as_slice(), kind),
         }
     }
 
@@ -471,7 +475,7 @@ impl<M: ServerMethod> ServerMachine<M> {
     pub fn has_objects(&self) -> bool
         ensures { result ≡ have_each (server_kinds (map M.server_shown self.now.methods)) self.now.vars.setup.methods }
     {
-        has_each(self.methods.as_slice(), self.vars.setup.methods.as_slice())
+        has_servers(self.methods.as_slice(), self.vars.setup.methods.as_slice())
     }
 
     /// The objects, in the order in which they were given, with the views that they have.
@@ -688,37 +692,4 @@ fn turn_of<M: ServerMethod, R: Turns>(
         packet,
         tags,
     )
-}
-
-/// Whether there is an object of each of these Types.
-fn has_each<M: ServerMethod>(methods: &[M], kinds: &[u8]) -> bool
-    ensures { result ≡ have_each (server_kinds (map M.server_shown methods.now)) kinds.now }
-{
-    kinds.iter().all(|kind| has_object(methods, *kind))
-}
-
-/// Whether there is an object of this Type.
-fn has_object<M: ServerMethod>(methods: &[M], kind: u8) -> bool
-    ensures { result ≡ is_among (server_kinds (map M.server_shown methods.now)) kind }
-{
-    match methods.split_first() {
-        None => false,
-        Some((first, rest)) => first.kind() == kind || has_object(rest, kind),
-    }
-}
-
-/// The first object of this Type.
-fn object_of<M: ServerMethod>(methods: &[M], kind: u8) -> Option<&M>
-    ensures { option_map (λ o. M.server_shown o.now) result ≡ first_of kind (map M.server_shown methods.now) }
-{
-    match methods.split_first() {
-        None => None,
-        Some((first, rest)) => {
-            if first.kind() == kind {
-                Some(first)
-            } else {
-                object_of(rest, kind)
-            }
-        }
-    }
 }

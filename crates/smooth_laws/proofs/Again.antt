@@ -1,31 +1,37 @@
 -- Smooth logins after restarts.
 use Rattle.std.proofs.Common.{◌≡◌, ℕ, zero, suc, ◌+◌, ◌-◌, ◌≤◌, false, List, [], ◌++◌, length, take, Option, None, Some, map, refl, sym, ap, subst, ◌∙◌}
 use Rattle.std.proofs.Common.{arith, append-nil}
-use Rattle.std.specs.Prelude.{◌||◌, Bool, not}
+use Rattle.std.specs.Prelude.{◌||◌, Bool, not, option_map}
+use Rattle.std.proofs.lemmas.Bool.{cond_both}
 use Rattle.std.proofs.Math.Bool.{or-false}
 use Rattle.std.specs.Str.{bytes_eq}
 use Rattle.std.proofs.lemmas.List.{length-append}
 use Rattle.login_setup.specs.declared.event.Event.{Event}
 use Rattle.login_setup.specs.declared.setup.Mode.{Mode}
 use Rattle.login_setup.specs.declared.setup.Mode.TheVariants as mode
+use Rattle.login_setup.specs.declared.setup.Party.TheVariants as party
+use Rattle.login_setup.specs.declared.setup.ServerSetup.{ServerSetup}
 use Rattle.login_setup.specs.declared.setup.Setup.{Setup}
-use Rattle.eap_method.specs.Server.{server_report_of}
+use Rattle.octet_lists.specs.Among.{identity_kind, is_among}
+use Rattle.eap_method.specs.Server.{ServerShown, reported, server_report_of, server_started_in, views_started}
+use Rattle.eap_method.specs.declared.values.Report.{Report}
 use Rattle.server_machine.specs.ServerTable.{server_start}
 use Rattle.pass_through.specs.PassTable.{pass_start}
-use Rattle.eap_world.specs.Run.{run_of}
 use Rattle.eap_world.specs.Conversations.{front}
 use Rattle.tag_book.specs.Book.{first_broken, tags_verdict, verdict_on}
 use Rattle.tag_book.specs.declared.book.Entry.{Entry}
 use Rattle.tag_book.specs.declared.book.TagsVerdict.TheVariants.{Honest}
 use Rattle.tag_book.specs.declared.book.RecordOwner.TheVariants.{Other}
 use Rattle.eap_world.specs.Judgement.{is_success, verdict_of}
-use Rattle.eap_world.specs.World.{WorldNow, Parties, run_after, world_start}
+use Rattle.eap_world.specs.declared.world.HasReported.{HasReported}
+use Rattle.eap_world.specs.World.{WorldNow, Parties, first_report, reported_after, run_after, world_start}
 use Rattle.smooth_laws.specs.Again.{HasJustStarted, IsLoggedInSince, SmoothLoginsSucceedAgain}
 use Rattle.smooth_laws.specs.Smooth.{AreInOrder, IsLoggedIn, SucceedsInTime, event_bound, deliveries}
 use Rattle.smooth_laws.proofs.Following.{as_honest, delivers_each, accepts_each}
 use Rattle.smooth_laws.specs.Trailing.{Follows, RunsGoOnAsTheirOwn, later}
 use Rattle.smooth_laws.proofs.Opening.{in_mode}
 use Rattle.smooth_laws.proofs.SmoothRuns.{smooth_logins_succeed, prefix_deliveries}
+use Rattle.world_laws.specs.Runs.{initial_world, run_of, server_views_started}
 
 -- the start sends one packet, and books and counts nothing
 record HasStarted (v : WorldNow) : Type 0 where
@@ -36,9 +42,25 @@ record HasStarted (v : WorldNow) : Type 0 where
   no_discards : v.counts.discards ≡ 0
   no_tags : v.book ≡ []
 
+-- the Identity round has no report
+no_report : (setup : ServerSetup) → server_report_of identity_kind (server_views_started setup) ≡ None
+unfolding server_report_of views_started
+no_report setup =
+    cond_both (is_among setup.methods identity_kind) _ _ (λ (found : Option ServerShown). reported (option_map (server_started_in setup) found) ≡ None) (λ _. refl) (λ _. refl)
+
+abbrev reported_with : Setup → Option Report → HasReported
+reported_with setup report = reported_after (initial_world setup).held (first_report false party.Server report)
+
 started_by : (runs : Mode) (setup : Setup) → HasStarted (run_of (in_mode runs setup) [])
-unfolding run_after world_start server_start pass_start server_report_of
-started_by mode.Alone setup = record { one = refl; no_events = refl; no_deliveries = refl; none_reported = (refl, refl); no_discards = refl; no_tags = refl }
+unfolding run_after world_start server_start pass_start
+started_by mode.Alone setup = record {
+  one = refl;
+  no_events = refl;
+  no_deliveries = refl;
+  none_reported = (ap (λ (o : Option Report). (reported_with setup o).peer) (no_report setup.server), ap (λ (o : Option Report). (reported_with setup o).server) (no_report setup.server));
+  no_discards = refl;
+  no_tags = refl;
+}
 started_by mode.Through setup = record { one = refl; no_events = refl; no_deliveries = refl; none_reported = (refl, refl); no_discards = refl; no_tags = refl }
 
 has_started : (setup : Setup) → HasStarted (run_of setup [])

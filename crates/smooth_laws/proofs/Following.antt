@@ -114,11 +114,11 @@ peer_in out = elim out.action [ Skipped skip ↦ false | Called did ↦ peer_has
 abbrev server_in : Acted → Bool
 server_in out = elim out.action [ Skipped skip ↦ false | Called did ↦ server_has did.party (report_of out.after did.party) ]
 
-abbrev held_with : Bool → Bool → Party → Option Report → HasReported
-held_with peer server of report =
+abbrev reported_with : Bool → Bool → Party → Option Report → HasReported
+reported_with peer server of report =
     let held : HasReported = record { peer = peer; server = server } in reported_after held (first_report (has_reported held of) of report)
 
-peer_with : (peer server : Bool) (of : Party) (report : Option Report) → (held_with peer server of report).peer ≡ (peer || peer_has of report)
+peer_with : (peer server : Bool) (of : Party) (report : Option Report) → (reported_with peer server of report).peer ≡ (peer || peer_has of report)
 peer_with true server party.Peer report = refl
 peer_with false server party.Peer None = refl
 peer_with false server party.Peer (Some report) = refl
@@ -128,7 +128,7 @@ peer_with peer true party.Server report = sym (or-false peer)
 peer_with peer false party.Server None = sym (or-false peer)
 peer_with peer false party.Server (Some report) = sym (or-false peer)
 
-server_with : (peer server : Bool) (of : Party) (report : Option Report) → (held_with peer server of report).server ≡ (server || server_has of report)
+server_with : (peer server : Bool) (of : Party) (report : Option Report) → (reported_with peer server of report).server ≡ (server || server_has of report)
 server_with peer true party.Server report = refl
 server_with peer false party.Server None = refl
 server_with peer false party.Server (Some report) = refl

@@ -1,5 +1,6 @@
 -- A login by EAP-GPSK as both machines see it: its four messages and their tags.
-use Rattle.std.proofs.Common.{◌≡◌, ℕ, ◌*◌, ◌≤◌, List, [], ◌∷◌, length, true, false, Option, Some, refl, ap, ◌∙◌, arith}
+use Rattle.std.proofs.Common.{◌≡◌, ℕ, ◌*◌, ◌≤◌, List, [], ◌∷◌, length, true, false, Some, refl, sym, ap, ◌∙◌, arith}
+use Rattle.std.specs.Prelude.{option_map}
 use Rattle.std.proofs.lemmas.Bool.{cond-true}
 use Rattle.login_setup.specs.declared.setup.PeerSetup.{PeerSetup}
 use Rattle.login_setup.specs.declared.setup.ServerSetup.{ServerSetup}
@@ -16,15 +17,20 @@ use Rattle.login_policy.specs.Policy.{picked_suite}
 use Rattle.eap_method.specs.GpskPeer as gpsk_peer
 use Rattle.eap_method.specs.GpskServer as gpsk_server
 use Rattle.eap_method.specs.GpskTags.{gpsk_request, gpsk_response, sk_record, suite_list}
-use Rattle.eap_method.specs.Peer.{PeerViews, gpsk_turn, credential_for, key_for, peer_turn, views_started}
+use Rattle.eap_method.specs.Peer as peers
+use Rattle.eap_method.specs.Peer.{PeerViews, credential_for, key_for, peer_turn}
 use Rattle.eap_method.specs.Server as servers
-use Rattle.eap_method.specs.Server.{ServerViews, gpsk_receives, gpsk_offer, server_offer, server_turn, side_of}
+use Rattle.eap_method.specs.Server.{ServerViews, server_offer, server_turn, side_of}
+use Rattle.eap_method.proofs.PeerViews.{begins}
 use Rattle.eap_method.specs.Turns.{PeerOutcome, ServerOutcome, requested, done}
 use Rattle.eap_method.specs.declared.values.Decision.TheVariants.{CondSucc}
 use Rattle.method_laws.specs.GpskLogin.{Ends, Compatible, IsSuccessful, peer_login, server_login}
 use Rattle.method_laws.proofs.GpskWhole.{gpsk_logins_go_through}
 use Rattle.smooth_laws.proofs.ServerSide.{IsOffer, Made, after_id}
 use Rattle.smooth_laws.proofs.Talk.{IsShort, Talks}
+use Rattle.world_laws.proofs.PeerByMethod.{gpsk_turn}
+use Rattle.world_laws.proofs.ServerByMethod as at_server
+use Rattle.world_laws.specs.Runs.{views_started}
 
 -- both ends have a key in common, accept each other, and there is a suite for both
 pub record Shares (peer : PeerSetup) (server : ServerSetup) (user : User) (suite : Suite) : Type 0 where
@@ -121,11 +127,11 @@ module _ (made : Made) (short : IsShort made.setup) (id : ℕ) (begun : ServerVi
       let few = short.suites in
       omega arith
 
-  pub gpsk_offered : (view : gpsk_server.View) → begun.gpsk ≡ Some view
+  pub gpsk_offered : (view : gpsk_server.View) → begun gpsk_kind ≡ Some (servers.gpsk view)
       → IsOffer made gpsk_kind id begun (gpsk_request id (gpsk_server.gpsk1_of (side_of made.setup) made.setup.nonce))
-      (record begun { gpsk = Some (gpsk_server.asked (side_of made.setup) made.setup.nonce) })
-  unfolding server_offer gpsk_server.first
-  gpsk_offered view is = record { is = ap (λ (found : Option gpsk_server.View). gpsk_offer (side_of made.setup) made.setup.nonce id begun found) is }
+      (servers.put gpsk_kind (servers.gpsk (gpsk_server.asked (side_of made.setup) made.setup.nonce)) begun)
+  unfolding server_offer servers.server_first_step gpsk_server.first_step gpsk_server.first
+  gpsk_offered view is = record { is = ap (servers.offered (side_of made.setup) made.setup.nonce gpsk_kind id begun) is }
 
 -- ---- the turns at both machines
 
@@ -134,34 +140,28 @@ module _ (peer : PeerSetup) (made : Made) (user : User) (suite : Suite) (shares 
   goes = gpsk_logins_go_through (ends_of peer made.setup user suite) id (after_id id) (after_id (after_id id)) (fits peer made.setup user suite shares)
 
   -- the peer's view of the method that it allows is fresh
-  answered : (out : PeerOutcome gpsk_peer.View)
-      → gpsk_peer.step (gpsk_peer.fresh (credential_for peer gpsk_kind) peer.nonce)
-      (gpsk_request id (gpsk_server.gpsk1_of (side_of made.setup) made.setup.nonce)) ≡ out
-      → peer_turn gpsk_kind (views_started peer) (gpsk_request id (gpsk_server.gpsk1_of (side_of made.setup) made.setup.nonce)) ≡ gpsk_turn (views_started peer) out
-  unfolding peer_turn views_started
-  answered out is =
-      ap (λ (view : gpsk_peer.View). gpsk_turn (views_started peer) (gpsk_peer.step view
-      (gpsk_request id (gpsk_server.gpsk1_of (side_of made.setup) made.setup.nonce))))
-      (cond-true (is_among peer.methods gpsk_kind) _ _ shares.allowed)
-      ∙ ap (λ (found : PeerOutcome gpsk_peer.View). gpsk_turn (views_started peer) found) is
+  fresh_there : views_started peer gpsk_kind ≡ Some (peers.gpsk (gpsk_peer.fresh (credential_for peer gpsk_kind) peer.nonce))
+  unfolding peers.views_started
+  fresh_there =
+      ap (option_map (peers.peer_started_in peer)) (cond-true (is_among peer.methods gpsk_kind) _ _ shares.allowed)
+      ∙ ap (λ (s : peers.PeerShown). Some s) (sym (begins peer (peers.gpsk gpsk_peer.unset) shares.allowed))
 
-  confirmed : (views : PeerViews) (view : gpsk_peer.View) (octets : List ℕ) (out : PeerOutcome gpsk_peer.View) → views.gpsk ≡ view
+  answered : (views : PeerViews) (view : gpsk_peer.View) (octets : List ℕ) (out : PeerOutcome gpsk_peer.View) → views gpsk_kind ≡ Some (peers.gpsk view)
       → gpsk_peer.step view octets ≡ out
       → peer_turn gpsk_kind views octets ≡ gpsk_turn views out
-  unfolding peer_turn
-  confirmed views view octets out at is =
-      ap (λ (found : gpsk_peer.View). gpsk_turn views (gpsk_peer.step found octets)) at ∙ ap (λ (found : PeerOutcome gpsk_peer.View). gpsk_turn views found) is
+  unfolding peer_turn peers.peer_step
+  answered views view octets out at is =
+      ap (peers.turned gpsk_kind views octets) at ∙ ap (λ (found : PeerOutcome gpsk_peer.View). gpsk_turn views found) is
 
-  heard : (next : ℕ) (views : ServerViews) (view : gpsk_server.View) (octets : List ℕ) (out : ServerOutcome gpsk_server.View) → views.gpsk ≡ Some view
-      → gpsk_server.step made.setup.users next view octets ≡ out
-      → server_turn made.setup.users next gpsk_kind views octets ≡ servers.gpsk_turn views out
-  unfolding server_turn
+  heard : (next : ℕ) (views : ServerViews) (view : gpsk_server.View) (octets : List ℕ) (out : ServerOutcome gpsk_server.View)
+      → views gpsk_kind ≡ Some (servers.gpsk view) → gpsk_server.step made.setup.users next view octets ≡ out
+      → server_turn made.setup.users next gpsk_kind views octets ≡ at_server.gpsk_turn views out
+  unfolding server_turn servers.server_step
   heard next views view octets out at is =
-      ap (λ (found : Option gpsk_server.View). gpsk_receives made.setup.users next views octets found) at
-      ∙ ap (λ (found : ServerOutcome gpsk_server.View). servers.gpsk_turn views found) is
+      ap (servers.turned made.setup.users next gpsk_kind views octets) at ∙ ap (λ (found : ServerOutcome gpsk_server.View). at_server.gpsk_turn views found) is
 
   -- what the server makes and accepts is under the peer's key
-  pub gpsk_talks : (begun : ServerViews) (view : gpsk_server.View) → begun.gpsk ≡ Some view → Talks peer made gpsk_kind id begun
+  pub gpsk_talks : (begun : ServerViews) (view : gpsk_server.View) → begun gpsk_kind ≡ Some (servers.gpsk view) → Talks peer made gpsk_kind id begun
   gpsk_talks begun view is =
       let e : Ends = ends_of peer made.setup user suite in
       let fit : Compatible e = fits peer made.setup user suite shares in
@@ -169,9 +169,9 @@ module _ (peer : PeerSetup) (made : Made) (user : User) (suite : Suite) (shares 
       let gpsk2 : Message = gpsk_peer.gpsk2_of (peer_login e) (suite_list e.own.suites) in
       let gpsk3 : Message = gpsk_server.gpsk3_of (server_login e) in
       let gpsk4 : Message = gpsk_peer.gpsk4_of (peer_login e) in
-      let waits : PeerViews = record (views_started peer) { gpsk = gpsk_peer.wait (peer_login e) } in
-      let asked : ServerViews = record begun { gpsk = Some (gpsk_server.asked (side_of made.setup) made.setup.nonce) } in
-      let checked : ServerViews = record begun { gpsk = Some (gpsk_server.checked (server_login e)) } in
+      let waits : PeerViews = peers.put gpsk_kind (peers.gpsk (gpsk_peer.wait (peer_login e))) (views_started peer) in
+      let asked : ServerViews = servers.put gpsk_kind (servers.gpsk (gpsk_server.asked (side_of made.setup) made.setup.nonce)) begun in
+      let checked : ServerViews = servers.put gpsk_kind (servers.gpsk (gpsk_server.checked (server_login e))) asked in
       record {
         is_method = record { not_identity = refl; not_notification = refl; not_nak = refl; not_expanded = refl; has_plain = refl };
         asks = spelled (gpsk_server.gpsk1_of (side_of made.setup) made.setup.nonce);
@@ -183,21 +183,21 @@ module _ (peer : PeerSetup) (made : Made) (user : User) (suite : Suite) (shares 
         checks_bounded = check_bounds e fit;
         confirms_bounded = confirm_bounds e fit;
         waiting = waits;
-        over = record (views_started peer) { gpsk = gpsk_peer.over (peer_login e) true };
+        over = peers.put gpsk_kind (peers.gpsk (gpsk_peer.over (peer_login e) true)) waits;
         asked = asked;
         checked = checked;
-        finished = record begun { gpsk = Some (gpsk_server.over (server_login e) true) };
+        finished = servers.put gpsk_kind (servers.gpsk (gpsk_server.over (server_login e) true)) checked;
         decided = CondSucc;
         sure = refl;
         answer_tags = sk_record psk gpsk2 ∷ [];
         check_tags = sk_record psk gpsk3 ∷ [];
         confirm_tags = sk_record psk gpsk4 ∷ [];
         offered = gpsk_offered made shares.short id begun view is;
-        answered = answered _ goes.answers;
+        answered = answered (views_started peer) _ (gpsk_request id (gpsk_server.gpsk1_of (side_of made.setup) made.setup.nonce)) _ fresh_there goes.answers;
         was_checked = heard (after_id id) asked (gpsk_server.asked (side_of made.setup) made.setup.nonce) (gpsk_response id gpsk2) _ refl
             (goes.checks ∙ ap (λ (key : List ℕ). requested (gpsk_server.checked (server_login e)) (gpsk_request (after_id id) gpsk3)
             (sk_record key gpsk2 ∷ []) (sk_record key gpsk3 ∷ [])) fit.one_key);
-        confirmed = confirmed waits (gpsk_peer.wait (peer_login e)) (gpsk_request (after_id id) gpsk3) _ refl goes.confirms;
+        confirmed = answered waits (gpsk_peer.wait (peer_login e)) (gpsk_request (after_id id) gpsk3) _ refl goes.confirms;
         was_finished = heard (after_id (after_id id)) checked (gpsk_server.checked (server_login e)) (gpsk_response (after_id id) gpsk4) _ refl
             (goes.finishes ∙ ap (λ (key : List ℕ). done (gpsk_server.over (server_login e) true) true (sk_record key gpsk4 ∷ [])) fit.one_key);
       }

@@ -5,10 +5,9 @@ use Rattle.login_setup.specs.declared.event.Event.{Event}
 use Rattle.login_setup.specs.declared.setup.Setup.{Setup}
 use Rattle.peer_machine.proofs.Restarting as peers
 use Rattle.server_machine.proofs.Restarting as servers
-use Rattle.eap_world.specs.Run.{run_of}
 use Rattle.world_laws.specs.Agreement.{IsWhole}
 use Rattle.tag_book.specs.Book.{tags_verdict}
-use Rattle.eap_world.specs.World.{WorldNow, run_after, initial_world, world_start, world_step}
+use Rattle.eap_world.specs.World.{WorldNow, run_after, world_start, world_step}
 use Rattle.eap_world.specs.declared.conversations.Waiting.{Waiting}
 use Rattle.world_laws.proofs.Conversing.{BothConverse, LeftSized, run_converses}
 use Rattle.smooth_laws.specs.Again.{IsLoggedInSince, SucceedsAgain}
@@ -17,6 +16,7 @@ use Rattle.smooth_laws.specs.Smooth.{EndsCompatible, HasShortNames}
 use Rattle.smooth_laws.proofs.Again.{first_fresh, smooth_logins_succeed_again}
 use Rattle.smooth_laws.proofs.SmoothRuns.{smooth_logins_succeed}
 use Rattle.smooth_laws.proofs.Restarts.{restarts_start_anew}
+use Rattle.world_laws.specs.Runs.{initial_world, run_of}
 
 -- settings with other nonces are whole, have short names, and fit
 still_whole : (setup : Setup) (one two : List ℕ) → length one ≡ 32 → length two ≡ 32 → IsWhole setup → IsWhole (with_nonces setup one two)

@@ -38,6 +38,8 @@ mod Following
 pub mod Again
 -- The settings of the parties stay through a run.
 mod Settings
+-- An end that has the objects of EAP-PSK and EAP-GPSK still begins as it did at first.
+mod Beginning
 -- Each party begins anew.
 pub mod Restarts
 -- A login after restarts of all parties succeeds.

@@ -1,6 +1,6 @@
 -- The methods of a smooth login: which a server has, the first Request of each, and its turns where two ends fit by it.
 use Rattle.std.proofs.Common.{◌≡◌, ℕ, ◌≤◌, List, length, true, false, Some, refl, sym, ap, subst, ◌∙◌, inl, inr}
-use Rattle.std.specs.Prelude.{◌==◌, ◌||◌, ◌⊎◌}
+use Rattle.std.specs.Prelude.{◌==◌, ◌||◌, ◌⊎◌, None, if◌then◌else◌, option_map}
 use Rattle.std.specs.List.{list_any, list_all}
 use Rattle.std.proofs.lemmas.Bool.{and_parts, cond-true}
 use Rattle.login_setup.specs.declared.setup.Mode.{Mode}
@@ -18,8 +18,11 @@ use Rattle.eap_method.specs.GpskServer as gpsk_server
 use Rattle.eap_method.specs.Peer.{key_for}
 use Rattle.eap_method.specs.PskServer as psk_server
 use Rattle.eap_method.specs.PskTags.{rand_of}
-use Rattle.eap_method.specs.Server.{ServerViews, side_of, views_started}
+use Rattle.eap_method.specs.Server as servers
+use Rattle.eap_method.specs.Server.{ServerShown, ServerViews, put, server_kind, server_started_in, side_of, started_server}
+use Rattle.eap_method.proofs.ServerViews.{begins}
 use Rattle.world_laws.specs.Agreement.{IsWhole}
+use Rattle.world_laws.specs.Runs.{server_views_started}
 use Rattle.smooth_laws.specs.Smooth.{HasShortNames}
 use Rattle.smooth_laws.proofs.Carried.{IsMethod}
 use Rattle.smooth_laws.proofs.Choosing.{either, few_of, few_suites, some_picked, some_suites}
@@ -34,8 +37,8 @@ few_kinds kinds h = let both = and_parts (list_all is_kind kinds) (are_distinct 
 
 -- the server has an object of this method
 pub data Has (views : ServerViews) : ℕ → Type 0 where
-  psk : (view : psk_server.View) → views.psk ≡ Some view → Has views psk_kind
-  gpsk : (view : gpsk_server.View) → views.gpsk ≡ Some view → Has views gpsk_kind
+  psk : (view : psk_server.View) → views psk_kind ≡ Some (servers.psk view) → Has views psk_kind
+  gpsk : (view : gpsk_server.View) → views gpsk_kind ≡ Some (servers.gpsk view) → Has views gpsk_kind
 
 -- what a method asks first; of each method of which there was an object there still is one
 pub record Offers (made : Made) (kind id : ℕ) (begun : ServerViews) : Type 0 where
@@ -47,30 +50,30 @@ pub record Offers (made : Made) (kind id : ℕ) (begun : ServerViews) : Type 0 w
   pub keeps : (other : ℕ) → Has begun other → Has asked other
 
 module _ (made : Made) (short : IsShort made.setup) (id : ℕ) (begun : ServerViews) where
-  preserves_gpsk : (left : gpsk_server.View) (other : ℕ) → Has begun other → Has (record begun { gpsk = Some left }) other
+  preserves_gpsk : (left : gpsk_server.View) (other : ℕ) → Has begun other → Has (put gpsk_kind (servers.gpsk left) begun) other
   preserves_gpsk left other (psk view is) = psk view is
   preserves_gpsk left other (gpsk view is) = gpsk left refl
 
-  preserves_psk : (left : psk_server.View) (other : ℕ) → Has begun other → Has (record begun { psk = Some left }) other
+  preserves_psk : (left : psk_server.View) (other : ℕ) → Has begun other → Has (put psk_kind (servers.psk left) begun) other
   preserves_psk left other (psk view is) = psk left refl
   preserves_psk left other (gpsk view is) = gpsk view is
 
-  gpsk_offers : (view : gpsk_server.View) → begun.gpsk ≡ Some view → Offers made gpsk_kind id begun
+  gpsk_offers : (view : gpsk_server.View) → begun gpsk_kind ≡ Some (servers.gpsk view) → Offers made gpsk_kind id begun
   gpsk_offers view is = record {
     is_method = record { not_identity = refl; not_notification = refl; not_nak = refl; not_expanded = refl; has_plain = refl };
     asks = gpsk_messages.spelled (gpsk_server.gpsk1_of (side_of made.setup) made.setup.nonce);
     fits = gpsk_bounded made short id begun;
-    asked = record begun { gpsk = Some (gpsk_server.asked (side_of made.setup) made.setup.nonce) };
+    asked = put gpsk_kind (servers.gpsk (gpsk_server.asked (side_of made.setup) made.setup.nonce)) begun;
     offered = gpsk_offered made short id begun view is;
     keeps = preserves_gpsk (gpsk_server.asked (side_of made.setup) made.setup.nonce);
   }
 
-  psk_offers : (view : psk_server.View) → begun.psk ≡ Some view → Offers made psk_kind id begun
+  psk_offers : (view : psk_server.View) → begun psk_kind ≡ Some (servers.psk view) → Offers made psk_kind id begun
   psk_offers view is = record {
     is_method = record { not_identity = refl; not_notification = refl; not_nak = refl; not_expanded = refl; has_plain = refl };
     asks = psk_messages.spelled (psk_messages.psk1 (rand_of made.setup.nonce) (side_of made.setup).id_s);
     fits = psk_bounded made short id begun;
-    asked = record begun { psk = Some (psk_server.asked (side_of made.setup) made.setup.nonce) };
+    asked = put psk_kind (servers.psk (psk_server.asked (side_of made.setup) made.setup.nonce)) begun;
     offered = psk_offered made short id begun view is;
     keeps = preserves_psk (psk_server.asked (side_of made.setup) made.setup.nonce);
   }
@@ -81,16 +84,22 @@ offers_of made short kind id begun (psk view is) = psk_offers made short id begu
 offers_of made short kind id begun (gpsk view is) = gpsk_offers made short id begun view is
 
 -- a server that begins has an object of each method of its order
-has_at : (setup : ServerSetup) (kind : ℕ) → (kind ≡ psk_kind) ⊎ (kind ≡ gpsk_kind) → is_among setup.methods kind ≡ true → Has (views_started setup) kind
-unfolding views_started
-has_at setup kind (inl e) among =
-    subst (Has (views_started setup)) (sym e)
-    (psk (psk_server.begun (side_of setup) setup.nonce) (cond-true (is_among setup.methods psk_kind) _ _ (ap (is_among setup.methods) (sym e) ∙ among)))
-has_at setup kind (inr e) among =
-    subst (Has (views_started setup)) (sym e)
-    (gpsk (gpsk_server.begun (side_of setup) setup.nonce) (cond-true (is_among setup.methods gpsk_kind) _ _ (ap (is_among setup.methods) (sym e) ∙ among)))
+fresh_at : (setup : ServerSetup) (s : ServerShown) → is_among setup.methods (server_kind s) ≡ true
+    → option_map (server_started_in setup) (if is_among setup.methods (server_kind s) then Some s else None) ≡ Some (started_server (side_of setup) setup.nonce s)
+fresh_at setup s named =
+    ap (option_map (server_started_in setup)) (cond-true (is_among setup.methods (server_kind s)) _ _ named)
+    ∙ ap (λ (t : ServerShown). Some t) (sym (begins setup s named))
 
-pub has_each : (setup : ServerSetup) (kind : ℕ) → is_kind kind ≡ true → is_among setup.methods kind ≡ true → Has (views_started setup) kind
+has_at : (setup : ServerSetup) (kind : ℕ) → (kind ≡ psk_kind) ⊎ (kind ≡ gpsk_kind) → is_among setup.methods kind ≡ true → Has (server_views_started setup) kind
+unfolding servers.views_started
+has_at setup kind (inl e) among =
+    subst (Has (server_views_started setup)) (sym e)
+    (psk (psk_server.begun (side_of setup) setup.nonce) (fresh_at setup (servers.psk psk_server.unset) (ap (is_among setup.methods) (sym e) ∙ among)))
+has_at setup kind (inr e) among =
+    subst (Has (server_views_started setup)) (sym e)
+    (gpsk (gpsk_server.begun (side_of setup) setup.nonce) (fresh_at setup (servers.gpsk gpsk_server.unset) (ap (is_among setup.methods) (sym e) ∙ among)))
+
+pub has_each : (setup : ServerSetup) (kind : ℕ) → is_kind kind ≡ true → is_among setup.methods kind ≡ true → Has (server_views_started setup) kind
 has_each setup kind is among =
     has_at setup kind (either psk_kind gpsk_kind kind is) among
 

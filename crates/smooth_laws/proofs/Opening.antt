@@ -11,15 +11,15 @@ use Rattle.eap_packet.specs.Packet.{request, response, spelled}
 use Rattle.eap_packet.specs.Fault.{packet_of}
 use Rattle.eap_packet.specs.declared.state.State.TheVariants as state
 use Rattle.login_policy.specs.Policy.{next_kind, nak_of}
-use Rattle.eap_method.specs.Server.{ServerViews, views_started}
-use Rattle.peer_machine.specs.PeerTable.{PeerNow, initial_peer, identity_response}
-use Rattle.server_machine.specs.ServerTable.{ServerNow, initial_server, identity_request, server_start}
+use Rattle.eap_method.specs.Server.{ServerViews}
+use Rattle.peer_machine.specs.PeerTable.{PeerNow, identity_response}
+use Rattle.server_machine.specs.ServerTable.{ServerNow, identity_request, server_start}
 use Rattle.server_machine.specs.declared.variables.Progress.TheVariants as progress
 use Rattle.server_machine.specs.declared.variables.Role.TheVariants as role
 use Rattle.pass_through.specs.PassTable.{initial_pass, pass_start}
 use Rattle.pass_through.specs.declared.variables.PassVariables.{PassVariables}
 use Rattle.tag_book.specs.Book.{first_broken}
-use Rattle.eap_world.specs.World.{WorldNow, role_in, initial_world, world_start}
+use Rattle.eap_world.specs.World.{WorldNow, role_in, world_start}
 use Rattle.tag_book.specs.declared.book.End.TheVariants as end
 use Rattle.smooth_laws.proofs.Carried.{IsMethod, carried, kind_as, body_as, asks_read, request_carried_whole}
 use Rattle.smooth_laws.proofs.Exchange.{ToPeer, ToServer, alone, in_idle2, exchanged, number_after, peer_turns, server_turns}
@@ -32,6 +32,7 @@ use Rattle.smooth_laws.proofs.PeerSide as peers
 use Rattle.smooth_laws.proofs.PeerSide.{peer_unbound}
 use Rattle.smooth_laws.proofs.ServerSide as servers
 use Rattle.smooth_laws.proofs.ServerSide.{Made, IsOffer, after_id, server_at}
+use Rattle.world_laws.specs.Runs.{initial_peer, initial_server, initial_world, server_views_started}
 
 -- the setup in a mode, and its server
 abbrev pub in_mode : Mode → Setup → Setup
@@ -56,7 +57,7 @@ number_opened mode.Through = 5
 module _ (setup : Setup) where
   -- the one who asks for the identity has started
   starts_alone : Stage (started mode.Alone setup) mode.Alone 1 (initial_peer setup.peer)
-      (server_at (made_in mode.Alone setup) setup.first_id 1 progress.Continue (identity_request setup.first_id) [] (views_started setup.server))
+      (server_at (made_in mode.Alone setup) setup.first_id 1 progress.Continue (identity_request setup.first_id) [] (server_views_started setup.server))
       (initial_pass setup.first_id setup.max_retrans) (packet_to port.Peer (identity_request setup.first_id)) end.Peer []
   unfolding world_start server_start first_broken
   starts_alone = record { parties = refl; before = []; sent = refl; count = refl; none_discarded = refl; honest = refl; vouched = refl }
@@ -78,7 +79,7 @@ module _ (setup : Setup) where
   pub opens : (runs : Mode) (form : Bool) → setup.server.expanded ≡ form → (kind : ℕ) (asks : List ℕ) (asked : ServerViews)
       → length setup.peer.name ≤ 253 → IsMethod kind → length asks ≤ 1488
       → next_kind setup.server.methods [] None ≡ Some kind
-      → IsOffer (made_in runs setup) kind (after_id setup.first_id) (views_started setup.server) (spelled (request (after_id setup.first_id) kind asks)) asked
+      → IsOffer (made_in runs setup) kind (after_id setup.first_id) (server_views_started setup.server) (spelled (request (after_id setup.first_id) kind asks)) asked
       → ToPeer (opened runs (started runs setup)) runs (number_opened runs) (after_id setup.first_id)
       (peer_unbound setup.peer setup.first_id (identity_response setup.first_id setup.peer.name))
       (server_at (made_in runs setup) (after_id setup.first_id) kind progress.Proposed (carried form (spelled (request (after_id setup.first_id) kind asks)))
@@ -91,14 +92,14 @@ module _ (setup : Setup) where
       let name : List ℕ = identity_response id setup.peer.name in
       let p : PeerNow = peer_unbound setup.peer id name in
       let offer : List ℕ = carried form (spelled (request (after_id id) kind asks)) in
-      let s : ServerNow = server_at (made_in mode.Alone setup) id 1 progress.Continue (identity_request id) [] (views_started setup.server) in
+      let s : ServerNow = server_at (made_in mode.Alone setup) id 1 progress.Continue (identity_request id) [] (server_views_started setup.server) in
       let named = peer_moves w mode.Alone 1 (initial_peer setup.peer) s pass (identity_request id) [] starts_alone _ name [] p
       (peers.receives_asked setup.peer (identity_request id) id identity_read) in
       record {
         pass = pass;
         awaits = alone pass;
         stage = server_moves (delivered w 1) mode.Alone 2 p s pass name [] named _ offer [] _
-            (servers.receives_named (made_in mode.Alone setup) form writes name id kind setup.peer.name (identity_request id) (views_started setup.server) asked asks
+            (servers.receives_named (made_in mode.Alone setup) form writes name id kind setup.peer.name (identity_request id) (server_views_started setup.server) asked asks
             (name_read short) chosen offered);
       }
   opens mode.Through form writes kind asks asked short m fits chosen offered =

@@ -14,16 +14,18 @@ use Rattle.eap_method.specs.declared.values.MethodState.{MethodState}
 use Rattle.eap_method.specs.declared.values.MethodState.TheVariants as method
 use Rattle.eap_method.specs.declared.values.Decision.{Decision}
 use Rattle.eap_method.specs.declared.values.Decision.TheVariants as decision
-use Rattle.eap_method.specs.Peer.{PeerViews, peer_turn, views_started}
+use Rattle.eap_method.specs.Peer.{PeerViews, peer_turn}
 use Rattle.eap_method.specs.PeerTurn.{Reply}
 use Rattle.eap_method.specs.Plain.{plain_octets}
 use Rattle.eap_method.specs.Steps.{sends, is_end}
 use Rattle.eap_method.specs.Turns.{PeerOutcome}
 use Rattle.peer_machine.specs.Expanded.{expanded_nak_response, stores_sent, expanded_answer, expressed_unless, peer_reads, peer_receives}
-use Rattle.peer_machine.specs.PeerTable.{PeerNow, PeerAnswer, answer, is_last_id, initial_peer, peer_row, method_answers, peer_deliver, peer_method, identity_response}
+use Rattle.peer_machine.specs.PeerTable.{PeerNow, PeerAnswer, answer, is_last_id, peer_row, method_answers, peer_deliver, peer_method, identity_response}
 use Rattle.peer_machine.specs.PeerTable.{nak_response, is_done, is_fail, peer_ends}
 use Rattle.smooth_laws.proofs.Carried.{IsMethod, carried, asks_read, wrapped_plain, wrapped_accepted}
 use Rattle.smooth_laws.proofs.Naks.{nak_as}
+use Rattle.world_laws.specs.Runs.{initial_peer}
+use Rattle.world_laws.specs.Runs.{views_started}
 
 -- a peer that has not ended and has answered a Request
 abbrev pub peer_at : PeerSetup → Option ℕ → MethodState → Decision → ℕ → List ℕ → PeerViews → PeerNow

@@ -1,5 +1,6 @@
 -- A login by EAP-PSK as both machines see it: its four messages and their tags.
-use Rattle.std.proofs.Common.{◌≡◌, ℕ, ◌≤◌, List, length, true, false, Option, Some, refl, ap, ◌∙◌, arith}
+use Rattle.std.proofs.Common.{◌≡◌, ℕ, ◌≤◌, List, length, true, false, Some, refl, sym, ap, ◌∙◌, arith}
+use Rattle.std.specs.Prelude.{option_map}
 use Rattle.std.proofs.lemmas.Bool.{cond-true}
 use Rattle.std.proofs.lemmas.List.{length-take-le}
 use Rattle.cmac_mac.proofs.Laws.{length_aes_cmac}
@@ -14,9 +15,11 @@ use Rattle.psk_messages.proofs.Grammar.{encodings_are_sized}
 use Rattle.eap_method.specs.PskPeer as psk_peer
 use Rattle.eap_method.specs.PskServer as psk_server
 use Rattle.eap_method.specs.PskTags.{psk_request, psk_response, done_success, rand_of}
-use Rattle.eap_method.specs.Peer.{PeerViews, psk_turn, credential_for, key_for, peer_turn, views_started}
+use Rattle.eap_method.specs.Peer as peers
+use Rattle.eap_method.specs.Peer.{PeerViews, credential_for, key_for, peer_turn}
 use Rattle.eap_method.specs.Server as servers
-use Rattle.eap_method.specs.Server.{ServerViews, psk_receives, psk_offer, server_offer, server_turn, side_of}
+use Rattle.eap_method.specs.Server.{ServerViews, server_offer, server_turn, side_of}
+use Rattle.eap_method.proofs.PeerViews.{begins}
 use Rattle.eap_method.specs.Turns.{PeerOutcome, ServerOutcome}
 use Rattle.eap_method.specs.declared.values.Decision.TheVariants.{UncondSucc}
 use Rattle.method_laws.specs.PskLogin.{Ends, Compatible, IsSuccessful, peer_login, server_login, psk1_of, psk2_records}
@@ -24,6 +27,9 @@ use Rattle.method_laws.proofs.PskChannel.{length_sealed_tag}
 use Rattle.method_laws.proofs.PskWhole.{psk_logins_go_through}
 use Rattle.smooth_laws.proofs.ServerSide.{IsOffer, Made, after_id}
 use Rattle.smooth_laws.proofs.Talk.{IsShort, Talks}
+use Rattle.world_laws.proofs.PeerByMethod.{psk_turn}
+use Rattle.world_laws.proofs.ServerByMethod as at_server
+use Rattle.world_laws.specs.Runs.{views_started}
 
 -- both ends have a key in common and accept each other
 pub record Shares (peer : PeerSetup) (server : ServerSetup) (user : User) : Type 0 where
@@ -117,11 +123,11 @@ module _ (made : Made) (short : IsShort made.setup) (id : ℕ) (begun : ServerVi
       let rand = length-take-le 16 made.setup.nonce (omega arith) in
       omega arith
 
-  pub psk_offered : (view : psk_server.View) → begun.psk ≡ Some view
+  pub psk_offered : (view : psk_server.View) → begun psk_kind ≡ Some (servers.psk view)
       → IsOffer made psk_kind id begun (psk_request id (psk1 (rand_of made.setup.nonce) (side_of made.setup).id_s))
-      (record begun { psk = Some (psk_server.asked (side_of made.setup) made.setup.nonce) })
-  unfolding server_offer psk_server.first
-  psk_offered view is = record { is = ap (λ (found : Option psk_server.View). psk_offer (side_of made.setup) made.setup.nonce id begun found) is }
+      (servers.put psk_kind (servers.psk (psk_server.asked (side_of made.setup) made.setup.nonce)) begun)
+  unfolding server_offer servers.server_first_step psk_server.first_step psk_server.first
+  psk_offered view is = record { is = ap (servers.offered (side_of made.setup) made.setup.nonce psk_kind id begun) is }
 
 -- ---- the turns at both machines
 
@@ -130,30 +136,27 @@ module _ (peer : PeerSetup) (made : Made) (user : User) (shares : Shares peer ma
   goes = psk_logins_go_through (ends_of peer made.setup user) id (after_id id) (after_id (after_id id)) (fits peer made.setup user shares)
 
   -- the peer's view of the method that it allows is fresh
-  answered : (octets : List ℕ) (out : PeerOutcome psk_peer.View)
-      → psk_peer.step (psk_peer.fresh (credential_for peer psk_kind) peer.nonce) octets ≡ out
-      → peer_turn psk_kind (views_started peer) octets ≡ psk_turn (views_started peer) out
-  unfolding peer_turn views_started
-  answered octets out is =
-      ap (λ (view : psk_peer.View). psk_turn (views_started peer) (psk_peer.step view octets)) (cond-true (is_among peer.methods psk_kind) _ _ shares.allowed)
-      ∙ ap (λ (found : PeerOutcome psk_peer.View). psk_turn (views_started peer) found) is
+  fresh_there : views_started peer psk_kind ≡ Some (peers.psk (psk_peer.fresh (credential_for peer psk_kind) peer.nonce))
+  unfolding peers.views_started
+  fresh_there =
+      ap (option_map (peers.peer_started_in peer)) (cond-true (is_among peer.methods psk_kind) _ _ shares.allowed)
+      ∙ ap (λ (s : peers.PeerShown). Some s) (sym (begins peer (peers.psk psk_peer.unset) shares.allowed))
 
-  confirmed : (views : PeerViews) (view : psk_peer.View) (octets : List ℕ) (out : PeerOutcome psk_peer.View) → views.psk ≡ view
+  answered : (views : PeerViews) (view : psk_peer.View) (octets : List ℕ) (out : PeerOutcome psk_peer.View) → views psk_kind ≡ Some (peers.psk view)
       → psk_peer.step view octets ≡ out
       → peer_turn psk_kind views octets ≡ psk_turn views out
-  unfolding peer_turn
-  confirmed views view octets out at is =
-      ap (λ (found : psk_peer.View). psk_turn views (psk_peer.step found octets)) at ∙ ap (λ (found : PeerOutcome psk_peer.View). psk_turn views found) is
+  unfolding peer_turn peers.peer_step
+  answered views view octets out at is =
+      ap (peers.turned psk_kind views octets) at ∙ ap (λ (found : PeerOutcome psk_peer.View). psk_turn views found) is
 
-  heard : (next : ℕ) (views : ServerViews) (view : psk_server.View) (octets : List ℕ) (out : ServerOutcome psk_server.View) → views.psk ≡ Some view
-      → psk_server.step made.setup.users next view octets ≡ out
-      → server_turn made.setup.users next psk_kind views octets ≡ servers.psk_turn views out
-  unfolding server_turn
+  heard : (next : ℕ) (views : ServerViews) (view : psk_server.View) (octets : List ℕ) (out : ServerOutcome psk_server.View)
+      → views psk_kind ≡ Some (servers.psk view) → psk_server.step made.setup.users next view octets ≡ out
+      → server_turn made.setup.users next psk_kind views octets ≡ at_server.psk_turn views out
+  unfolding server_turn servers.server_step
   heard next views view octets out at is =
-      ap (λ (found : Option psk_server.View). psk_receives made.setup.users next views octets found) at
-      ∙ ap (λ (found : ServerOutcome psk_server.View). servers.psk_turn views found) is
+      ap (servers.turned made.setup.users next psk_kind views octets) at ∙ ap (λ (found : ServerOutcome psk_server.View). at_server.psk_turn views found) is
 
-  pub psk_talks : (begun : ServerViews) (view : psk_server.View) → begun.psk ≡ Some view → Talks peer made psk_kind id begun
+  pub psk_talks : (begun : ServerViews) (view : psk_server.View) → begun psk_kind ≡ Some (servers.psk view) → Talks peer made psk_kind id begun
   psk_talks begun view is =
       let e : Ends = ends_of peer made.setup user in
       let fit : Compatible e = fits peer made.setup user shares in
@@ -161,9 +164,9 @@ module _ (peer : PeerSetup) (made : Made) (user : User) (shares : Shares peer ma
       let psk2 : Message = psk_peer.psk2_of (peer_login e) in
       let psk3 : Message = psk_server.psk3_of (server_login e) next in
       let psk4 : Message = psk_peer.psk4_of (peer_login e) next done_success in
-      let waits : PeerViews = record (views_started peer) { psk = psk_peer.wait (peer_login e) } in
-      let asked : ServerViews = record begun { psk = Some (psk_server.asked (side_of made.setup) made.setup.nonce) } in
-      let checked : ServerViews = record begun { psk = Some (psk_server.checked (server_login e)) } in
+      let waits : PeerViews = peers.put psk_kind (peers.psk (psk_peer.wait (peer_login e))) (views_started peer) in
+      let asked : ServerViews = servers.put psk_kind (servers.psk (psk_server.asked (side_of made.setup) made.setup.nonce)) begun in
+      let checked : ServerViews = servers.put psk_kind (servers.psk (psk_server.checked (server_login e))) asked in
       record {
         is_method = record { not_identity = refl; not_notification = refl; not_nak = refl; not_expanded = refl; has_plain = refl };
         asks = spelled (psk1_of e);
@@ -175,18 +178,18 @@ module _ (peer : PeerSetup) (made : Made) (user : User) (shares : Shares peer ma
         checks_bounded = check_bounds e fit next;
         confirms_bounded = confirm_bounds e fit next;
         waiting = waits;
-        over = record (views_started peer) { psk = psk_peer.over (peer_login e) true };
+        over = peers.put psk_kind (peers.psk (psk_peer.over (peer_login e) true)) waits;
         asked = asked;
         checked = checked;
-        finished = record begun { psk = Some (psk_server.over (server_login e) true) };
+        finished = servers.put psk_kind (servers.psk (psk_server.over (server_login e) true)) checked;
         decided = UncondSucc;
         sure = refl;
         answer_tags = psk2_records e;
         check_tags = psk_server.psk3_records (server_login e) next;
         confirm_tags = psk_peer.psk4_record (peer_login e) next done_success;
         offered = psk_offered made shares.short id begun view is;
-        answered = answered (psk_request id (psk1_of e)) _ goes.answers;
+        answered = answered (views_started peer) _ (psk_request id (psk1_of e)) _ fresh_there goes.answers;
         was_checked = heard next asked (psk_server.asked (side_of made.setup) made.setup.nonce) (psk_response id psk2) _ refl goes.checks;
-        confirmed = confirmed waits (psk_peer.wait (peer_login e)) (psk_request next psk3) _ refl goes.confirms;
+        confirmed = answered waits (psk_peer.wait (peer_login e)) (psk_request next psk3) _ refl goes.confirms;
         was_finished = heard (after_id next) checked (psk_server.checked (server_login e)) (psk_response next psk4) _ refl goes.finishes;
       }

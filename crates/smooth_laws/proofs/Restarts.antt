@@ -6,6 +6,8 @@ use Rattle.std.proofs.lemmas.Bool.{cond_both}
 use Rattle.std.proofs.lemmas.List.Folds.{list_any-append}
 use Rattle.std.proofs.lemmas.Slice.Eq.{bytes_eq-Decides}
 use Rattle.eap_packet.specs.declared.cause.Cause.{Cause}
+use Rattle.eap_method.specs.Peer.{PeerViews}
+use Rattle.eap_method.specs.Server.{ServerViews, views_started}
 use Rattle.eap_method.specs.Tags.{Tags}
 use Rattle.tag_book.specs.Book.{entries_of}
 use Rattle.tag_book.specs.declared.book.End.{End}
@@ -24,16 +26,15 @@ use Rattle.login_setup.specs.declared.setup.ServerSetup.{ServerSetup}
 use Rattle.login_setup.specs.declared.setup.Setup.{Setup}
 use Rattle.peer_machine.specs.Inputs as peer_inputs
 use Rattle.peer_machine.specs.PeerTable as peers
-use Rattle.peer_machine.specs.PeerTable.{initial_peer, peer_restart}
+use Rattle.peer_machine.specs.PeerTable.{PeerNow, peer_restart}
 use Rattle.server_machine.specs.Inputs as server_inputs
 use Rattle.server_machine.specs.ServerTable as servers
-use Rattle.server_machine.specs.ServerTable.{ServerNow, ServerAnswer, identity_request, is_backend, initial_server, server_restart, server_start}
+use Rattle.server_machine.specs.ServerTable.{ServerNow, ServerAnswer, identity_request, is_backend, server_restart, server_start}
 use Rattle.server_machine.specs.declared.variables.Role.{Role}
 use Rattle.server_machine.specs.declared.variables.Role.TheVariants as role
 use Rattle.pass_through.specs.Inputs as pass_inputs
 use Rattle.pass_through.specs.PassTable.{initial_pass, pass_restart, pass_start}
 use Rattle.pass_through.specs.declared.variables.PassVariables.{PassVariables}
-use Rattle.eap_world.specs.Run.{run_of}
 use Rattle.eap_world.specs.Conversations.{Conversations, begins, beginning, front, is_new, is_used, peer_initiates, server_initiates}
 use Rattle.eap_world.specs.Sent.{Sent}
 use Rattle.eap_world.specs.World.{Acted, Parties, WorldNow, act, booked_by, called_unless, conversed_by, conversed_unless, first_skip, port_to, has_none, next_call, run_after}
@@ -42,15 +43,17 @@ use Rattle.eap_world.specs.declared.conversations.Waiting.{Waiting}
 use Rattle.eap_world.specs.declared.told.Skip.{Skip}
 use Rattle.eap_world.specs.declared.told.Skip.TheVariants.{NoNonce, NoParty}
 use Rattle.world_laws.proofs.Conversing.{BothConverse, run_converses}
+use Rattle.smooth_laws.proofs.Beginning.{peer_starts_again, server_starts_again}
 use Rattle.smooth_laws.proofs.Moves.{packet_to, parties_at}
 use Rattle.smooth_laws.proofs.Opening.{in_mode}
 use Rattle.smooth_laws.proofs.Settings.{AreSet, IsIdle, restart-same, run_is_set, run_is_idle}
 use Rattle.smooth_laws.specs.Restarts.{StartAnew, HasRestarted, RestartsStartAnew, are_new}
 use Rattle.smooth_laws.specs.Restarts.{peer_server, server_peer, peer_server_pass, peer_pass_server, server_peer_pass, server_pass_peer, pass_peer_server, pass_server_peer}
+use Rattle.world_laws.specs.Runs.{initial_peer, initial_server, run_of, server_views_started}
 
 -- what the restart of each party makes of them
 abbrev peer_anew : List ℕ → Parties → Parties
-peer_anew nonce p = record p { peer = initial_peer (peers.setup_with_nonce p.peer.vars.setup nonce) }
+peer_anew nonce p = record p { peer = peers.initial_peer (peers.setup_with_nonce p.peer.vars.setup nonce) p.peer.views }
 
 abbrev server_anew : List ℕ → Parties → Parties
 server_anew nonce p = record p { server = (server_restart p.server nonce).after }
@@ -464,25 +467,27 @@ module _ (w : WorldNow) (id : ℕ) (h : Fits w mode.Through role.Backend id) (on
 
 -- where these are the settings, a restarted server stands as one that was made and has started, and a backend as one
 -- that was made
-alone_started : (now : ServerNow) (nonce : List ℕ) (setup : ServerSetup) (id most : ℕ) → now.vars.role ≡ role.StandAlone
+alone_started : (now : ServerNow) (nonce : List ℕ) (setup : ServerSetup) (id most : ℕ) → now.vars.role ≡ role.StandAlone → views_started setup now.views ≡ server_views_started setup
     → servers.setup_with_nonce now.vars.setup nonce ≡ setup → now.vars.first_id ≡ id → now.vars.max_retrans ≡ most
     → (server_restart now nonce).after ≡ (server_start (initial_server role.StandAlone setup id most)).after
 unfolding server_restart
-alone_started now nonce setup id most is own first last =
+alone_started now nonce setup id most is same own first last =
     ap (λ (of : Role). (server_restart (record now { vars = record now.vars { role = of } }) nonce).after) is
-    ∙ ap (λ (s : ServerSetup). (server_start (initial_server role.StandAlone s now.vars.first_id now.vars.max_retrans)).after) own
-    ∙ ap (λ (n : ℕ). (server_start (initial_server role.StandAlone setup n now.vars.max_retrans)).after) first
-    ∙ ap (λ (n : ℕ). (server_start (initial_server role.StandAlone setup id n)).after) last
+    ∙ ap (λ (s : ServerSetup). (server_start (servers.initial_server role.StandAlone s now.views now.vars.first_id now.vars.max_retrans)).after) own
+    ∙ ap (λ (n : ℕ). (server_start (servers.initial_server role.StandAlone setup now.views n now.vars.max_retrans)).after) first
+    ∙ ap (λ (n : ℕ). (server_start (servers.initial_server role.StandAlone setup now.views id n)).after) last
+    ∙ ap (λ (views : ServerViews). (server_start (record (initial_server role.StandAlone setup id most) { views = views })).after) same
 
-backend_started : (now : ServerNow) (nonce : List ℕ) (setup : ServerSetup) (id most : ℕ) → now.vars.role ≡ role.Backend
+backend_started : (now : ServerNow) (nonce : List ℕ) (setup : ServerSetup) (id most : ℕ) → now.vars.role ≡ role.Backend → views_started setup now.views ≡ server_views_started setup
     → servers.setup_with_nonce now.vars.setup nonce ≡ setup → now.vars.first_id ≡ id → now.vars.max_retrans ≡ most
     → (server_restart now nonce).after ≡ initial_server role.Backend setup id most
 unfolding server_restart
-backend_started now nonce setup id most is own first last =
+backend_started now nonce setup id most is same own first last =
     ap (λ (of : Role). (server_restart (record now { vars = record now.vars { role = of } }) nonce).after) is
-    ∙ ap (λ (s : ServerSetup). initial_server role.Backend s now.vars.first_id now.vars.max_retrans) own
-    ∙ ap (λ (n : ℕ). initial_server role.Backend setup n now.vars.max_retrans) first
-    ∙ ap (λ (n : ℕ). initial_server role.Backend setup id n) last
+    ∙ ap (λ (s : ServerSetup). servers.initial_server role.Backend s now.views now.vars.first_id now.vars.max_retrans) own
+    ∙ ap (λ (n : ℕ). servers.initial_server role.Backend setup now.views n now.vars.max_retrans) first
+    ∙ ap (λ (n : ℕ). servers.initial_server role.Backend setup now.views id n) last
+    ∙ ap (λ (views : ServerViews). (let made : ServerNow = record (initial_server role.Backend setup id most) { views = views } in made)) same
 
 -- the start asks for the identity
 alone_asks : (id most : ℕ) (setup : ServerSetup)
@@ -495,8 +500,9 @@ unfolding pass_start
 through_asks id most = refl
 
 module _ (setup : Setup) (w : WorldNow) (one two : Waiting)
-    (own_peer : peers.setup_with_nonce w.parties.peer.vars.setup one.nonce ≡ peers.setup_with_nonce setup.peer one.nonce)
-    (own_server : servers.setup_with_nonce w.parties.server.vars.setup two.nonce ≡ servers.setup_with_nonce setup.server two.nonce) where
+    (own_peer : peers.initial_peer (peers.setup_with_nonce w.parties.peer.vars.setup one.nonce) w.parties.peer.views ≡ initial_peer (peers.setup_with_nonce setup.peer one.nonce))
+    (own_server : servers.setup_with_nonce w.parties.server.vars.setup two.nonce ≡ servers.setup_with_nonce setup.server two.nonce)
+    (own_views : (let own = servers.setup_with_nonce setup.server two.nonce in views_started own w.parties.server.views ≡ server_views_started own)) where
   started_alone : (b : WorldNow) → AreSet (in_mode mode.Alone setup) w.parties → IsIdle (initial_pass setup.first_id setup.max_retrans) w.parties
       → Renewed w b (ends_anew one.nonce two.nonce) (asks setup.first_id) one two
       → HasRestarted (in_mode mode.Alone setup) one two w b
@@ -507,10 +513,10 @@ module _ (setup : Setup) (w : WorldNow) (one two : Waiting)
       record {
         begun = record {
           parties = r.parties
-              ∙ ap (λ (m : Mode). parties_at m (initial_peer (peers.setup_with_nonce w.parties.peer.vars.setup one.nonce)) (server_restart w.parties.server two.nonce).after w.parties.pass) set.mode
-              ∙ ap (λ (s : PeerSetup). parties_at mode.Alone (initial_peer s) (server_restart w.parties.server two.nonce).after w.parties.pass) own_peer
+              ∙ ap (λ (m : Mode). parties_at m (peers.initial_peer (peers.setup_with_nonce w.parties.peer.vars.setup one.nonce) w.parties.peer.views) (server_restart w.parties.server two.nonce).after w.parties.pass) set.mode
+              ∙ ap (λ (p : PeerNow). parties_at mode.Alone p (server_restart w.parties.server two.nonce).after w.parties.pass) own_peer
               ∙ ap (λ (s : ServerNow). parties_at mode.Alone (initial_peer (peers.setup_with_nonce setup.peer one.nonce)) s w.parties.pass)
-              (alone_started w.parties.server two.nonce server setup.first_id setup.max_retrans set.role own_server set.first_id set.max_retrans)
+              (alone_started w.parties.server two.nonce server setup.first_id setup.max_retrans set.role own_views own_server set.first_id set.max_retrans)
               ∙ ap (λ (v : PassVariables). parties_at mode.Alone (initial_peer (peers.setup_with_nonce setup.peer one.nonce))
               (server_start (initial_server role.StandAlone server setup.first_id setup.max_retrans)).after v) idle.pass;
           before = w.sent;
@@ -530,11 +536,11 @@ module _ (setup : Setup) (w : WorldNow) (one two : Waiting)
       record {
         begun = record {
           parties = r.parties
-              ∙ ap (λ (m : Mode). parties_at m (initial_peer (peers.setup_with_nonce w.parties.peer.vars.setup one.nonce)) (server_restart w.parties.server two.nonce).after
+              ∙ ap (λ (m : Mode). parties_at m (peers.initial_peer (peers.setup_with_nonce w.parties.peer.vars.setup one.nonce) w.parties.peer.views) (server_restart w.parties.server two.nonce).after
               (pass_restart w.parties.pass).after) set.mode
-              ∙ ap (λ (s : PeerSetup). parties_at mode.Through (initial_peer s) (server_restart w.parties.server two.nonce).after (pass_restart w.parties.pass).after) own_peer
+              ∙ ap (λ (p : PeerNow). parties_at mode.Through p (server_restart w.parties.server two.nonce).after (pass_restart w.parties.pass).after) own_peer
               ∙ ap (λ (s : ServerNow). parties_at mode.Through (initial_peer (peers.setup_with_nonce setup.peer one.nonce)) s (pass_restart w.parties.pass).after)
-              (backend_started w.parties.server two.nonce server setup.first_id setup.max_retrans set.role own_server set.first_id set.max_retrans)
+              (backend_started w.parties.server two.nonce server setup.first_id setup.max_retrans set.role own_views own_server set.first_id set.max_retrans)
               ∙ ap (λ (n : ℕ). parties_at mode.Through (initial_peer (peers.setup_with_nonce setup.peer one.nonce))
               (initial_server role.Backend server setup.first_id setup.max_retrans) (pass_start (initial_pass n w.parties.pass.max_retrans)).after) set.pass_first_id
               ∙ ap (λ (n : ℕ). parties_at mode.Through (initial_peer (peers.setup_with_nonce setup.peer one.nonce))
@@ -548,34 +554,40 @@ module _ (setup : Setup) (w : WorldNow) (one two : Waiting)
       }
 
 start_by : (runs : Mode) (setup : Setup) (w : WorldNow) (one two : Waiting) (ps ss : List Waiting) (restarts : List Event)
-    → peers.setup_with_nonce w.parties.peer.vars.setup one.nonce ≡ peers.setup_with_nonce setup.peer one.nonce
+    → peers.initial_peer (peers.setup_with_nonce w.parties.peer.vars.setup one.nonce) w.parties.peer.views ≡ initial_peer (peers.setup_with_nonce setup.peer one.nonce)
     → servers.setup_with_nonce w.parties.server.vars.setup two.nonce ≡ servers.setup_with_nonce setup.server two.nonce
+    → (let own = servers.setup_with_nonce setup.server two.nonce in views_started own w.parties.server.views ≡ server_views_started own)
     → AreSet (in_mode runs setup) w.parties
     → (runs ≡ mode.Alone → IsIdle (initial_pass setup.first_id setup.max_retrans) w.parties)
     → w.conversations.peer_left ≡ one ∷ ps → w.conversations.server_left ≡ two ∷ ss → StartAnew runs restarts
     → HasRestarted (in_mode runs setup) one two w (run_after w restarts)
 unfolding run_after
-start_by mode.Alone setup w one two ps ss _ own_peer own_server set idle peer_left server_left peer_server =
+start_by mode.Alone setup w one two ps ss _ own_peer own_server own_views set idle peer_left server_left peer_server =
     let h : Fits w mode.Alone role.StandAlone setup.first_id =
     record { is_mode = set.mode; role = set.role; first_id = set.first_id; pass_first_id = set.pass_first_id } in
-    started_alone setup w one two own_peer own_server (after (after w party.Peer) party.Server) set (idle refl)
+    started_alone setup w one two own_peer own_server own_views (after (after w party.Peer) party.Server) set (idle refl)
     (by_peer_server w setup.first_id h one two ps ss peer_left server_left)
-start_by mode.Alone setup w one two ps ss _ own_peer own_server set idle peer_left server_left server_peer =
+start_by mode.Alone setup w one two ps ss _ own_peer own_server own_views set idle peer_left server_left server_peer =
     let h : Fits w mode.Alone role.StandAlone setup.first_id =
     record { is_mode = set.mode; role = set.role; first_id = set.first_id; pass_first_id = set.pass_first_id } in
-    started_alone setup w one two own_peer own_server (after (after w party.Server) party.Peer) set (idle refl)
+    started_alone setup w one two own_peer own_server own_views (after (after w party.Server) party.Peer) set (idle refl)
     (by_server_peer w setup.first_id h one two ps ss peer_left server_left)
-start_by mode.Through setup w one two ps ss restarts own_peer own_server set idle peer_left server_left order =
+start_by mode.Through setup w one two ps ss restarts own_peer own_server own_views set idle peer_left server_left order =
     let h : Fits w mode.Through role.Backend setup.first_id =
     record { is_mode = set.mode; role = set.role; first_id = set.first_id; pass_first_id = set.pass_first_id } in
-    started_through setup w one two own_peer own_server (run_after w restarts) set
+    started_through setup w one two own_peer own_server own_views (run_after w restarts) set
     (by_order w setup.first_id h one two ps ss peer_left server_left restarts order)
 
 pub restarts_start_anew : RestartsStartAnew
 restarts_start_anew setup events restarts whole next order =
     let w : WorldNow = run_of setup events in
     let both : BothConverse setup w = run_converses setup events whole in
+    let p = both.peer.now.stands in
+    let s = both.server.now.stands in
+    let own : PeerSetup = peers.setup_with_nonce setup.peer next.peer.nonce in
     start_by setup.mode setup w next.peer next.server next.peer_more next.server_more restarts
-    (ap (λ (s : PeerSetup). peers.setup_with_nonce s next.peer.nonce) both.peer.now.stands.own)
-    (ap (λ (s : ServerSetup). servers.setup_with_nonce s next.server.nonce) both.server.now.stands.own)
+    (ap (λ (s : PeerSetup). peers.initial_peer (peers.setup_with_nonce s next.peer.nonce) w.parties.peer.views) p.own
+    ∙ ap (λ (views : PeerViews). (let made : PeerNow = record (initial_peer own) { views = views } in made)) (peer_starts_again own w.parties.peer.views p.both))
+    (ap (λ (s : ServerSetup). servers.setup_with_nonce s next.server.nonce) s.own)
+    (server_starts_again (servers.setup_with_nonce setup.server next.server.nonce) w.parties.server.views s.both)
     (run_is_set setup events) (run_is_idle setup events) next.peer_left next.server_left order

@@ -11,12 +11,12 @@ use Rattle.eap_packet.specs.declared.state.State.{State}
 use Rattle.eap_packet.specs.declared.state.State.TheVariants as state
 use Rattle.login_policy.specs.Policy.{next_kind, nak_of}
 use Rattle.eap_method.specs.Tags.{Tags, no_tags}
-use Rattle.eap_method.specs.Server.{ServerViews, Offer, server_offer, server_turn, side_of, views_started}
+use Rattle.eap_method.specs.Server.{ServerViews, Offer, server_offer, server_turn, side_of}
 use Rattle.eap_method.specs.ServerTurn as turn
 use Rattle.eap_method.specs.Steps.{sends, is_end}
 use Rattle.eap_method.specs.Turns.{ServerOutcome}
 use Rattle.server_machine.specs.Expanded.{accepts_nak, response_octets, wraps, server_reads, server_receives}
-use Rattle.server_machine.specs.ServerTable.{ServerNow, ServerAnswer, answer, initial_server, initial_vars_of, success_packet, select_action}
+use Rattle.server_machine.specs.ServerTable.{ServerNow, ServerAnswer, answer, initial_vars_of, success_packet, select_action}
 use Rattle.server_machine.specs.ServerTable.{proposes, offers, server_row, server_deliver, server_method, method_answers, pick_up}
 use Rattle.server_machine.specs.ServerTable.{before_proposal, is_backend, awaits_first}
 use Rattle.server_machine.specs.declared.variables.Progress.{Progress}
@@ -25,6 +25,7 @@ use Rattle.server_machine.specs.declared.variables.Role.{Role}
 use Rattle.server_machine.specs.declared.variables.Role.TheVariants as role
 use Rattle.server_machine.specs.declared.variables.ServerVariables.{ServerVariables}
 use Rattle.server_machine.specs.declared.variables.ProposalPath.TheVariants as way
+use Rattle.world_laws.specs.Runs.{initial_server, server_views_started}
 use Rattle.smooth_laws.proofs.Carried.{IsMethod, carried, answers_read, wrapped_plain, wrapped_accepted}
 use Rattle.smooth_laws.proofs.Naks.{ReadsBack, nak_as, nak_body, nak_read, is_nak, entries_consumed}
 
@@ -156,7 +157,7 @@ pub picks_up : (setup : ServerSetup) (first_id max_retrans : ℕ)
     (octets : List ℕ) (id kind : ℕ) (name : List ℕ) (after : ServerViews) (packet : List ℕ)
     → packet_of octets ≡ Ok (response id 1 name)
     → next_kind setup.methods [] None ≡ Some kind
-    → IsOffer (backend setup first_id max_retrans) kind (after_id id) (views_started setup) packet after
+    → IsOffer (backend setup first_id max_retrans) kind (after_id id) (server_views_started setup) packet after
     → server_deliver (initial_server role.Backend setup first_id max_retrans) octets
     ≡ replies (before_proposal way.FirstIdentity ++ state.ProposeMethod ∷ state.MethodRequest ∷ state.SendRequest ∷ state.Idle ∷ []) packet no_tags
     (server_at (backend setup first_id max_retrans) (after_id id) kind progress.Proposed packet (kind ∷ []) after)
@@ -306,7 +307,7 @@ pub picks_up_as : (form : Bool) (setup : ServerSetup) → setup.expanded ≡ for
     (octets : List ℕ) (id kind : ℕ) (name : List ℕ) (after : ServerViews) (asks : List ℕ)
     → packet_of octets ≡ Ok (response id 1 name)
     → next_kind setup.methods [] None ≡ Some kind
-    → IsOffer (backend setup first_id max_retrans) kind (after_id id) (views_started setup) (spelled (request (after_id id) kind asks)) after
+    → IsOffer (backend setup first_id max_retrans) kind (after_id id) (server_views_started setup) (spelled (request (after_id id) kind asks)) after
     → (let packet = carried form (spelled (request (after_id id) kind asks)) in server_receives (initial_server role.Backend setup first_id max_retrans) octets
     ≡ replies (before_proposal way.FirstIdentity ++ state.ProposeMethod ∷ state.MethodRequest ∷ state.SendRequest ∷ state.Idle ∷ []) packet no_tags
     (server_at (backend setup first_id max_retrans) (after_id id) kind progress.Proposed packet (kind ∷ []) after))

@@ -32,16 +32,16 @@ use Rattle.pass_through.specs.Rows as rows
 use Rattle.pass_through.specs.Rows.{PassRow}
 use Rattle.pass_through.specs.declared.variables.PassVariables.{PassVariables}
 use Rattle.pass_through.proofs.PassRows.{pass_answers_are_rows}
-use Rattle.eap_world.specs.Run.{run_of}
 use Rattle.eap_world.specs.Conversations.{Conversations}
 use Rattle.eap_world.specs.Sent.{Sent, packet_numbered}
 use Rattle.eap_world.specs.World.{Acted, Call, Parties, WorldNow, WorldOutcome, act, alteration, call_at, call_with, act_of_call, called_unless, first_skip, has_none}
-use Rattle.eap_world.specs.World.{is_absent, next_call, octets_of, packet_skips, role_in, run_after, timer_skips, to_pass, to_peer, to_server, initial_world, world_start, world_step}
+use Rattle.eap_world.specs.World.{is_absent, next_call, octets_of, packet_skips, role_in, run_after, timer_skips, to_pass, to_peer, to_server, world_start, world_step}
 use Rattle.eap_world.specs.declared.conversations.Waiting.{Waiting}
 use Rattle.eap_world.specs.declared.told.Skip.{Skip}
 use Rattle.eap_world.specs.declared.told.Skip.TheVariants.{Ended, NoNonce, NoParty, Place, Unsent}
 use Rattle.world_laws.proofs.Acting.{Steps, calls, peer_restarts, run_preserves, server_restarts, skips}
 use Rattle.smooth_laws.proofs.Moves.{parties_at}
+use Rattle.world_laws.specs.Runs.{initial_world, run_of}
 
 -- ---- the server
 

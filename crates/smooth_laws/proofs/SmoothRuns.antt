@@ -11,13 +11,12 @@ use Rattle.login_setup.specs.declared.setup.Mode.TheVariants as mode
 use Rattle.login_setup.specs.declared.setup.Setup.{Setup}
 use Rattle.octet_lists.specs.Among.{is_among, is_kind, are_distinct}
 use Rattle.login_policy.specs.Policy.{next_kind, nak_of}
-use Rattle.eap_method.specs.Server.{ServerViews, views_started}
-use Rattle.eap_world.specs.Run.{run_of}
+use Rattle.eap_method.specs.Server.{ServerViews}
 use Rattle.world_laws.specs.Agreement.{IsWhole}
 use Rattle.tag_book.specs.Book.{verdict_on, tags_verdict}
 use Rattle.tag_book.specs.declared.book.TagsVerdict.TheVariants.{Honest}
 use Rattle.eap_world.specs.Judgement.{is_success}
-use Rattle.eap_world.specs.World.{WorldNow, run_after, initial_world, world_start}
+use Rattle.eap_world.specs.World.{WorldNow, run_after, world_start}
 use Rattle.world_laws.proofs.HonestRuns.{honest_ends_agree}
 use Rattle.smooth_laws.specs.Smooth.{EndsCompatible, HasShortNames, IsLoggedIn, SmoothLoginsSucceed, event_bound, bound_in, deliveries, takes_first}
 use Rattle.smooth_laws.proofs.Choosing.{found_passes, found_among, found_as_all, first_is_next, allowed_is_common, common_is_next}
@@ -28,6 +27,7 @@ use Rattle.smooth_laws.proofs.Opening.{in_mode, made_in, number_opened, opened, 
 use Rattle.smooth_laws.proofs.ServerSide.{after_id}
 use Rattle.smooth_laws.proofs.Talk.{EndsWell, Talks, ids_differ, last_number, talked, talks_through}
 use Rattle.smooth_laws.proofs.Moves.{BothIn, all_started, delivered, stay_in}
+use Rattle.world_laws.specs.Runs.{initial_world, run_of, server_views_started}
 
 -- both ends have succeeded after so many deliveries, and the peer not before
 abbrev SucceedsAt : Setup → ℕ → Type 0
@@ -55,7 +55,7 @@ module _ (setup : Setup) (whole : IsWhole setup) (names : HasShortNames setup) w
     talks : (runs : Mode) (id : ℕ) (begun : ServerViews) → Has begun fit.kind → Talks setup.peer (made_in runs setup) fit.kind id begun
     talks runs id begun has = talks_of setup whole names runs fit.kind id fit.user allowed fit.known fit.not_barred fit.one_key fit.accepted fit.suite begun has
 
-    begins : Has (views_started setup.server) fit.kind
+    begins : Has (server_views_started setup.server) fit.kind
     begins = has_each setup.server fit.kind (found_as_all (is_among setup.peer.methods) is_kind setup.server.methods fit.kind fit.common kinds)
         (found_among (is_among setup.peer.methods) setup.server.methods fit.kind fit.common)
 
@@ -72,9 +72,9 @@ module _ (setup : Setup) (whole : IsWhole setup) (names : HasShortNames setup) w
         EndsWell w (delivered w (last_number runs n)) (last_number runs n))
     logs_in_alike runs first rest order takes =
         let id : ℕ = after_id setup.first_id in
-        let talk = talks runs id (views_started setup.server) begins in
+        let talk = talks runs id (server_views_started setup.server) begins in
         let same = allowed_is_common setup.peer.methods first fit.kind rest takes (common_in first rest order) in
-        talks_through setup.peer (made_in runs setup) fit.kind id (views_started setup.server) talk runs form (opened runs (started runs setup))
+        talks_through setup.peer (made_in runs setup) fit.kind id (server_views_started setup.server) talk runs form (opened runs (started runs setup))
         (number_opened runs) setup.first_id _ _ (fit.kind ∷ []) fit.reads refl (ids_differ setup.first_id) allowed
         (opens setup runs form refl fit.kind talk.asks talk.asked names.peer talk.is_method talk.asks_bounded
         (first_chosen first rest order ∙ ap (λ (kind : ℕ). Some kind) same) talk.offered)
@@ -89,7 +89,7 @@ module _ (setup : Setup) (whole : IsWhole setup) (names : HasShortNames setup) w
         let w : WorldNow = opened runs (started runs setup) in
         let id : ℕ = after_id setup.first_id in
         let is_first = and_parts (is_kind first) (list_all is_kind rest) (ap (list_all is_kind) (sym order) ∙ kinds) in
-        let offer = offers_of (made_in runs setup) (short setup whole names) first id (views_started setup.server)
+        let offer = offers_of (made_in runs setup) (short setup whole names) first id (server_views_started setup.server)
         (has_each setup.server first is_first.0 (ap (λ (methods : List ℕ). is_among methods first) order ∙ or_left (first == first) (is_among rest first)
         (eq-eqb first first refl))) in
         let talk = talks runs (after_id id) offer.asked (offer.keeps fit.kind begins) in

@@ -7,7 +7,7 @@ use Rattle.login_setup.specs.declared.setup.PeerSetup.{PeerSetup}
 use Rattle.login_setup.specs.declared.setup.ServerSetup.{ServerSetup}
 use Rattle.octet_lists.specs.Among.{is_among}
 use Rattle.eap_packet.specs.Packet.{request, response, success, spelled}
-use Rattle.eap_method.specs.Peer.{PeerViews, peer_turn, views_started}
+use Rattle.eap_method.specs.Peer.{PeerViews, peer_turn}
 use Rattle.eap_method.specs.PeerTurn.{Reply}
 use Rattle.eap_method.specs.Server.{ServerViews, server_turn}
 use Rattle.eap_method.specs.ServerTurn.{Request, Done}
@@ -29,6 +29,7 @@ use Rattle.smooth_laws.proofs.PeerSide as peers
 use Rattle.smooth_laws.proofs.PeerSide.{peer_at, peer_unbound}
 use Rattle.smooth_laws.proofs.ServerSide as servers
 use Rattle.smooth_laws.proofs.ServerSide.{Made, IsOffer, after_id, server_at, server_done}
+use Rattle.world_laws.specs.Runs.{views_started}
 
 abbrev pub tags_of : List TagRecord → List TagRecord → Tags
 tags_of accepted made = record { accepted = accepted; made = made }

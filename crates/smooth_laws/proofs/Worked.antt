@@ -3,13 +3,12 @@ use Rattle.std.proofs.Common.{◌≡◌, List, [], ◌∷◌, false, None, Some,
 use Rattle.std.specs.Prelude.{ℕ, codes, length, replicate}
 use Rattle.std.proofs.lemmas.List.Elements.{All-from_recursion}
 use Rattle.login_setup.specs.declared.event.Event.TheVariants.{Deliver}
-use Rattle.login_setup.specs.declared.setup.Accepts.TheVariants.{One}
 use Rattle.login_setup.specs.declared.setup.Mode.{Mode}
 use Rattle.login_setup.specs.declared.setup.Mode.TheVariants.{Alone, Through}
 use Rattle.login_setup.specs.declared.setup.Setup.{Setup}
 use Rattle.login_setup.specs.declared.users.User.{User}
 use Rattle.octet_lists.specs.Among.{is_kind}
-use Rattle.login_setup.specs.Setup.{is_valid_for, no_later}
+use Rattle.login_setup.specs.Setup.{is_valid_for}
 use Rattle.login_setup.specs.Plain.{plain_peer, plain_server, plain_setup}
 use Rattle.world_laws.specs.Agreement.{IsWhole}
 use Rattle.smooth_laws.specs.Smooth.{EndsCompatible, HasShortNames, event_bound, common_kind, deliveries}

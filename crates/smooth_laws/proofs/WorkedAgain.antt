@@ -6,11 +6,11 @@ use Rattle.login_setup.specs.declared.setup.Mode.{Mode}
 use Rattle.login_setup.specs.declared.setup.Mode.TheVariants.{Alone, Through}
 use Rattle.login_setup.specs.declared.setup.Party.TheVariants.{Peer, Pass, Server}
 use Rattle.login_setup.specs.declared.setup.Setup.{Setup}
-use Rattle.eap_world.specs.Run.{run_of}
 use Rattle.eap_world.specs.World.{run_after, world_start}
 use Rattle.smooth_laws.specs.Again.{HasJustStarted}
 use Rattle.smooth_laws.specs.Restarts.{StartAnew, HaveNext, peer_server, pass_server_peer}
 use Rattle.smooth_laws.proofs.Worked.{both, example_setup}
+use Rattle.world_laws.specs.Runs.{run_of}
 
 -- after its start each world has just begun, so that the law of the first login is one of these
 first_starts : (setup : Setup) → HasJustStarted setup (run_of setup [])

@@ -3,7 +3,6 @@
 use Rattle.std.specs.Prelude.{◌≡◌, ◌-◌, ◌≤◌, List, [], ◌++◌, length, take, true, false}
 use Rattle.login_setup.specs.declared.event.Event.{Event}
 use Rattle.login_setup.specs.declared.setup.Setup.{Setup}
-use Rattle.eap_world.specs.Run.{run_of}
 use Rattle.world_laws.specs.Agreement.{IsWhole}
 use Rattle.tag_book.specs.Book.{tags_verdict}
 use Rattle.eap_world.specs.declared.verdict.Verdict.TheVariants.{Agree}
@@ -11,6 +10,7 @@ use Rattle.eap_world.specs.Judgement.{is_success, verdict_of}
 use Rattle.eap_world.specs.Sent.{Sent}
 use Rattle.eap_world.specs.World.{WorldNow, run_after}
 use Rattle.smooth_laws.specs.Smooth.{EndsCompatible, HasShortNames, event_bound, deliveries}
+use Rattle.world_laws.specs.Runs.{run_of}
 
 -- the parties are as after the start of a run of these settings, whose nonces are those of the present
 -- conversations, and what was sent last asks for the identity; whatever else the world has

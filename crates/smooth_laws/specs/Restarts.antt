@@ -8,7 +8,6 @@ use Rattle.login_setup.specs.declared.setup.Mode.{Mode}
 use Rattle.login_setup.specs.declared.setup.Mode.TheVariants.{Alone, Through}
 use Rattle.login_setup.specs.declared.setup.Party.TheVariants.{Peer, Pass, Server}
 use Rattle.login_setup.specs.declared.setup.Setup.{Setup}
-use Rattle.eap_world.specs.Run.{run_of}
 use Rattle.world_laws.specs.Agreement.{IsWhole}
 use Rattle.eap_world.specs.World.{WorldNow, run_after}
 use Rattle.eap_world.specs.Conversations.{front, is_new}
@@ -18,6 +17,7 @@ use Rattle.peer_machine.specs.PeerTable as peers
 use Rattle.server_machine.specs.ServerTable as servers
 use Rattle.smooth_laws.specs.Again.{AreNextInOrder, HasJustStarted, SucceedsAgain}
 use Rattle.smooth_laws.specs.Smooth.{AreInOrder, EndsCompatible, HasShortNames, IsLoggedIn, event_bound}
+use Rattle.world_laws.specs.Runs.{run_of}
 
 -- the settings with these nonces
 abbrev pub with_nonces : Setup → List ℕ → List ℕ → Setup

@@ -4,11 +4,11 @@ use Rattle.std.specs.Prelude.{◌≡◌, ℕ, ◌+◌, List, ◌++◌, length, m
 use Rattle.login_setup.specs.declared.event.Event.{Event}
 use Rattle.login_setup.specs.declared.event.Event.TheVariants as event
 use Rattle.login_setup.specs.declared.setup.Setup.{Setup}
-use Rattle.eap_world.specs.Run.{run_of}
 use Rattle.eap_world.specs.Sent.{Sent}
 use Rattle.eap_world.specs.World.{WorldNow, run_after}
 use Rattle.tag_book.specs.declared.book.Entry.{Entry}
 use Rattle.smooth_laws.specs.Again.{HasJustStarted}
+use Rattle.world_laws.specs.Runs.{run_of}
 
 -- an entry so many events later
 abbrev pub later : ℕ → Entry → Entry

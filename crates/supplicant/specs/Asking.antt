@@ -19,4 +19,4 @@ restarts shown peer octets =
 -- the peer that takes these octets: one that has begun with this nonce, or as it is
 abbrev pub asked : {M : Type 0} → (M → PeerShown) → PeerValue M → List ℕ → List ℕ → PeerNow
 asked shown peer octets nonce =
-    if restarts shown peer octets then initial_peer (setup_with_nonce peer.vars.setup nonce) else now_of shown peer
+    if restarts shown peer octets then initial_peer (setup_with_nonce peer.vars.setup nonce) (now_of shown peer).views else now_of shown peer

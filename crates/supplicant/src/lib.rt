@@ -5,7 +5,7 @@ ghost use Rattle.std.specs.Prelude.{◌≡◌, ◌↔◌, true, map, IfSome, IsS
 ghost use Rattle.login_setup.specs.Setup.{IsSoundPeer, HasKeys};
 ghost use Rattle.eap_packet.specs.Fault.{packet_of};
 ghost use Rattle.eap_method.specs.Outcomes.{entered, outcome_of};
-ghost use Rattle.eap_method.specs.Peer.{have_each, peer_kinds};
+ghost use Rattle.eap_method.specs.Peer.{have_each, peer_kinds, peer_views};
 ghost use Rattle.peer_machine.specs.Expanded.{peer_receives};
 ghost use Rattle.peer_machine.specs.PeerTable.{answer, now_of, initial_peer, peer_reports};
 ghost use Rattle.supplicant.specs.Asking.{asked, is_request};
@@ -36,7 +36,8 @@ impl<M: PeerMethod> Supplicant<M> {
     pub fn new(setup: PeerSetup, methods: Vec<M>) -> Option<Supplicant<M>>
         ensures accepted { IsSome result ↔ (IsSoundPeer setup × HasKeys setup
             × (have_each (peer_kinds (map M.peer_shown methods.items)) setup.methods ≡ true)) }
-        ensures initial { IfSome result (λ supplicant. now_of M.peer_shown supplicant.peer ≡ initial_peer setup) }
+        ensures initial { IfSome result (λ supplicant. now_of M.peer_shown supplicant.peer
+            ≡ initial_peer setup (peer_views setup.methods (map M.peer_shown methods.items))) }
     {
         if PeerMachine::takes(&setup, methods.as_slice()) {
             Some(Supplicant {

@@ -1,10 +1,10 @@
 -- What a machine has is what the object of its current method has.
 use Rattle.std.proofs.Common.{◌≡◌, ℕ, Option, Some, None, refl, sym}
+use Rattle.eap_method.specs.Peer as peers
 use Rattle.eap_method.specs.Peer.{PeerShown, PeerViews}
+use Rattle.eap_method.specs.Server as servers
 use Rattle.eap_method.specs.Server.{ServerShown, ServerViews}
 use Rattle.eap_method.specs.declared.values.Report.{Report}
-use Rattle.eap_method.proofs.PeerViews as peers
-use Rattle.eap_method.proofs.ServerViews as servers
 use Rattle.end_objects.specs.Objects.{peer_object_shown, server_object_shown}
 use Rattle.end_objects.specs.declared.objects.PeerObject.{PeerObject}
 use Rattle.end_objects.specs.declared.objects.ServerObject.{ServerObject}
@@ -20,12 +20,14 @@ nothing_stored None = refl
 nothing_stored (Some report) = refl
 
 peer_reported : (views : PeerViews) (selected : Option ℕ) → peer.selected_report views selected ≡ peers.reported (peer.selected_of views selected)
+unfolding peers.peer_report_of
 peer_reported views None = refl
-peer_reported views (Some kind) = peers.report_at kind views
+peer_reported views (Some kind) = refl
 
 server_reported : (views : ServerViews) (current : Option ℕ) → server.current_report views current ≡ servers.reported (server.current_of views current)
+unfolding servers.server_report_of
 server_reported views None = refl
-server_reported views (Some kind) = servers.report_at kind views
+server_reported views (Some kind) = refl
 
 pub of_peer : (m : PeerValue PeerObject) (seen : Option PeerShown) → seen ≡ selected_shown_of m
     → ((shown : PeerShown) → seen ≡ Some shown → peer.selected_view (peer.now_of peer_object_shown m) ≡ Some shown)

@@ -6,7 +6,7 @@ use Rattle.login_setup.specs.declared.setup.PeerSetup.{PeerSetup}
 use Rattle.eap_packet.specs.Packet.{request}
 use Rattle.eap_packet.specs.Fault.{code_of}
 use Rattle.eap_packet.specs.declared.state.State.{State}
-use Rattle.eap_packet.specs.declared.state.State.TheVariants as state
+use Rattle.eap_method.specs.Peer.{PeerViews}
 use Rattle.eap_method.specs.Plain.{plain_octets}
 use Rattle.eap_method.specs.Steps.{Step}
 use Rattle.peer_machine.specs.Expanded as peer_reading
@@ -119,9 +119,9 @@ module _ (m after : PeerValue PeerObject) (step : Step) where
   unfolding peer.peer_restart
   peer_restarted nonce is = peer_at _ step after is refl
 
-pub peer_created : (setup : PeerSetup) (m : PeerValue PeerObject) → peer.now_of peer_object_shown m ≡ peer.initial_peer setup
-    → peer_settled m.vars.state ≡ true
-peer_created setup m is = subst Peer (sym is) refl
+pub peer_created : (setup : PeerSetup) (views : PeerViews) (m : PeerValue PeerObject)
+    → peer.now_of peer_object_shown m ≡ peer.initial_peer setup views → peer_settled m.vars.state ≡ true
+peer_created setup views m is = subst Peer (sym is) refl
 
 selected : (now : ServerNow) (id kind : ℕ) (body : List ℕ) (entered : List State) (vars : ServerVariables) (desired : Option (List ℕ))
     → server_rows.Selects now id kind body entered vars desired → Server now → server_settled vars.state ≡ true

@@ -37,6 +37,7 @@ fn store_peer(end: &mut End, object: PeerObject, key: Secret)
 /// Makes the end the first of the peer's methods, alone, which has begun, and answers 0. Else it answers the number of
 /// the refusal, and the end stays as it was. It allocates no memory.
 #[unsafe(no_mangle)]
+#[tactic(auto, using(crate::proofs::Fresh::peer_is_fresh))]
 pub extern "C" fn tuv_peer_method_begin(end: &mut TuvEnd, settings: &Settings, nonce: &Nonce) -> u8
     ensures refused { IfSome (peer_refusal (settings_of settings.now)) (λ reason. result ≡ refusal_number reason) }
     ensures started { peer_refusal (settings_of settings.now) ≡ None → result ≡ begun }
@@ -122,7 +123,7 @@ fn store_server(end: &mut End, object: ServerObject, settings: &Settings)
 /// Makes the end the first of the server's methods, alone, which has begun and written its first Request, with this
 /// Identifier, and answers 0. Else it answers as `tuv_peer_method_begin`.
 #[unsafe(no_mangle)]
-#[tactic(auto, using(crate::proofs::Sides::side_has_suites))]
+#[tactic(auto, using(crate::proofs::Sides::side_has_suites, crate::proofs::Fresh::server_is_fresh, eap_method::proofs::ServerViews::begun_initiates))]
 pub extern "C" fn tuv_server_method_begin(
     end: &mut TuvEnd,
     settings: &Settings,

@@ -1,12 +1,13 @@
 //! The peer of RFC 4137 section 4.
 
 ghost use Rattle.std.specs.Prelude.{◌≡◌, true, false, None, IfSome};
+ghost use Rattle.eap_method.specs.BothPeers.{both_of};
 ghost use Rattle.eap_method.specs.Steps.{is_end};
 ghost use Rattle.peer_machine.specs.PeerTable.{peer_idle, peer_alt_accept, peer_alt_reject, initial_peer};
 ghost use Rattle.peer_machine.specs.PeerTable as peer;
 ghost use Rattle.end_objects.specs.Objects.{peer_object_shown};
 ghost use Rattle.end_objects.specs.Refusals.{peer_refusal};
-ghost use Rattle.end_objects.specs.Settings.{settings_of, peer_setup_of};
+ghost use Rattle.end_objects.specs.Settings.{settings_of, kinds_of, peer_setup_of};
 ghost use Rattle.tuvaddri_c.specs.Answers.{begun, no_memory, refusal_number};
 ghost use Rattle.tuvaddri_c.specs.Ends.{IfPeer, AsPeer, is_running_peer, can_restart};
 ghost use Rattle.tuvaddri_c.specs.declared.session.End.TheVariants as ends;
@@ -33,7 +34,7 @@ fn store_machine(end: &mut End, machine: PeerMachine<PeerObject>)
 /// Makes the end a peer with these settings, and answers 0. Else it answers the number of the refusal, or 8 for want
 /// of memory, and the end stays as it was.
 #[unsafe(no_mangle)]
-#[tactic(auto, using(crate::proofs::TwoRecords::peer_created_with, crate::proofs::Stays::peer_created), unfolding(end_objects::specs::Settings::peer_setup_of))]
+#[tactic(auto, using(crate::proofs::TwoRecords::peer_started_with, crate::proofs::TwoRecords::peer_created_with, crate::proofs::Stays::peer_created), unfolding(end_objects::specs::Settings::peer_setup_of))]
 pub extern "C" fn tuv_peer_begin(
     alloc: Global,
     end: &mut TuvEnd,
@@ -43,7 +44,8 @@ pub extern "C" fn tuv_peer_begin(
     ensures refused { IfSome (peer_refusal (settings_of settings.now)) (λ reason. result ≡ refusal_number reason) }
     ensures started { peer_refusal (settings_of settings.now) ≡ None → (result ≡ no_memory → ⊥) → result ≡ begun }
     ensures initial { result ≡ begun → AsPeer end.new.value.end (λ n.
-        peer.now_of peer_object_shown n ≡ initial_peer (peer_setup_of (settings_of settings.now) nonce.now)) }
+        peer.now_of peer_object_shown n ≡ initial_peer (peer_setup_of (settings_of settings.now) nonce.now)
+        (both_of (kinds_of (settings_of settings.now)))) }
     ensures objects { result ≡ begun → can_restart end.new.value.end ≡ true }
     ensures settled { result ≡ begun → is_settled end.new.value.end ≡ true }
     ensures sent { result ≡ begun → end.new.value.sent ≡ none_sent }

@@ -1,6 +1,7 @@
 //! The stand-alone server of RFC 4137 section 5, and the backend of section 6.
 
 ghost use Rattle.std.specs.Prelude.{◌≡◌, ◌≤◌, true, false, map, None, IfSome};
+ghost use Rattle.eap_method.specs.BothServers.{both_of};
 ghost use Rattle.eap_method.specs.Peer.{have_each};
 ghost use Rattle.eap_method.specs.Server.{server_kinds};
 ghost use Rattle.server_machine.specs.ServerTable.{server_start, server_timeout, initial_server, initial_backend, is_started, is_backend, has_timer};
@@ -30,7 +31,7 @@ use server_machine::{Backend, Role, ServerMachine};
 use std::alloc::Global;
 
 /// Makes the end a stand-alone server with these settings. (It is built where it stays, and nothing of it is copied.)
-#[tactic(auto, using(crate::proofs::TwoRecords::server_started_with, crate::proofs::TwoRecords::server_preserved, crate::proofs::Stays::server_created), unfolding(end_objects::specs::Settings::server_setup_of))]
+#[tactic(auto, using(crate::proofs::TwoRecords::server_preserved, crate::proofs::Stays::server_created), unfolding(end_objects::specs::Settings::server_setup_of))]
 fn store_machine(
     end: &mut End,
     settings: &Settings,
@@ -44,7 +45,8 @@ fn store_machine(
     requires few { max_retrans ≤ 10 }
     requires objects { have_each (server_kinds (map server_object_shown methods.items)) (kinds_of (settings_of settings.now)) ≡ true }
     ensures initial { AsServer end.new (λ n. server.now_of server_object_shown n
-        ≡ initial_server StandAlone (server_setup_of (settings_of settings.now) nonce.now) first_id max_retrans) }
+        ≡ initial_server StandAlone (server_setup_of (settings_of settings.now) nonce.now)
+        (both_of (kinds_of (settings_of settings.now))) first_id max_retrans) }
     ensures objects { can_restart end.new ≡ true }
     ensures settled { is_settled end.new ≡ true }
 {
@@ -79,7 +81,8 @@ pub extern "C" fn tuv_server_begin(
     ensures refused { IfSome (stand_alone_refusal (settings_of settings.now) max_retrans) (λ reason. result ≡ refusal_number reason) }
     ensures started { stand_alone_refusal (settings_of settings.now) max_retrans ≡ None → (result ≡ no_memory → ⊥) → result ≡ begun }
     ensures initial { result ≡ begun → AsServer end.new.value.end (λ n. server.now_of server_object_shown n
-        ≡ initial_server StandAlone (server_setup_of (settings_of settings.now) nonce.now) first_id max_retrans) }
+        ≡ initial_server StandAlone (server_setup_of (settings_of settings.now) nonce.now)
+        (both_of (kinds_of (settings_of settings.now))) first_id max_retrans) }
     ensures objects { result ≡ begun → can_restart end.new.value.end ≡ true }
     ensures settled { result ≡ begun → is_settled end.new.value.end ≡ true }
     ensures sent { result ≡ begun → end.new.value.sent ≡ none_sent }
@@ -100,12 +103,13 @@ pub extern "C" fn tuv_server_begin(
 }
 
 /// Makes the end a backend with these settings, likewise.
-#[tactic(auto, using(crate::proofs::TwoRecords::server_started_with, crate::proofs::TwoRecords::server_preserved, crate::proofs::Stays::server_created), unfolding(end_objects::specs::Settings::server_setup_of))]
+#[tactic(auto, using(crate::proofs::TwoRecords::server_preserved, crate::proofs::Stays::server_created), unfolding(end_objects::specs::Settings::server_setup_of))]
 fn store_backend(end: &mut End, settings: &Settings, nonce: &Nonce, methods: Vec<ServerObject>)
     requires accepted { server_refusal (settings_of settings.now) ≡ None }
     requires other { IsSoundOther (settings_of settings.now) }
     requires objects { have_each (server_kinds (map server_object_shown methods.items)) (kinds_of (settings_of settings.now)) ≡ true }
-    ensures initial { AsBackend end.new (λ n. server.now_of server_object_shown n ≡ initial_backend (server_setup_of (settings_of settings.now) nonce.now)) }
+    ensures initial { AsBackend end.new (λ n. server.now_of server_object_shown n
+        ≡ initial_backend (server_setup_of (settings_of settings.now) nonce.now) (both_of (kinds_of (settings_of settings.now)))) }
     ensures objects { can_restart end.new ≡ true }
     ensures settled { is_settled end.new ≡ true }
 {
@@ -130,7 +134,7 @@ pub extern "C" fn tuv_backend_begin(
     ensures refused { IfSome (server_refusal (settings_of settings.now)) (λ reason. result ≡ refusal_number reason) }
     ensures started { server_refusal (settings_of settings.now) ≡ None → (result ≡ no_memory → ⊥) → result ≡ begun }
     ensures initial { result ≡ begun → AsBackend end.new.value.end (λ n. server.now_of server_object_shown n
-        ≡ initial_backend (server_setup_of (settings_of settings.now) nonce.now)) }
+        ≡ initial_backend (server_setup_of (settings_of settings.now) nonce.now) (both_of (kinds_of (settings_of settings.now)))) }
     ensures objects { result ≡ begun → can_restart end.new.value.end ≡ true }
     ensures settled { result ≡ begun → is_settled end.new.value.end ≡ true }
     ensures sent { result ≡ begun → end.new.value.sent ≡ none_sent }

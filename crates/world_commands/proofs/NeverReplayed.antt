@@ -6,13 +6,12 @@ use Rattle.octet_io.specs.Lines.{Lines, ended, too_long, too_much, line, lines}
 use Rattle.login_setup.specs.declared.event.Event.{Event}
 use Rattle.login_setup.specs.declared.setup.Later.{Later}
 use Rattle.login_setup.specs.declared.setup.Setup.{Setup}
-use Rattle.eap_world.specs.Run.{run_of}
 use Rattle.world_laws.specs.Agreement.{AgreesWhereHonest, AreApart}
 use Rattle.tag_book.specs.Book.{tags_verdict}
 use Rattle.eap_world.specs.Judgement.{verdict_of}
 use Rattle.world_laws.proofs.StartsOnce.{starts_once}
 use Rattle.world_laws.proofs.Versions.{version_preserved}
-use Rattle.eap_world.specs.World.{WorldNow, WorldOutcome, outcomes_after, pass_state, result_octets, initial_world, world_start}
+use Rattle.eap_world.specs.World.{WorldNow, WorldOutcome, outcomes_after, pass_state, result_octets, world_start}
 use Rattle.scenario_text.specs.Reading.{Reading, ReadLine, read_line, finish_of}
 use Rattle.scenario_text.specs.Items.{Item}
 use Rattle.scenario_text.specs.Items as item
@@ -32,6 +31,7 @@ use Rattle.world_commands.specs.Replay.{max_events}
 use Rattle.world_commands.specs.Scenario.{Outcome, whole, refused, Scenario, stops, adds, is_event, with_line, events_after, read_after, scenario_from, scenario_of}
 use Rattle.world_commands.specs.Scenario.{too_much_at, finish_outcome, events_text, setup_answer, trace_header, replay_answer}
 use Rattle.world_commands.proofs.Headline.{headline, valid_setup}
+use Rattle.world_laws.specs.Runs.{initial_world, run_of}
 
 -- an answer with status 0 has not both lines
 pub record Never (a : Answer) : Type 0 where

@@ -3,7 +3,7 @@ use Rattle.std.proofs.Common.{◌≡◌, ℕ, ◌+◌, List, [], Bool, true, fal
 use Rattle.std.specs.Prelude.{codes, is_some}
 use Rattle.octet_io.specs.Lines.{Lines, ended, too_long, too_much, line}
 use Rattle.login_setup.specs.declared.event.Event.{Event}
-use Rattle.eap_world.specs.World.{WorldNow, initial_world, world_start, world_step, run_after, outcomes_after}
+use Rattle.eap_world.specs.World.{WorldNow, world_start, world_step, run_after, outcomes_after}
 use Rattle.world_commands.proofs.Runs.{world_step_events}
 use Rattle.scenario_text.specs.Reading.{Reading, ReadLine, line_of, with_setting, settings_of_version, read_line, finish_of}
 use Rattle.text_tables.specs.declared.fault.LineFault.{LineFault}
@@ -18,6 +18,7 @@ use Rattle.command_driver.specs.Commands.{LineResult, refuses, after_ruling, lac
 use Rattle.world_commands.specs.Replay.{ReplayNow, max_events, proceeds_with, replay_step, replay_closing, replay_lacks, reading_lacks, reading_result, closing_by}
 use Rattle.world_commands.specs.Scenario.{Scenario, stops, too_much_at, finish_outcome, adds, with_line, events_after, read_after, scenario_from, run_answer, scenario_answer}
 use Rattle.command_driver.specs.declared.status.Status.TheVariants as status
+use Rattle.world_laws.specs.Runs.{initial_world}
 
 -- the answer of the command to lines
 abbrev answers : ℕ → ReplayNow → Lines → Answer

@@ -3,11 +3,11 @@ use Rattle.std.proofs.Common.{◌≡◌, ◌≤◌, ℕ, ◌+◌, List, [], ◌�
 use Rattle.login_setup.specs.declared.event.Event.{Event}
 use Rattle.login_setup.specs.declared.setup.Port.{Port}
 use Rattle.login_setup.specs.declared.setup.Setup.{Setup}
-use Rattle.eap_world.specs.Run.{run_of}
 use Rattle.eap_world.specs.World.{Action, Called, Skipped, WorldNow, WorldOutcome, counts_after, sent_to, sent_by, act_of_call, start_call, act}
-use Rattle.eap_world.specs.World.{initial_world, world_start, world_step, world_outcome, run_after}
+use Rattle.eap_world.specs.World.{world_start, world_step, world_outcome, run_after}
 use Rattle.eap_world.specs.declared.told.Counts.{Counts}
 use Rattle.eap_world.specs.declared.told.Brief.{Brief}
+use Rattle.world_laws.specs.Runs.{initial_world, run_of}
 
 counted-events : (c : Counts) (a : Action) → (counts_after c a).events ≡ c.events + 1
 counted-events c (Skipped skip) = refl

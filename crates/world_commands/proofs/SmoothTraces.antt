@@ -5,10 +5,9 @@ use Rattle.login_setup.specs.declared.event.Event.{Event}
 use Rattle.login_setup.specs.declared.setup.Setup.{Setup}
 use Rattle.octet_io.specs.Lines.{lines}
 use Rattle.eap_packet.specs.declared.state.State.{State}
-use Rattle.eap_world.specs.Run.{run_of}
 use Rattle.tag_book.specs.Book.{tags_verdict}
 use Rattle.eap_world.specs.Judgement.{verdict_of}
-use Rattle.eap_world.specs.World.{WorldNow, pass_state, initial_world, world_start}
+use Rattle.eap_world.specs.World.{WorldNow, pass_state, world_start}
 use Rattle.tag_book.specs.declared.book.TagsVerdict.{TagsVerdict}
 use Rattle.tag_book.specs.declared.book.TagsVerdict.TheVariants.{Honest}
 use Rattle.eap_world.specs.declared.told.Counts.{Counts}
@@ -27,6 +26,7 @@ use Rattle.world_commands.specs.Scenario.{Scenario, replay_answer, whole, events
 use Rattle.world_commands.specs.SmoothTraces.{ShowsAgreement, SmoothTracesAgree, told_of}
 use Rattle.world_commands.proofs.Headline.{setup_valid, whole_if_valid}
 use Rattle.world_commands.proofs.Inputs.{inputs_are_scenarios}
+use Rattle.world_laws.specs.Runs.{initial_world, run_of}
 
 -- the lines of the counts, but for the last LF
 front_of_counts : Counts → List ℕ

@@ -5,7 +5,6 @@ use Rattle.std.specs.Prelude.{◌≡◌, ◌≤◌, ◌⊎◌, ℕ, ◌+◌, Lis
 use Rattle.login_setup.specs.declared.event.Event.{Event}
 use Rattle.login_setup.specs.declared.setup.Mode.TheVariants.{Through}
 use Rattle.login_setup.specs.declared.setup.Setup.{Setup}
-use Rattle.eap_world.specs.Run.{run_of}
 use Rattle.world_laws.specs.Agreement.{AgreesWhereHonest, TheirsWhereHonest, HasFewTags}
 use Rattle.world_laws.specs.Alone.{ImpliedByOne}
 use Rattle.tag_book.specs.Book.{tags_verdict, tags_verdict_either}
@@ -22,6 +21,7 @@ use Rattle.answer_text.specs.Lines.{HasLine}
 use Rattle.world_commands.specs.Scenario.{scenario_of}
 use Rattle.command_driver.specs.declared.status.Status.{Status}
 use Rattle.command_driver.specs.declared.status.Status.TheVariants.{Done}
+use Rattle.world_laws.specs.Runs.{run_of}
 
 -- after the events: two ends that both succeed agree, and what they report is their own, over tags and nonces as the
 -- laws require; so do they over tags that came back to their maker, if the peer has succeeded by EAP-PSK; what one

@@ -3,9 +3,11 @@ use Rattle.std.specs.Prelude.{◌≡◌, ℕ, List, [], Bool, true, false, nat_l
 use Rattle.login_setup.specs.declared.event.Event.{Event}
 use Rattle.login_setup.specs.Setup.{are_kinds}
 use Rattle.login_setup.specs.declared.setup.Setup.{Setup}
+use Rattle.eap_method.specs.BothPeers as both_peers
+use Rattle.eap_method.specs.BothServers as both_servers
 use Rattle.eap_method.specs.Peer.{PeerShown, peer_kinds, have_each}
 use Rattle.eap_method.specs.Server.{ServerShown, server_kinds}
-use Rattle.eap_world.specs.World.{HasObjects, WorldNow, now_of, initial_world, world_start, world_step}
+use Rattle.eap_world.specs.World.{HasObjects, WorldNow, now_of, world_start, world_step}
 use Rattle.eap_method.specs.declared.values.Methods.{Methods}
 use Rattle.text_tables.specs.Words.{fault_word}
 use Rattle.scenario_text.specs.Reading.{Reading, ReadLine, read_line, finish_of}
@@ -16,6 +18,7 @@ use Rattle.trace_text.specs.Run.{start_line_text, outcome_text, end_text}
 use Rattle.command_driver.specs.Commands.{LineResult, Closing, goes, refuses, ends, misses}
 use Rattle.world_commands.specs.declared.replay.Replay.{Replay}
 use Rattle.command_driver.specs.declared.status.Status.TheVariants as status
+use Rattle.world_laws.specs.Runs.{initial_world}
 
 -- the events of a scenario are at most 10,000
 abbrev pub max_events : ℕ
@@ -33,9 +36,16 @@ module _ {P S : Type 0} (peer_shown : P → PeerShown) (server_shown : S → Ser
   seen_of c = record { names = c.names; reader = c.reader; world = option_map (now_of peer_shown server_shown) c.world }
 
   -- each end has an object of each method that settings can name
+  pub record HasEach (methods : Methods P S) : Type 0 where
+    pub peer : (kinds : List ℕ) → IsTrue (are_kinds kinds) → have_each (peer_kinds (map peer_shown methods.peer.items)) kinds ≡ true
+    pub server : (kinds : List ℕ) → IsTrue (are_kinds kinds) → have_each (server_kinds (map server_shown methods.server.items)) kinds ≡ true
+
+  -- and none of another method than EAP-PSK and EAP-GPSK
   pub record HasBoth (methods : Methods P S) : Type 0 where
     pub peer : (kinds : List ℕ) → IsTrue (are_kinds kinds) → have_each (peer_kinds (map peer_shown methods.peer.items)) kinds ≡ true
     pub server : (kinds : List ℕ) → IsTrue (are_kinds kinds) → have_each (server_kinds (map server_shown methods.server.items)) kinds ≡ true
+    pub both_peers : both_peers.are_both (map peer_shown methods.peer.items) ≡ true
+    pub both_servers : both_servers.are_both (map server_shown methods.server.items) ≡ true
 
   abbrev pub AreThere : Option (Methods P S) → Type 0
   AreThere None = ⊥

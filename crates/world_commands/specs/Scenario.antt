@@ -4,7 +4,7 @@ use Rattle.std.specs.List.{flat_map}
 use Rattle.octet_io.specs.Lines.{Lines, ended, too_long, too_much, line, lines}
 use Rattle.login_setup.specs.declared.event.Event.{Event}
 use Rattle.login_setup.specs.declared.setup.Setup.{Setup}
-use Rattle.eap_world.specs.World.{WorldNow, initial_world, world_start, run_after, outcomes_after}
+use Rattle.eap_world.specs.World.{WorldNow, world_start, run_after, outcomes_after}
 use Rattle.text_tables.specs.Words.{fault_word}
 use Rattle.scenario_text.specs.Reading.{Reading, ReadLine, no_settings, read_line, finish_of}
 use Rattle.text_tables.specs.declared.fault.LineFault.{LineFault}
@@ -18,6 +18,7 @@ use Rattle.command_driver.specs.Responding.{Asked, reading, only_at}
 use Rattle.world_commands.specs.Replay.{max_events}
 use Rattle.command_driver.specs.declared.status.Status.{Status}
 use Rattle.command_driver.specs.declared.status.Status.TheVariants as status
+use Rattle.world_laws.specs.Runs.{initial_world}
 
 -- a scenario is whole, or refused at a line with a word and a status
 pub data Outcome : Type 0 where

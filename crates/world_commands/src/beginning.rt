@@ -3,7 +3,8 @@
 ghost use Rattle.std.specs.Prelude.{◌≡◌};
 ghost use Rattle.scenario_text.specs.Valid.{IsValidSetup};
 ghost use Rattle.world_commands.specs.Replay.{HasBoth};
-ghost use Rattle.eap_world.specs.World.{HasObjects, now_of, initial_world};
+ghost use Rattle.eap_world.specs.World.{HasObjects, now_of};
+ghost use Rattle.world_laws.specs.Runs.{initial_world};
 
 use eap_method::{PeerMethod, ServerMethod};
 use eap_world::{Methods, World};

@@ -9,7 +9,6 @@ use Rattle.peer_machine.specs.PeerTable as peers
 use Rattle.peer_machine.specs.PeerTable.{PeerNow}
 use Rattle.server_machine.specs.ServerTable as servers
 use Rattle.server_machine.specs.ServerTable.{ServerNow, server_reports}
-use Rattle.eap_world.specs.Run.{run_of}
 use Rattle.world_laws.specs.Agreement.{IsWhole}
 use Rattle.world_laws.specs.Alone.{ImpliedByOne, OneEndImplies}
 use Rattle.world_laws.specs.ByMethod.{peer_login}
@@ -33,12 +32,13 @@ use Rattle.world_laws.proofs.Resting.{same_report}
 use Rattle.world_laws.proofs.ServerPreserves.{server_few}
 use Rattle.tag_book.specs.Book.{first_broken, tags_verdict}
 use Rattle.eap_world.specs.Judgement.{is_success}
-use Rattle.eap_world.specs.World.{WorldNow, initial_world, world_start}
+use Rattle.eap_world.specs.World.{WorldNow, world_start}
 use Rattle.tag_book.specs.declared.book.End.TheVariants as end
 use Rattle.tag_book.specs.declared.book.Entry.{Entry}
 use Rattle.tag_book.specs.declared.book.RecordOwner.TheVariants.{Other}
 use Rattle.tag_book.specs.declared.book.TagsVerdict.TheVariants.{Honest}
 use Rattle.tag_book.specs.declared.book.Use.TheVariants.{Accepted, Made}
+use Rattle.world_laws.specs.Runs.{initial_world, run_of}
 
 module _ (setup : Setup) (last : WorldNow) (ps : List OfPeer) (ss : List OfServer) (all : AllKnown setup last ps ss) where
   peers_agree : tags_verdict last.book ≡ Honest → last.conversations.fresh ≡ true → (s : OfServer) → IsOneOf s ss → is_success s.now.vars.state ≡ true

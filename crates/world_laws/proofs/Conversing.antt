@@ -24,14 +24,13 @@ use Rattle.server_machine.specs.Inputs as server_inputs
 use Rattle.server_machine.specs.Inputs.{ServerInput, server_accepts}
 use Rattle.server_machine.specs.ServerTable as servers
 use Rattle.server_machine.specs.ServerTable.{ServerNow, ServerAnswer, answer, is_backend, made_again, server_restart, server_start}
-use Rattle.eap_world.specs.Run.{run_of}
 use Rattle.world_laws.specs.Agreement.{IsWhole}
 use Rattle.eap_world.specs.Conversations.{Conversations, begins, beginning, front, hears, since_from, since_of, waiting}
 use Rattle.world_laws.specs.ByMethod.{peer_foreign, server_foreign}
-use Rattle.world_laws.specs.PeerInvariant.{PeerInvariant}
+use Rattle.world_laws.specs.PeerInvariant.{PeerHasBoth, PeerInvariant}
 use Rattle.world_laws.specs.Records.{tags_by}
-use Rattle.world_laws.specs.ServerInvariant.{ServerInvariant}
-use Rattle.eap_world.specs.World.{Acted, WorldNow, WorldOutcome, booked_by, act_of_call, delivered_in_call, pass_octets, peer_octets, server_octets, start_call, to_pass, to_peer, to_server, initial_world, world_start}
+use Rattle.world_laws.specs.ServerInvariant.{ServerHasBoth, ServerInvariant}
+use Rattle.eap_world.specs.World.{Acted, WorldNow, WorldOutcome, booked_by, act_of_call, delivered_in_call, pass_octets, peer_octets, server_octets, start_call, to_pass, to_peer, to_server, world_start}
 use Rattle.tag_book.specs.declared.book.End.TheVariants as end
 use Rattle.tag_book.specs.declared.book.Use.TheVariants.{Accepted, Made}
 use Rattle.eap_world.specs.declared.conversations.Waiting.{Waiting}
@@ -48,6 +47,7 @@ use Rattle.world_laws.proofs.ServerPreserves.{server_initiates, server_preserves
 use Rattle.world_laws.proofs.Occurrence.{occurs_if}
 use Rattle.world_laws.proofs.TagsOfEnds.{grows, rests}
 use Rattle.world_laws.specs.TagOwners.{PeerTagOwner, ServerTagOwner}
+use Rattle.world_laws.specs.Runs.{initial_world, run_of}
 
 -- ---- what a delivery does to the nonces that are left
 
@@ -274,10 +274,10 @@ module _ (setup : Setup) where
 
   -- ---- an end begins anew
 
-  peer_is_anew : (old nonce : List ℕ) (now : PeerNow) → now.vars.setup ≡ peers.setup_with_nonce setup.peer old
+  peer_is_anew : (old nonce : List ℕ) (now : PeerNow) → now.vars.setup ≡ peers.setup_with_nonce setup.peer old → PeerHasBoth setup.peer.methods now.views
       → PeerIs setup.peer nonce (peer_accepts now (peer_inputs.restart nonce)).after None [] []
   unfolding peer_restart
-  peer_is_anew old nonce now own = record { stands = peer_invariant_anew (peers.setup_with_nonce setup.peer old) now nonce own; held_is = refl }
+  peer_is_anew old nonce now own both = record { stands = peer_invariant_anew (peers.setup_with_nonce setup.peer old) now nonce own both; held_is = refl }
 
   peer_anew : (w : WorldNow) (one : Waiting) (left : List Waiting) → w.conversations.peer_left ≡ one ∷ left → BothConverse setup w
       → (v : WorldNow) → v.parties.peer ≡ (peer_accepts w.parties.peer (peer_inputs.restart one.nonce)).after → v.parties.server ≡ w.parties.server → v.book ≡ w.book
@@ -288,7 +288,7 @@ module _ (setup : Setup) where
       let b = beginning (w.counts.events + 1) end.Peer one.nonce in
       let sized : LeftSized (one ∷ left) = subst LeftSized is_left h.sized.peer in
       let after = (peer_accepts w.parties.peer (peer_inputs.restart one.nonce)).after in
-      let is = peer_is_anew h.peer_nonce one.nonce w.parties.peer h.peer.now.stands.own in
+      let is = peer_is_anew h.peer_nonce one.nonce w.parties.peer h.peer.now.stands.own h.peer.now.stands.both in
       record {
         peer_nonce = one.nonce;
         server_nonce = h.server_nonce;
@@ -337,10 +337,10 @@ module _ (setup : Setup) where
       cond_both (is_backend now.vars) (answer (enters (state.Initialize ∷ []) no_tags) (made_again now nonce)) (server_start (made_again now nonce)) SatisfiesNone
       (λ _. record { none = refl }) (λ _. record { none = refl })
 
-  server_is_anew : (old nonce : List ℕ) (now : ServerNow) → now.vars.setup ≡ servers.setup_with_nonce setup.server old
+  server_is_anew : (old nonce : List ℕ) (now : ServerNow) → now.vars.setup ≡ servers.setup_with_nonce setup.server old → ServerHasBoth setup.server.methods now.views
       → ServerIs setup.server nonce (server_accepts now (server_inputs.restart nonce)).after None [] []
-  server_is_anew old nonce now own =
-      record { stands = server_invariant_anew (servers.setup_with_nonce setup.server old) now nonce own; held_is = (satisfies_none now nonce).none }
+  server_is_anew old nonce now own both =
+      record { stands = server_invariant_anew (servers.setup_with_nonce setup.server old) now nonce own both; held_is = (satisfies_none now nonce).none }
 
   server_anew : (w : WorldNow) (one : Waiting) (left : List Waiting) → w.conversations.server_left ≡ one ∷ left → BothConverse setup w
       → (v : WorldNow) → v.parties.server ≡ (server_accepts w.parties.server (server_inputs.restart one.nonce)).after
@@ -352,7 +352,7 @@ module _ (setup : Setup) where
       let b = beginning (w.counts.events + 1) end.Server one.nonce in
       let sized : LeftSized (one ∷ left) = subst LeftSized is_left h.sized.server in
       let after = (server_accepts w.parties.server (server_inputs.restart one.nonce)).after in
-      let is = server_is_anew h.server_nonce one.nonce w.parties.server h.server.now.stands.own in
+      let is = server_is_anew h.server_nonce one.nonce w.parties.server h.server.now.stands.own h.server.now.stands.both in
       record {
         peer_nonce = h.peer_nonce;
         server_nonce = one.nonce;

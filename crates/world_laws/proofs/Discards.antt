@@ -20,10 +20,11 @@ use Rattle.pass_through.specs.Inputs.{pass_accepts}
 use Rattle.pass_through.proofs.Carrying as pass_discards
 use Rattle.eap_world.specs.Conversations.{Conversations}
 use Rattle.world_laws.specs.Laws.{HasTracedReports, PreservesBothEnds, DiscardsChangeNothing, ReportsAreTraced}
-use Rattle.eap_world.specs.World.{Call, Called, CallResult, Parties, WorldNow, WorldOutcome, act_with, booked_of, act_of_call, did_by, did_pass, end_of, first_report, has_reported, reported_after, held_by, is_delivery, named_by, report_of, sent_to, start_call, to_pass, to_peer, to_server, initial_world, world_start, world_step}
+use Rattle.eap_world.specs.World.{Call, Called, CallResult, Parties, WorldNow, WorldOutcome, act_with, booked_of, act_of_call, did_by, did_pass, end_of, first_report, has_reported, reported_after, held_by, is_delivery, named_by, report_of, sent_to, start_call, to_pass, to_peer, to_server, world_start, world_step}
 use Rattle.tag_book.specs.declared.book.End.{End}
 use Rattle.eap_world.specs.declared.world.HasReported.{HasReported}
 use Rattle.world_laws.proofs.Acting.{Steps, skips, calls, peer_restarts, server_restarts, counted_acted, run_preserves, step_steps}
+use Rattle.world_laws.specs.Runs.{initial_world}
 
 -- a report that was told of isn't told of again
 implies_once : (was : Bool) (of : Party) (report : Option Report) → (IsSome report → was ≡ true) → first_report was of report ≡ None

@@ -18,6 +18,7 @@ use Rattle.eap_packet.specs.Fault.{code_of, packet_of}
 use Rattle.eap_packet.specs.Packet.{response}
 use Rattle.eap_packet.specs.declared.state.State.{State}
 use Rattle.login_policy.specs.Policy.{next_kind}
+use Rattle.world_laws.specs.ServerInvariant.{ServerHasBoth}
 use Rattle.eap_method.specs.Server.{Offer, ServerViews, side_of}
 use Rattle.eap_method.specs.declared.values.ServerSide.{ServerSide}
 use Rattle.server_machine.specs.Expanded.{discards_bad, response_octets, wraps_sent}
@@ -33,10 +34,9 @@ use Rattle.server_machine.proofs.Proposed.{order_is_kind}
 use Rattle.server_machine.proofs.ServerRows.{server_answers_are_rows}
 use Rattle.tag_book.specs.declared.book.End.TheVariants as end
 use Rattle.eap_world.specs.Conversations.{Conversations, beginning, initiated_by, peer_initiates}
-use Rattle.eap_world.specs.Run.{run_of}
 use Rattle.eap_world.specs.Sent.{Sent, packet_numbered}
 use Rattle.eap_world.specs.declared.conversations.Waiting.{Waiting}
-use Rattle.eap_world.specs.World.{Call, WorldNow, WorldOutcome, act_of_call, call_at, call_octets, call_of, call_with, delivered_in_call, initial_world, timer_call, run_after, start_call, to_pass, to_peer, to_server, world_start, world_step}
+use Rattle.eap_world.specs.World.{Call, WorldNow, WorldOutcome, act_of_call, call_at, call_octets, call_of, call_with, delivered_in_call, timer_call, run_after, start_call, to_pass, to_peer, to_server, world_start, world_step}
 use Rattle.world_laws.specs.Agreement.{IsWhole}
 use Rattle.world_laws.specs.Downgrade.{DowngradesNeedNaks, IsPassedOver, TakesNak, is_nak, is_nak_state}
 use Rattle.world_laws.specs.SingleSteps.{delivered_in}
@@ -47,6 +47,7 @@ use Rattle.world_laws.proofs.Few.{started_more}
 use Rattle.world_laws.proofs.NakAnswers.{naks_refuse, read_nak, response_nak}
 use Rattle.world_laws.proofs.SingleSteps.{StepOf, is_called, is_skipped, step_of}
 use Rattle.world_laws.proofs.ServerByMethod.{OfferOf, by_gpsk, by_none, by_psk, offer_of}
+use Rattle.world_laws.specs.Runs.{initial_world, run_of}
 
 -- ---- what each answer of the server does to its method
 
@@ -77,7 +78,7 @@ offered_kind own nonce kind id views _ (by_gpsk same) packet e is = omega (arith
 offered_kind own nonce kind id views _ by_none packet e is = cc e
 
 -- a server that has not started has no method
-module _ (now : ServerNow) (untouched : is_started now.vars ≡ false → now.vars.current ≡ None) where
+module _ {order : List ℕ} (now : ServerNow) (both : ServerHasBoth order now.views) (untouched : is_started now.vars ≡ false → now.vars.current ≡ None) where
   unstarted : awaits_first now.vars ≡ true → NoMethod now.vars
   unstarted awaited kind e =
       let begun = (and_parts (is_backend now.vars) (not (is_started now.vars)) awaited).1 in
@@ -133,7 +134,7 @@ module _ (now : ServerNow) (untouched : is_started now.vars ≡ false → now.va
   row_offers _ _ (rows.proposes bytes id kind body entered vars desired next packet views heard selects next_is) =
       selected bytes id kind body heard.is_packet entered vars desired next _ _ selects refl next_is.is_next refl refl refl
       (offered_kind (side_of vars.setup) vars.setup.nonce next (next_id vars) now.views _
-      (offer_of (side_of vars.setup) vars.setup.nonce next (next_id vars) now.views) packet (ap (λ (offer : Offer). offer.packet) next_is.is_offer))
+      (offer_of (side_of vars.setup) vars.setup.nonce next (next_id vars) now.views both) packet (ap (λ (offer : Offer). offer.packet) next_is.is_offer))
   row_offers _ _ (rows.proposes_without bytes id kind body entered vars desired next views heard selects next_is) =
       fails bytes id kind body heard.is_packet entered vars desired _ _ selects refl refl refl refl
   row_offers _ _ (rows.proposes_none bytes id kind body entered vars desired heard selects none) =
@@ -262,7 +263,7 @@ module _ (setup : Setup) (w : WorldNow) (so : InvariantSoFar setup w) (e : Event
       → out.after.parties.server ≡ (server_accepts w.parties.server input).after → out.told.party ≡ Some party.Server
       → out.told.path ≡ (server_accepts w.parties.server input).step.path → Goes w e out
   server_goes input out is_call same after by path = on same (λ was.
-      elim (goes_on w.parties.server input (server_accepts w.parties.server input) (server_offers w.parties.server untouched input) was) [
+      elim (goes_on w.parties.server input (server_accepts w.parties.server input) (server_offers w.parties.server so.both.server_invariant.both untouched input) was) [
         | inl still ↦ inl (subst (λ (now : ServerNow). Unrefused now.vars) (sym after) still)
         | inr t ↦ inr (
           by,

@@ -198,7 +198,7 @@ module _ (setup : Setup) where
   peer_steps w _ h (peer_restarts one left next) =
       let now = w.parties.peer in
       let after = (peer_accepts now (peer_inputs.restart one.nonce)).after in
-      let stands = peer_invariant_anew (peers.setup_with_nonce setup.peer h.peer_nonce) now one.nonce h.peer.now.stands.own in
+      let stands = peer_invariant_anew (peers.setup_with_nonce setup.peer h.peer_nonce) now one.nonce h.peer.now.stands.own h.peer.now.stands.both in
       let nonce : peer_nonce_of after ≡ one.nonce = ap (λ (s : PeerSetup). s.nonce) stands.own in
       let sized : LeftSized (one ∷ left) = subst LeftSized next h.sized.peer in
       let more = own end.Peer w (after_peer_restart w one left) (beginning (w.counts.events + 1) end.Peer one.nonce) refl refl in
@@ -283,7 +283,7 @@ module _ (setup : Setup) where
   server_steps w _ h (server_restarts one left next) =
       let now = w.parties.server in
       let after = (server_accepts now (server_inputs.restart one.nonce)).after in
-      let stands = server_invariant_anew (servers.setup_with_nonce setup.server h.server_nonce) now one.nonce h.server.now.stands.own in
+      let stands = server_invariant_anew (servers.setup_with_nonce setup.server h.server_nonce) now one.nonce h.server.now.stands.own h.server.now.stands.both in
       let nonce : server_nonce_of after ≡ one.nonce = ap (λ (s : ServerSetup). s.nonce) stands.own in
       let sized : LeftSized (one ∷ left) = subst LeftSized next h.sized.server in
       let more = own end.Server w (after_server_restart w one left) (beginning (w.counts.events + 1) end.Server one.nonce) refl refl in

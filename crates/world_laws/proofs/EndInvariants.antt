@@ -18,14 +18,13 @@ use Rattle.server_machine.specs.Inputs as server_inputs
 use Rattle.server_machine.specs.Inputs.{ServerInput, server_accepts, start}
 use Rattle.server_machine.specs.ServerTable as servers
 use Rattle.server_machine.specs.ServerTable.{ServerNow, server_start}
-use Rattle.eap_world.specs.Run.{run_of}
 use Rattle.tag_book.specs.Book.{entries_of, same_end}
 use Rattle.eap_world.specs.Conversations.{beginning, since_from, since_of}
 use Rattle.world_laws.specs.EndInvariants.{BothInvariants, EndInvariants}
 use Rattle.world_laws.specs.PeerInvariant.{PeerInvariant}
 use Rattle.world_laws.specs.Records.{since, tags_by}
 use Rattle.world_laws.specs.ServerInvariant.{ServerInvariant}
-use Rattle.eap_world.specs.World.{Parties, WorldNow, WorldOutcome, call_octets, act_of_call, start_call, to_pass, to_peer, to_server, world_acted, initial_world, world_start}
+use Rattle.eap_world.specs.World.{Parties, WorldNow, WorldOutcome, call_octets, act_of_call, start_call, to_pass, to_peer, to_server, world_acted, world_start}
 use Rattle.tag_book.specs.declared.book.End.{End}
 use Rattle.tag_book.specs.declared.book.End.TheVariants as end
 use Rattle.tag_book.specs.declared.book.Entry.{Entry}
@@ -35,6 +34,7 @@ use Rattle.world_laws.proofs.Dates.{Dates, IsDated, IsOf, all_since, booked_of_e
 use Rattle.world_laws.proofs.PeerPreserves as peer_calls
 use Rattle.world_laws.proofs.ServerPreserves as server_calls
 use Rattle.world_laws.proofs.TagsOfEnds.{grows, rests}
+use Rattle.world_laws.specs.Runs.{initial_world, run_of}
 
 -- ---- an end with the entries of its present conversation
 
@@ -77,7 +77,7 @@ module _ (setup : PeerSetup) (now : PeerNow) (entries : List Entry) (stands : Pe
   peer_anew : (nonce : List ℕ) → PeerAt setup (peer_accepts now (peer_inputs.restart nonce)).after []
   unfolding tags_by
   peer_anew nonce =
-      own_peer setup nonce _ [] [] (peer_calls.peer_invariant_anew (peers.setup_with_nonce setup now.vars.setup.nonce) now nonce stands.own)
+      own_peer setup nonce _ [] [] (peer_calls.peer_invariant_anew (peers.setup_with_nonce setup now.vars.setup.nonce) now nonce stands.own stands.both)
 
 module _ (setup : ServerSetup) (now : ServerNow) (entries : List Entry) (stands : ServerAt setup now entries) (event : ℕ) where
   server_rests : (tags : Tags) → ServerAt setup now (entries ++ entries_of event end.Peer tags)
@@ -99,7 +99,7 @@ module _ (setup : ServerSetup) (now : ServerNow) (entries : List Entry) (stands 
   server_anew : (nonce : List ℕ) → ServerAt setup (server_accepts now (server_inputs.restart nonce)).after []
   unfolding tags_by
   server_anew nonce =
-      own_server setup nonce _ [] [] (server_calls.server_invariant_anew (servers.setup_with_nonce setup now.vars.setup.nonce) now nonce stands.own)
+      own_server setup nonce _ [] [] (server_calls.server_invariant_anew (servers.setup_with_nonce setup now.vars.setup.nonce) now nonce stands.own stands.both)
 
 -- ---- every step
 
@@ -221,7 +221,7 @@ start_in mode.Through setup is = record {
   first = λ two. record { peer_own = refl; server_own = refl; since = λ of. first_since of setup.peer.nonce setup.server.nonce };
 }
 
-start_invariant : (setup : Setup) → InvariantSoFar setup (world_start (initial_world setup)).after
+pub start_invariant : (setup : Setup) → InvariantSoFar setup (world_start (initial_world setup)).after
 unfolding world_start
 start_invariant setup = start_in setup.mode setup refl
 

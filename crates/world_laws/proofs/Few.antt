@@ -14,13 +14,12 @@ use Rattle.tag_book.specs.declared.book.Entry.{Entry}
 use Rattle.tag_book.specs.declared.book.Use.{Use}
 use Rattle.tag_book.specs.declared.book.Use.TheVariants.{Accepted, Made}
 use Rattle.eap_world.specs.declared.conversations.ConversationStart.{ConversationStart}
-use Rattle.eap_world.specs.Run.{run_of}
 use Rattle.world_laws.specs.Agreement.{FewPackets, FewTags}
 use Rattle.eap_world.specs.Conversations.{beginning, initiated_by, one_of}
 use Rattle.world_laws.specs.EndInvariants.{BothInvariants}
 use Rattle.world_laws.specs.Records.{same_use, tags_by}
 use Rattle.eap_world.specs.World.{Action, Called, Skipped, WorldNow, WorldOutcome, act, act_of_call, run_after, sent_by, sent_to, start_call}
-use Rattle.eap_world.specs.World.{world_acted, initial_world, world_start, world_step}
+use Rattle.eap_world.specs.World.{world_acted, world_start, world_step}
 use Rattle.world_laws.proofs.Acting.{Steps, run_preserves}
 use Rattle.world_laws.proofs.Dates.{Books, Dates, starts_one, books_more, present, present_anew, present_more, steps_book}
 use Rattle.world_laws.proofs.EndInvariants.{InvariantSoFar, every_run_so_far, step_invariant}
@@ -28,6 +27,7 @@ use Rattle.world_laws.proofs.PeerPreserves.{peer_few}
 use Rattle.world_laws.proofs.ServerPreserves.{server_few}
 use Rattle.world_laws.proofs.TagsOfEnds.{tags_append}
 use Rattle.server_machine.specs.ServerTable.{server_start}
+use Rattle.world_laws.specs.Runs.{initial_world, run_of}
 
 -- one more entry is in one of the four lists
 one_longer : (end : End) (how : Use) (tag : TagRecord) (a b c d : List TagRecord) (whole : ℕ)

@@ -17,7 +17,6 @@ use Rattle.tag_book.specs.declared.book.RecordOwner.TheVariants.{Either, Other}
 use Rattle.tag_book.specs.declared.book.Use.{Use}
 use Rattle.tag_book.specs.declared.book.Use.TheVariants.{Accepted, Made}
 use Rattle.tag_book.proofs.FirstBroken.{passed}
-use Rattle.eap_world.specs.Run.{run_of}
 use Rattle.eap_world.specs.World.{WorldNow}
 use Rattle.world_laws.specs.EachConversation.{Conversation, IsOneOf, OfPeer, OfServer, all_accepted, all_produced, here, later, peer_conversations, peer_nonce, server_conversations, server_nonce}
 use Rattle.world_laws.specs.Forgery.{AgreeOrForged, EachTagIsRight, Forgery, HonestOrForged, IsOfConversation, of_peer, of_server, tags_in}
@@ -29,6 +28,7 @@ use Rattle.world_laws.proofs.PastConversations.{in_either}
 use Rattle.world_laws.proofs.PresentUnderKey.{ends_agree_under}
 use Rattle.world_laws.proofs.RightMacs.{OfEach, peer_tags_right, server_tags_right}
 use Rattle.world_laws.proofs.TagsOfEnds.{in_if, skip_if}
+use Rattle.world_laws.specs.Runs.{run_of}
 
 -- ---- an entry of the book is among the tags of its end
 

@@ -11,7 +11,7 @@ use Rattle.peer_machine.specs.Inputs as peer_inputs
 use Rattle.server_machine.specs.Inputs as server_inputs
 use Rattle.eap_world.specs.Conversations.{Conversations, begins, beginning, front, hears, is_new, is_used, occurs_in, waiting}
 use Rattle.world_laws.specs.Fresh.{Happening, came, began, FreshnessIsExact, received_of, clashes, happens_at, happens_in, happens_unless, history_after, history_of}
-use Rattle.eap_world.specs.World.{Call, WorldNow, call_octets, call_of, conversations_after, conversed_by, conversed_unless, first_skip, delivered_in_call, run_after, skip_table, to_pass, to_peer, to_server, initial_world, world_start, world_step}
+use Rattle.eap_world.specs.World.{Call, WorldNow, call_octets, call_of, conversations_after, conversed_by, conversed_unless, first_skip, delivered_in_call, run_after, skip_table, to_pass, to_peer, to_server, world_start, world_step}
 use Rattle.tag_book.specs.declared.book.End.{End}
 use Rattle.tag_book.specs.declared.book.End.TheVariants as end
 use Rattle.eap_world.specs.declared.conversations.ConversationStart.{ConversationStart}
@@ -19,6 +19,7 @@ use Rattle.eap_world.specs.declared.conversations.Waiting.{Waiting}
 use Rattle.eap_world.specs.declared.told.Skip.{Skip}
 use Rattle.world_laws.proofs.Acting.{IsNext, starts_anew, goes_on, of_next, peer_next, server_next}
 use Rattle.world_laws.proofs.NoncesLeft.{IsLeft, first, behind, was_left}
+use Rattle.world_laws.specs.Runs.{initial_world}
 
 -- ---- the two ways to clash
 

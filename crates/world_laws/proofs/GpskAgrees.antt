@@ -1,5 +1,6 @@
 -- Two ends that have succeeded by EAP-GPSK agree, and what they report is their own.
-use Rattle.std.proofs.Common.{◌≡◌, ℕ, true, false, List, [], ◌∷◌, ◌++◌, length, Some, refl, sym, ap, subst, ◌∙◌, length-append, arith, inl, inr}
+use Rattle.std.proofs.Common.{◌≡◌, ℕ, true, false, List, [], ◌∷◌, ◌++◌, length, Some, refl, sym, ap, subst, ◌∙◌, length-append, arith, inl, inr, Option, None}
+use Rattle.std.proofs.lemmas.Option.{same_Some}
 use Rattle.std.proofs.lemmas.Bool.{and_from, not_from_false}
 use Rattle.login_setup.specs.declared.setup.PeerSetup.{PeerSetup}
 use Rattle.login_setup.specs.declared.setup.ServerSetup.{ServerSetup}
@@ -10,13 +11,16 @@ use Rattle.gpsk_messages.specs.Message.{field_with_length, covered_of}
 use Rattle.login_setup.specs.Users.{user_of}
 use Rattle.login_policy.proofs.Choices.{picked_is_allowed}
 use Rattle.login_policy.specs.Policy.{picked_suite}
+use Rattle.eap_method.specs.BothServers as at_server
+use Rattle.eap_method.specs.BothServers.{gpsk_at}
 use Rattle.eap_method.specs.declared.tags.TagRecord.{TagRecord}
 use Rattle.eap_method.specs.declared.values.Report.{Report}
 use Rattle.eap_method.specs.GpskPeer as peer
 use Rattle.eap_method.specs.GpskServer as server
 use Rattle.eap_method.specs.GpskTags.{sk_record, suite_list}
 use Rattle.eap_method.specs.Peer.{peer_report_of}
-use Rattle.eap_method.specs.Server.{server_report_of, side_of, gpsk_report}
+use Rattle.eap_method.specs.Server as servers
+use Rattle.eap_method.specs.Server.{server_report_of, side_of}
 use Rattle.peer_machine.specs.PeerTable.{PeerNow, selected_report, peer_reports}
 use Rattle.server_machine.specs.ServerTable.{ServerNow, current_report, server_reports}
 use Rattle.eap_world.specs.Judgement.{agreement_of, peer_agrees, server_agrees, is_welcome}
@@ -30,6 +34,8 @@ use Rattle.world_laws.proofs.Among.{among_one, among_two}
 use Rattle.world_laws.proofs.EqualReports.{reports_agree}
 use Rattle.world_laws.proofs.Fields.{fronts, sized_fronts, suite_fronts}
 use Rattle.world_laws.proofs.Results.{own_key, own_name}
+use Rattle.eap_method.specs.BothPeers.{gpsk_in, gpsk_of, gpsk_shown}
+use Rattle.eap_method.specs.Peer.{Method, by_psk, by_gpsk, by_other, View, report, PeerShown, peer_report, reported}
 
 -- both ends speak of the same login
 pub record IsSame (p : peer.Login) (list : List ℕ) (s : server.Login) : Type 0 where
@@ -97,23 +103,45 @@ pub same_reports : (p : peer.Login) (list : List ℕ) (s : server.Login) → IsS
 unfolding peer.report_of server.report_of peer.keys_of server.keys_of
 same_reports p list s same = rw (same.psk, same.id_p, same.id_s, same.rand_p, same.rand_s, same.suite) refl
 
+gpsk_method_reported : (m : Method) (view : View m) (login : peer.Login) → gpsk_of m view ≡ peer.over login true → report m view ≡ Some (peer.report_of login)
+gpsk_method_reported by_psk view login in_view = absurd cc
+gpsk_method_reported by_gpsk view login in_view = ap peer.report in_view
+gpsk_method_reported (by_other custom) view login in_view = absurd cc
+
+gpsk_reported : (found : Option PeerShown) (login : peer.Login) → gpsk_shown found ≡ peer.over login true → reported found ≡ Some (peer.report_of login)
+unfolding peer_report
+gpsk_reported None login in_view = absurd cc
+gpsk_reported (Some s) login in_view = gpsk_method_reported s.method s.view login in_view
+
 module _ (setup : PeerSetup) (login : peer.Login) (list : List ℕ) (facts : GpskStarted setup login list) where
   by_peer : peer_agrees setup (peer.report_of login) ≡ true
   unfolding peer.report_of
   by_peer = and_from _ _ facts.allowed (and_from _ _ facts.accepted (picked_is_allowed setup.suites list login.suite facts.picked))
 
-  pub peer_reported : (now : PeerNow) → now.vars.selected ≡ Some gpsk_kind → now.views.gpsk ≡ peer.over login true → peer_reports now ≡ Some (peer.report_of login)
+  pub peer_reported : (now : PeerNow) → now.vars.selected ≡ Some gpsk_kind → gpsk_in now.views ≡ peer.over login true → peer_reports now ≡ Some (peer.report_of login)
   unfolding peer_report_of
-  peer_reported now is_selected in_view = ap (selected_report now.views) is_selected ∙ ap peer.report in_view
+  peer_reported now is_selected in_view = ap (selected_report now.views) is_selected ∙ gpsk_reported (now.views gpsk_kind) login in_view
+
+server_method_reported : (m : servers.Method) (view : servers.View m) (login : server.Login) → at_server.gpsk_of m view ≡ Some (server.over login true)
+    → servers.report m view ≡ Some (server.report_of login)
+server_method_reported servers.by_psk view login in_view = absurd cc
+server_method_reported servers.by_gpsk view login in_view = ap server.report (same_Some _ _ in_view)
+server_method_reported (servers.by_other custom) view login in_view = absurd cc
+
+server_gpsk_reported : (found : Option servers.ServerShown) (login : server.Login) → at_server.gpsk_shown found ≡ Some (server.over login true)
+    → servers.reported found ≡ Some (server.report_of login)
+unfolding servers.server_report
+server_gpsk_reported None login in_view = absurd cc
+server_gpsk_reported (Some s) login in_view = server_method_reported s.method s.view login in_view
 
 module _ (setup : ServerSetup) (login : server.Login) (facts : GpskChecked setup login false) where
   by_server : server_agrees setup (server.report_of login) ≡ true
   unfolding server.report_of
   by_server = and_from _ _ facts.ordered (and_from _ _ facts.offered (ap is_welcome facts.known ∙ not_from_false _ facts.standing))
 
-  pub server_reported : (now : ServerNow) → now.vars.current ≡ Some gpsk_kind → now.views.gpsk ≡ Some (server.over login true) → server_reports now ≡ Some (server.report_of login)
+  pub server_reported : (now : ServerNow) → now.vars.current ≡ Some gpsk_kind → gpsk_at now.views ≡ Some (server.over login true) → server_reports now ≡ Some (server.report_of login)
   unfolding server_report_of
-  server_reported now is_current in_view = ap (current_report now.views) is_current ∙ ap gpsk_report in_view
+  server_reported now is_current in_view = ap (current_report now.views) is_current ∙ server_gpsk_reported (now.views gpsk_kind) login in_view
 
 module _ (peer_setup : PeerSetup) (server_setup : ServerSetup) (p : peer.Login) (list : List ℕ) (begun : GpskStarted peer_setup p list)
     (s : server.Login) (pd : List ℕ) (checked : GpskChecked server_setup s false)
@@ -128,8 +156,8 @@ module _ (peer_setup : PeerSetup) (server_setup : ServerSetup) (p : peer.Login) 
         | inr second ↦ absurd (not_gpsk4 p s pd (ap (λ (tag : TagRecord). tag.octets) second))
       ]
 
-  pub gpsk_agree : (now : PeerNow) (other : ServerNow) → now.vars.selected ≡ Some gpsk_kind → now.views.gpsk ≡ peer.over p true
-      → other.vars.current ≡ Some gpsk_kind → other.views.gpsk ≡ Some (server.over s true) → IsSame p list s
+  pub gpsk_agree : (now : PeerNow) (other : ServerNow) → now.vars.selected ≡ Some gpsk_kind → gpsk_in now.views ≡ peer.over p true
+      → other.vars.current ≡ Some gpsk_kind → gpsk_at other.views ≡ Some (server.over s true) → IsSame p list s
       → agreement_of peer_setup server_setup (peer_reports now) (server_reports other) ≡ true
   gpsk_agree now other is_selected in_view is_current in_other same =
       let reports : peer.report_of p ≡ server.report_of s = same_reports p list s same in
@@ -158,8 +186,8 @@ module _ (setup : Setup) (w : WorldNow) (login : peer.Login) (list : List ℕ) (
     is_suite = refl;
   }
 
-  pub gpsk_theirs : w.parties.peer.vars.selected ≡ Some gpsk_kind → w.parties.peer.views.gpsk ≡ peer.over login true
-      → w.parties.server.vars.current ≡ Some gpsk_kind → w.parties.server.views.gpsk ≡ Some (server.over other true) → AreTheirs setup w.parties.peer w.parties.server
+  pub gpsk_theirs : w.parties.peer.vars.selected ≡ Some gpsk_kind → gpsk_in w.parties.peer.views ≡ peer.over login true
+      → w.parties.server.vars.current ≡ Some gpsk_kind → gpsk_at w.parties.server.views ≡ Some (server.over other true) → AreTheirs setup w.parties.peer w.parties.server
   unfolding peer.report_of
   gpsk_theirs is_selected in_view is_current in_other =
       let name : login.cred.id_p ≡ setup.peer.name = own_name setup.peer gpsk_kind login.cred facts.cred in

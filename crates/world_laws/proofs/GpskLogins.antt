@@ -4,6 +4,7 @@ use Rattle.login_setup.specs.declared.setup.PeerSetup.{PeerSetup}
 use Rattle.login_setup.specs.declared.setup.ServerSetup.{ServerSetup}
 use Rattle.octet_lists.specs.Among.{gpsk_kind}
 use Rattle.login_setup.specs.Users.{user_of}
+use Rattle.eap_method.specs.BothServers.{gpsk_at}
 use Rattle.eap_method.specs.declared.values.ServerSide.{ServerSide}
 use Rattle.eap_method.specs.declared.tags.TagRecord.{TagRecord}
 use Rattle.eap_method.specs.declared.values.Report.{Report}
@@ -25,6 +26,7 @@ use Rattle.world_laws.proofs.GpskPeerOwners.{not_fail, not_gpsk4}
 use Rattle.world_laws.proofs.GpskServerOwners.{not_bars}
 use Rattle.world_laws.proofs.Results.{ResultsIn, LoginOf, PeersLogin, ServersLogin, own_key, own_name}
 use Rattle.world_laws.proofs.SucceedingEnds.{FirstIn}
+use Rattle.eap_method.specs.BothPeers.{gpsk_in}
 
 equal_keys : (one other : Report) → one ≡ other → SameKeys one other
 equal_keys one other e = record {
@@ -76,7 +78,7 @@ module _ (peer_setup : PeerSetup) (server_setup : ServerSetup) (peer_nonce : len
     server_reaches _ _ _ (gpsk_server_stands.gpsk_confirmed other their_pd last_pd checked) is first = checked_reaches other their_pd checked (first.is _ _ refl)
 
   pub peers_login : (now : PeerNow) (login : peer.Login) (list : List ℕ) → GpskStarted peer_setup login list → now.vars.selected ≡ Some gpsk_kind
-      → now.views.gpsk ≡ peer.over login true
+      → gpsk_in now.views ≡ peer.over login true
       → (theirs : Option Report) → LoginOf server_setup theirs (peer.report_of login) login.cred.psk → PeersLogin peer_setup server_setup now theirs
   unfolding peer.report_of
   peers_login now login list facts is_selected in_view theirs found = record {
@@ -124,7 +126,7 @@ module _ (peer_setup : PeerSetup) (server_setup : ServerSetup) (peer_nonce : len
         ]
 
   pub servers_login : (now : ServerNow) (login : server.Login) → GpskChecked server_setup login false → now.vars.current ≡ Some gpsk_kind
-      → now.views.gpsk ≡ Some (server.over login true) → (theirs : Option Report) → ResultsIn peer_setup theirs (server.report_of login) login.psk
+      → gpsk_at now.views ≡ Some (server.over login true) → (theirs : Option Report) → ResultsIn peer_setup theirs (server.report_of login) login.psk
       → ServersLogin peer_setup server_setup now theirs
   unfolding server.report_of side_of
   servers_login now login checked is_current in_view theirs found = record {

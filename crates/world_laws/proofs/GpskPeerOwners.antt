@@ -18,6 +18,7 @@ use Rattle.world_laws.specs.TagOwners.{OnlyByPeer}
 use Rattle.world_laws.proofs.Among.{among_one, among_two}
 use Rattle.world_laws.proofs.Fields.{fronts, sized_fronts}
 use Rattle.world_laws.proofs.PeerByMethod.{created_by_gpsk}
+use Rattle.eap_method.specs.BothPeers.{gpsk_in}
 
 -- what the MAC of GPSK-2 covers, cut at the nonces
 gpsk2_covers : (s : gpsk_server.Login) (p : gpsk.Login) (list pd : List ℕ) → length s.rand_p ≡ 32 → length s.nonce ≡ 32 → length p.nonce ≡ 32 → length p.rand_s ≡ 32
@@ -80,7 +81,7 @@ module _ (s : gpsk_server.Login) (pd : List ℕ) (p_size : length s.rand_p ≡ 3
       → (front nonce ≡ front s.rand_p) × (peer_foreign selected views ≡ Some (front s.nonce))
   gpsk_tags_imply setup nonce selected views accepted made size tags is =
       let by = created_by_gpsk (peers.setup_with_nonce setup nonce) selected views accepted made gpsk2_tag tags is refl in
-      let t = gpsk_view_implies setup nonce views.gpsk accepted made size by.1 is in
+      let t = gpsk_view_implies setup nonce (gpsk_in views) accepted made size by.1 is in
       (ap front t.0, ap (λ (o : Option ℕ). peer_foreign o views) by.0 ∙ ap front_in t.1)
 
   pub gpsk2_created : OnlyByPeer gpsk2_tag (front s.rand_p) (front s.nonce)

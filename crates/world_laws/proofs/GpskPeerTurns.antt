@@ -1,9 +1,9 @@
 -- Each turn of a peer's method EAP-GPSK: of what came it holds RAND_Server alone, it answers the Request, and its view tells the tags.
-use Rattle.std.proofs.Common.{◌≡◌, ℕ, List, [], ◌∷◌, ◌++◌, Bool, true, false, if◌then◌else◌, Some, None, Ok, refl, sym, ap, ◌∙◌, subst, arith, inl, inr}
+use Rattle.std.proofs.Common.{◌≡◌, ℕ, List, [], ◌∷◌, ◌++◌, true, false, Some, None, Ok, refl, sym, ap, ◌∙◌, subst, arith, inl, inr}
 use Rattle.std.proofs.lemmas.Bool.{true≢false}
 use Rattle.login_setup.specs.declared.setup.PeerSetup.{PeerSetup}
 use Rattle.octet_lists.specs.declared.suite.Suite.{Suite}
-use Rattle.octet_lists.specs.Among.{gpsk_kind, is_among}
+use Rattle.octet_lists.specs.Among.{gpsk_kind}
 use Rattle.login_setup.specs.Setup.{accepts_name}
 use Rattle.gpsk_messages.specs.Message.{Message, gpsk1, gpsk3, protected_fail, covered_of}
 use Rattle.gpsk_messages.specs.Reading as gpsk_reading
@@ -57,11 +57,6 @@ gpsk_responds view bytes _ (gpsk_row.repeats_fail _ _ _ _) = replies_one _ _ _ _
 gpsk_responds view bytes _ (gpsk_row.repeats_protected _ _ _ _ _ _ _) = replies_one _ _ _ _ _ _
 
 -- ---- the tags
-
-pub gpsk_started : (setup : PeerSetup) (allowed : Bool) → is_among setup.methods gpsk_kind ≡ allowed
-    → GpskPeerTags setup (if allowed then gpsk.fresh (credential_for setup gpsk_kind) setup.nonce else gpsk.unset) [] []
-gpsk_started setup true allowed = gpsk_fresh allowed
-gpsk_started setup false allowed = gpsk_unset
 
 module _ (setup : PeerSetup) (accepted made : List TagRecord) where
   abbrev pub GpskTurned : PeerOutcome gpsk.View → Type 0

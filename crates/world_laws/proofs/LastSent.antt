@@ -20,6 +20,8 @@ use Rattle.pass_through.specs.PassTable.{Side, PassAnswer}
 use Rattle.pass_through.specs.declared.variables.PassVariables.{PassVariables}
 use Rattle.eap_world.specs.Sent.{Sent, last_to, or_last, same_port}
 use Rattle.eap_world.specs.World.{Call, Parties, act_of_call, port_to, pass_port, sent_by, sent_to, to_pass, to_peer, to_server}
+use Rattle.world_laws.specs.PeerInvariant.{PeerHasBoth}
+use Rattle.world_laws.specs.ServerInvariant.{ServerHasBoth}
 use Rattle.world_laws.proofs.OneMethod.{some_same}
 use Rattle.world_laws.proofs.PassSpeaks as passing
 use Rattle.world_laws.proofs.PassSpeaks.{Proceed, PassSpeaks, pass_speaks}
@@ -227,11 +229,11 @@ pass_rests vars input out (passing.starts_anew is_restart packet to sent new las
 -- ---- every call
 
 -- a call that doesn't begin the pass-through in mode alone
-abbrev pub Fits : Parties → Call → Type 0
-Fits parties call = parties.mode ≡ mode.Alone → starts_pass call ≡ false
+abbrev pub IsFitting : Parties → Call → Type 0
+IsFitting parties call = parties.mode ≡ mode.Alone → starts_pass call ≡ false
 
 module _ (parties : Parties) (sent : List Sent) (said : HaveSent parties sent) where
-  passes_on : (input : PassInput) → Fits parties (to_pass input) → (m : Mode) → parties.mode ≡ m
+  passes_on : (input : PassInput) → IsFitting parties (to_pass input) → (m : Mode) → parties.mode ≡ m
       → (let out = pass_accepts parties.pass input in
       HaveSent (record parties { pass = out.after }) (sent ++ sent_to (pass_port out.step.to) out.step.sent))
   passes_on input fits mode.Alone alone =
@@ -252,19 +254,20 @@ module _ (parties : Parties) (sent : List Sent) (said : HaveSent parties sent) w
     rests = λ alone. not_both parties.mode alone through;
   }
 
-  pub call_has_sent : (call : Call) → Fits parties call
+  pub call_has_sent : {allowed order : List ℕ} (call : Call) → IsFitting parties call → PeerHasBoth allowed parties.peer.views
+      → ServerHasBoth order parties.server.views
       → (let out = act_of_call parties call in HaveSent out.after (sent ++ sent_by out.action))
-  call_has_sent (to_peer input) fits = record {
-    peer = peer_has_sent parties sent said input (peer_speaks parties.peer input);
+  call_has_sent (to_peer input) fits both both_served = record {
+    peer = peer_has_sent parties sent said input (peer_speaks parties.peer both input);
     server = λ begun going. (let was = server_still parties sent said _ _ (server_apart parties.mode) begun going in
         record { id = was.id; is_id = was.is_id; is = was.is; is_last = was.is_last });
     pass = λ through goes. other_sent _ _ sent _ (through_apart parties.mode through).0 ∙ said.pass through goes;
     rests = said.rests;
   }
-  call_has_sent (to_server input) fits = record {
+  call_has_sent (to_server input) fits both both_served = record {
     peer = λ id is_id. (let was = peer_still parties sent said _ _ (peer_apart parties.mode) id is_id in record { is = was.is; is_last = was.is_last });
-    server = server_has_sent parties sent said input (server_speaks parties.server input);
+    server = server_has_sent parties sent said input (server_speaks parties.server both_served input);
     pass = λ through goes. other_sent _ _ sent _ (through_apart parties.mode through).1 ∙ said.pass through goes;
     rests = said.rests;
   }
-  call_has_sent (to_pass input) fits = passes_on input fits parties.mode refl
+  call_has_sent (to_pass input) fits both both_served = passes_on input fits parties.mode refl

@@ -82,6 +82,8 @@ pub mod Passing
 pub mod PastConversations
 -- The peer by the method of a Type: what holds of the turns, the nonce and the tags of each method holds of a Type's.
 pub mod PeerByMethod
+-- A peer's objects stay of EAP-PSK and EAP-GPSK, one of each method that it allows.
+pub mod PeerObjects
 -- What the peer hears of the server's nonce stands in what came.
 pub mod PeerReceives
 -- Every input of the peer keeps what stands of it, but for the begin of a new conversation.
@@ -120,6 +122,8 @@ pub mod Reflected
 pub mod Resting
 -- The server by the method of a Type: what holds of the turns, the offer, the nonce and the tags of each method holds of a Type's.
 pub mod ServerByMethod
+-- A server's objects stay of EAP-PSK and EAP-GPSK, one of each method that it proposes.
+pub mod ServerObjects
 -- What the server hears of the peer's nonce stands in what came.
 pub mod ServerAccepts
 -- Every input of the server after its start keeps what stands of it, but for the begin of a new conversation.
@@ -179,3 +183,5 @@ pub mod NakAnswers
 pub mod UnconditionalPsk
 -- By EAP-PSK no two conversations of the peer with fresh nonces have one MSK or one EMSK.
 pub mod NewKeys
+-- A world whose ends have objects of EAP-PSK and EAP-GPSK alone, one at least of each method that they name, begins as its run.
+pub mod Standard

@@ -30,7 +30,6 @@ use Rattle.peer_machine.specs.Inputs.{PeerInput, octets, peer_accepts}
 use Rattle.peer_machine.specs.PeerTable.{PeerAnswer, PeerNow, is_last_id, peer_deliver, peer_discard, peer_restart, setup_with_nonce}
 use Rattle.peer_machine.specs.Rows as rows
 use Rattle.peer_machine.proofs.PeerRows.{peer_answers_are_rows}
-use Rattle.eap_world.specs.Run.{run_of}
 use Rattle.eap_world.specs.Sent.{Sent}
 use Rattle.eap_world.specs.World.{WorldNow, WorldOutcome, to_pass, to_peer, to_server}
 use Rattle.server_machine.specs.Expanded.{accepts_nak, response_octets}
@@ -42,6 +41,10 @@ use Rattle.world_laws.proofs.PeerByMethod.{TurnOf, of_gpsk, of_none, of_psk, tur
 use Rattle.world_laws.proofs.PeerSpeaks as peering
 use Rattle.world_laws.proofs.PeerSpeaks.{PeerSpeaks, peer_speaks}
 use Rattle.world_laws.proofs.SingleSteps.{StepOf, cancel, is_called, is_skipped, one_sent, passed_to_peer, step_of}
+use Rattle.world_laws.specs.PeerInvariant.{PeerHasBoth}
+use Rattle.world_laws.specs.Runs.{run_of}
+use Rattle.eap_method.specs.BothPeers.{psk_in}
+use Rattle.eap_method.specs.BothPeers.{gpsk_in}
 
 -- ---- Types of packets
 
@@ -103,8 +106,8 @@ gpsk_none view bytes _ (gpsk_row.repeats_fail _ _ _ _) = replied_so _ 51 _ _ _ _
 gpsk_none view bytes _ (gpsk_row.repeats_protected _ _ _ _ _ _ _) = replied_so _ 51 _ _ _ _ refl refl
 
 turn_none : (kind : ℕ) (views : PeerViews) (bytes : List ℕ) (out : PeerOutcome PeerViews) → TurnOf kind views bytes out → NoNaks out.turn
-turn_none kind views bytes _ (of_psk same out row) = psk_none views.psk bytes out row
-turn_none kind views bytes _ (of_gpsk same out row) = gpsk_none views.gpsk bytes out row
+turn_none kind views bytes _ (of_psk same out row) = psk_none (psk_in views) bytes out row
+turn_none kind views bytes _ (of_gpsk same out row) = gpsk_none (gpsk_in views) bytes out row
 turn_none kind views bytes _ (of_none c) = record { each = λ packet m d tags e. cc e }
 
 -- ---- the rows
@@ -131,7 +134,7 @@ other_sent one packet none same is = absurd (false≢true (sym none ∙ (ap is_n
 bytes_same : (one other : List ℕ) → octets one ≡ octets other → one ≡ other
 bytes_same one other e = cc
 
-module _ (now : PeerNow) (bytes : List ℕ) where
+module _ {methods : List ℕ} (now : PeerNow) (bytes : List ℕ) (both : PeerHasBoth methods now.views) where
   row_naks : (input : PeerInput) (out : PeerAnswer) → rows.PeerRow now input out → input ≡ octets bytes → NaksSo now bytes out
   unfolding peer_restart
   row_naks _ _ (rows.ended _ over) same = record { each = λ packet sent new is. cc sent }
@@ -160,7 +163,7 @@ module _ (now : PeerNow) (bytes : List ℕ) where
   row_naks _ _ (rows.method_replies _ selects id kind body one m d tags views heard calls turned _) same = record {
     each = λ packet sent new is.
         other_sent one packet
-        ((turn_none kind now.views (spelled (request id kind body)) _ (turn_of kind now.views (spelled (request id kind body)))).each one m d tags
+        ((turn_none kind now.views (spelled (request id kind body)) _ (turn_of kind now.views (spelled (request id kind body)) both)).each one m d tags
         (ap (λ (out : PeerOutcome PeerViews). out.turn) turned))
         sent is;
   }
@@ -295,7 +298,7 @@ record Refused (now : PeerNow) (bytes : List ℕ) : Type 0 where
   asked : asks_for now.vars.setup.expanded bytes ≡ Some kind
   barred : is_among now.vars.setup.methods kind ≡ false
 
-module _ (now : PeerNow) (bytes packet : List ℕ) where
+module _ {methods : List ℕ} (now : PeerNow) (bytes packet : List ℕ) (both : PeerHasBoth methods now.views) where
   abbrev Refuses : PeerAnswer → Type 0
   Refuses out = out.step.sent ≡ Some packet → list_any is_again out.step.path ≡ false → is_nak packet ≡ true → Refused now bytes
 
@@ -313,14 +316,14 @@ module _ (now : PeerNow) (bytes packet : List ℕ) where
 
   reading_refuses : (out : PeerAnswer) → Reads now bytes out → Refuses out
   reading_refuses _ (plainly asked) sent new is =
-      let b = (table_naks now bytes).each packet sent new is in
+      let b = (table_naks now bytes both).each packet sent new is in
       record { kind = b.kind; asked = asked b.id b.kind b.body b.is_packet b.going; barred = b.barred }
   reading_refuses _ (refused c) sent new is = cc sent
   reading_refuses _ (unwrapped id kind body is_packet expanded is_last) sent new is =
       let plain : List ℕ = plain_octets bytes (request id kind body) in
       let out : PeerAnswer = peer_deliver now plain in
       expressed_so out is_last out.step.sent refl sent new is (Refused now bytes) (λ one was fresh nak.
-      (let b = (table_naks now plain).each one was fresh nak in
+      (let b = (table_naks now plain both).each one was fresh nak in
       record {
         kind = b.kind;
         asked = plain_asks now bytes id kind body is_packet expanded ∙ ap (λ (k : ℕ). Some k) (request_type plain b.id b.kind b.body b.is_packet);
@@ -337,7 +340,8 @@ by_delivery now packet P _ _ (peering.begins nonce out unsent none) sent each = 
 
 -- ---- every step
 
-module _ (setup : Setup) (w : WorldNow) (e : Event) (own : w.parties.peer.vars.setup ≡ setup_with_nonce setup.peer w.parties.peer.vars.setup.nonce) where
+module _ {methods : List ℕ} (setup : Setup) (w : WorldNow) (e : Event) (own : w.parties.peer.vars.setup ≡ setup_with_nonce setup.peer w.parties.peer.vars.setup.nonce)
+    (both : PeerHasBoth methods w.parties.peer.views) where
   refused_so : (bytes : List ℕ) → bytes ≡ delivered_in w.sent e → Refused w.parties.peer bytes → IsRefused setup.peer (delivered_in w.sent e)
   refused_so bytes came r = record {
     kind = r.kind;
@@ -353,13 +357,14 @@ module _ (setup : Setup) (w : WorldNow) (e : Event) (own : w.parties.peer.vars.s
   step_refuses _ (is_called (to_pass input) unskipped is_call) packet sends new nak = absurd (let other = sends.acts in cc other)
   step_refuses _ (is_called (to_peer input) unskipped is_call) packet sends new nak =
       let is = one_sent _ _ packet (cancel w.sent _ _ sends.adds) in
-      by_delivery w.parties.peer packet.octets (IsRefused setup.peer (delivered_in w.sent e)) input _ (peer_speaks w.parties.peer input) is.sent
+      by_delivery w.parties.peer packet.octets (IsRefused setup.peer (delivered_in w.sent e)) input _ (peer_speaks w.parties.peer both input) is.sent
       (λ bytes same.
       (let sent = subst (λ (i : PeerInput). (peer_accepts w.parties.peer i).step.sent ≡ Some packet.octets) same is.sent in
       let fresh = subst (λ (i : PeerInput). list_any is_again (peer_accepts w.parties.peer i).step.path ≡ false) same new in
       refused_so bytes (passed_to_peer w.conversations w.sent e bytes (is_call ∙ ap (λ (i : PeerInput). Some (to_peer i)) same))
-      (reading_refuses w.parties.peer bytes packet.octets _ (reads_is w.parties.peer bytes) sent fresh nak)))
+      (reading_refuses w.parties.peer bytes packet.octets both _ (reads_is w.parties.peer bytes) sent fresh nak)))
 
 pub naks_refuse : NaksRefuse
 naks_refuse setup events e packet sends new nak =
-    step_refuses setup (run_of setup events) e (every_run_so_far setup events).both.peer_invariant.own _ (step_of (run_of setup events) e) packet sends new nak
+    let stands = (every_run_so_far setup events).both.peer_invariant in
+    step_refuses setup (run_of setup events) e stands.own stands.both _ (step_of (run_of setup events) e) packet sends new nak

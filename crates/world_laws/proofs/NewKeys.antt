@@ -1,7 +1,8 @@
 -- By EAP-PSK no two conversations of the peer with fresh nonces have one MSK or one EMSK.
-use Rattle.std.proofs.Common.{◌≡◌, ℕ, List, true, false, Option, Some, refl, sym, ap, subst, ◌∙◌, arith}
+use Rattle.std.proofs.Common.{◌≡◌, ℕ, List, true, false, Some, refl, sym, ap, subst, ◌∙◌, arith}
 use Rattle.login_setup.specs.declared.setup.PeerSetup.{PeerSetup}
 use Rattle.octet_lists.specs.Among.{gpsk_kind, psk_kind}
+use Rattle.eap_method.specs.BothPeers.{gpsk_in, psk_in}
 use Rattle.eap_method.specs.declared.tags.TagRecord.{TagRecord}
 use Rattle.eap_method.specs.GpskPeer as gpsk_peer
 use Rattle.eap_method.specs.Peer.{credential_for, key_for}
@@ -74,9 +75,9 @@ from_nonce : (setup : PeerSetup) (now : PeerNow) (accepted made : List TagRecord
 from_nonce setup now _ _ (by_method.none_selected unselected psk_verdict gpsk_verdict) x is =
     absurd (let e = sym (ap (peer_session_of now) unselected) ∙ is in cc e)
 from_nonce setup now _ _ (by_method.psk_selected accepted made is_selected told) x is =
-    of_psk_view setup now.views.psk accepted made told x (sym (ap (peer_session_of now) is_selected) ∙ is)
+    of_psk_view setup (psk_in now.views) accepted made told x (sym (ap (peer_session_of now) is_selected) ∙ is)
 from_nonce setup now _ _ (by_method.gpsk_selected accepted made is_selected told) x is =
-    of_gpsk_view setup now.views.gpsk accepted made told (key_for setup psk_kind) x (sym (ap (peer_session_of now) is_selected) ∙ is)
+    of_gpsk_view setup (gpsk_in now.views) accepted made told (key_for setup psk_kind) x (sym (ap (peer_session_of now) is_selected) ∙ is)
 
 pub keys_are_new : KeysAreNew
 keys_are_new setup events whole is_key fresh p q two one other has its =

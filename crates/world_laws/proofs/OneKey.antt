@@ -31,6 +31,8 @@ use Rattle.world_laws.proofs.OneMethod.{some_same}
 use Rattle.world_laws.proofs.PskAgrees as psk_agrees
 use Rattle.world_laws.proofs.Results.{own_key}
 use Rattle.world_laws.proofs.SucceedingEnds.{PeerSucceeds, ServerSucceeds, with_psk, with_gpsk, of_psk, of_gpsk}
+use Rattle.eap_method.specs.BothPeers.{psk_in}
+use Rattle.eap_method.specs.BothPeers.{gpsk_in}
 
 pub record OneKey (accepted made : List TagRecord) : Type 0 where
   pub key : List ℕ
@@ -105,8 +107,8 @@ peer_by_gpsk setup _ _ _ (gpsk_peer_stands.gpsk_barred login list code facts) =
 pub peer_one : (setup : PeerSetup) (selected : Option ℕ) (views : PeerViews) (accepted made : List TagRecord) → PeerTags setup selected views accepted made
     → OneKey accepted made
 peer_one setup selected views _ _ (by_method.none_selected unselected psk_verdict gpsk_verdict) = no_tags
-peer_one setup selected views _ _ (by_method.psk_selected accepted made is_selected told) = peer_by_psk setup views.psk accepted made told
-peer_one setup selected views _ _ (by_method.gpsk_selected accepted made is_selected told) = peer_by_gpsk setup views.gpsk accepted made told
+peer_one setup selected views _ _ (by_method.psk_selected accepted made is_selected told) = peer_by_psk setup (psk_in views) accepted made told
+peer_one setup selected views _ _ (by_method.gpsk_selected accepted made is_selected told) = peer_by_gpsk setup (gpsk_in views) accepted made told
 
 -- ---- in SUCCESS
 

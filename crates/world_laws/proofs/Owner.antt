@@ -5,11 +5,11 @@ use Rattle.login_setup.specs.declared.event.Event.{Event}
 use Rattle.tag_book.specs.Book.{tags_verdict}
 use Rattle.tag_book.specs.declared.book.TagsVerdict.TheVariants.{Honest}
 use Rattle.eap_world.specs.Judgement.{is_success}
-use Rattle.eap_world.specs.Run.{run_of}
 use Rattle.world_laws.specs.Agreement.{AreApart, AreTheirs, HonestNamesAreTheirs, IsWhole}
 use Rattle.world_laws.proofs.FreshAgree.{fresh_ends_agree}
 use Rattle.world_laws.proofs.HonestOfEither.{honest_of_either}
 use Rattle.world_laws.proofs.HonestRuns.{reflected}
+use Rattle.world_laws.specs.Runs.{run_of}
 
 module _ (setup : Setup) (events : List Event) (whole : IsWhole setup) where
   honest_theirs : (let w = run_of setup events in tags_verdict w.book ≡ Honest → AreApart w.conversations

@@ -18,9 +18,10 @@ use Rattle.pass_through.proofs.Running.{carries_only_received}
 use Rattle.eap_world.specs.Conversations.{Conversations}
 use Rattle.world_laws.specs.Passing.{IsDelivered, IsOfEvent, IsPassedOn, PassCarries, PassIsAlone, PassIsDelivered, PassLearnsNothing, at_port, received_after, received_by, received_in, received_by_pass, received_unless, delivered, delivered_altered, delivered_cut, if_to_end, injected, of_peer, of_server, passed, passed_after, passed_by, sent_by_pass, silent, to_ends}
 use Rattle.eap_world.specs.Sent.{Sent, packet_numbered}
-use Rattle.eap_world.specs.World.{Acted, Call, Parties, WorldNow, act, alteration, call_at, call_of, call_with, act_of_call, called_unless, first_skip, next_call, octets_of, pass_port, restart_call, run_after, sent_by, sent_to, skip_table, start_call, timer_call, to_pass, to_peer, to_server, initial_world, world_start, world_step}
+use Rattle.eap_world.specs.World.{Acted, Call, Parties, WorldNow, act, alteration, call_at, call_of, call_with, act_of_call, called_unless, first_skip, next_call, octets_of, pass_port, restart_call, run_after, sent_by, sent_to, skip_table, start_call, timer_call, to_pass, to_peer, to_server, world_start, world_step}
 use Rattle.eap_world.specs.declared.conversations.Waiting.{Waiting}
 use Rattle.eap_world.specs.declared.told.Skip.{Skip}
+use Rattle.world_laws.specs.Runs.{initial_world}
 
 -- ---- one event
 

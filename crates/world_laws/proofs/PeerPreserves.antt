@@ -13,28 +13,36 @@ use Rattle.eap_method.specs.Turns.{PeerOutcome}
 use Rattle.peer_machine.specs.Expanded.{expanded_answer}
 use Rattle.peer_machine.specs.Inputs.{PeerInput, restart, peer_answers, peer_accepts}
 use Rattle.peer_machine.specs.Inputs as inputs
-use Rattle.peer_machine.specs.PeerTable.{PeerNow, PeerAnswer, with_vars, initial_peer, setup_with_nonce, peer_restart, is_fail}
+use Rattle.peer_machine.specs.PeerTable.{PeerNow, PeerAnswer, with_vars, setup_with_nonce, peer_restart, is_fail}
 use Rattle.peer_machine.specs.Rows as rows
 use Rattle.peer_machine.specs.Rows.{Calls}
 use Rattle.peer_machine.proofs.Receiving.{PeerReceiving, as_it_is, bad, again, expresses}
 use Rattle.peer_machine.proofs.PeerRows.{peer_answers_are_rows}
 use Rattle.eap_world.specs.Judgement.{is_success}
-use Rattle.world_laws.specs.PeerInvariant.{PeerInvariant}
+use Rattle.world_laws.specs.PeerInvariant.{PeerHasBoth, PeerInvariant}
 use Rattle.world_laws.specs.Records.{AreFew}
 use Rattle.world_laws.proofs.OneMethod.{goes_on}
+use Rattle.world_laws.proofs.PeerObjects.{both_after, both_are, both_started}
 use Rattle.world_laws.proofs.PeerByMethod.{MethodTurned, started_tags, method_turned, tags_few, turn_of}
 use Rattle.world_laws.proofs.PeerTurns.{replies}
 use Rattle.world_laws.proofs.Accepting.{peer_accepted_tags}
+use Rattle.eap_method.specs.BothPeers.{both_of}
+use Rattle.world_laws.specs.Runs.{initial_peer}
+use Rattle.peer_machine.specs.PeerTable as wide
 
 -- ---- the begin
 
-pub peer_initiates : (setup : PeerSetup) → PeerInvariant setup (initial_peer setup) [] []
-peer_initiates setup = record {
+initiates_with : (setup : PeerSetup) (views : PeerViews) → PeerHasBoth setup.methods views → PeerInvariant setup (wide.initial_peer setup views) [] []
+initiates_with setup views both = record {
   own = refl;
-  tags = started_tags setup;
+  both = both_started setup views both;
+  tags = started_tags setup views both;
   decided = λ e. absurd (true≢false e);
   sure = λ e. absurd (false≢true e);
 }
+
+pub peer_initiates : (setup : PeerSetup) → PeerInvariant setup (initial_peer setup) [] []
+peer_initiates setup = initiates_with setup (both_of setup.methods) (both_are setup.methods)
 
 -- ---- the calls
 
@@ -54,23 +62,26 @@ module _ (setup : PeerSetup) (now : PeerNow) (accepted made : List TagRecord) (s
   -- another state, lastId and lastRespData
   remains : (s : State) (last_id : Option ℕ) (last_response : List ℕ) → (is_success s ≡ true → is_fail now.vars.decision ≡ false)
       → PeerInvariant setup (with_vars now (record now.vars { state = s; last_id = last_id; last_response = last_response })) accepted made
-  remains s last_id last_response sure = record { own = stands.own; tags = stands.tags; decided = stands.decided; sure = sure }
+  remains s last_id last_response sure = record { own = stands.own; both = stands.both; tags = stands.tags; decided = stands.decided; sure = sure }
 
   after_turn : (kind : ℕ) (packet : List ℕ) (m : MethodState) (d : Decision) (tags : Tags) (views : PeerViews)
       → MethodTurned setup accepted made kind (record { turn = Reply packet m d tags; after = views })
-      → (s : State) (last_id : Option ℕ) (last_response : List ℕ) → (is_success s ≡ true → ⊥)
+      → PeerHasBoth setup.methods views → (s : State) (last_id : Option ℕ) (last_response : List ℕ) → (is_success s ≡ true → ⊥)
       → PeerInvariant setup (record {
         vars = record now.vars { state = s; selected = Some kind; method_state = m; decision = d; last_id = last_id; last_response = last_response };
         views = views;
       }) (accepted ++ tags.accepted) (made ++ tags.made)
-  after_turn kind _ _ _ _ _ (replies _ _ _ _ _ told decided) s last_id last_response unsure =
-      record { own = stands.own; tags = told; decided = decided; sure = λ e. absurd (unsure e) }
+  after_turn kind _ _ _ _ _ (replies _ _ _ _ _ told decided) both s last_id last_response unsure =
+      record { own = stands.own; both = both; tags = told; decided = decided; sure = λ e. absurd (unsure e) }
 
   turned_to : (selects : Bool) (kind : ℕ) (octets : List ℕ) (out : PeerOutcome PeerViews) → Calls now kind selects → peer_turn kind now.views octets ≡ out
       → MethodTurned setup accepted made kind out
   turned_to selects kind octets out calls turned =
       subst (MethodTurned setup accepted made kind) turned
-      (method_turned setup now accepted made stands.tags selects kind octets _ calls (turn_of kind now.views octets))
+      (method_turned setup now accepted made stands.tags selects kind octets _ calls (turn_of kind now.views octets stands.both))
+
+  still_both : (kind : ℕ) (octets : List ℕ) (out : PeerOutcome PeerViews) → peer_turn kind now.views octets ≡ out → PeerHasBoth setup.methods out.after
+  still_both kind octets out turned = subst (λ (o : PeerOutcome PeerViews). PeerHasBoth setup.methods o.after) turned (both_after stands.both kind octets)
 
   row_preserves : (input : PeerInput) (out : PeerAnswer) → ((nonce : List ℕ) → input ≡ restart nonce → ⊥) → rows.PeerRow now input out → Preserves setup accepted made out
   row_preserves _ _ same (rows.begins nonce) = absurd (same nonce refl)
@@ -86,9 +97,9 @@ module _ (setup : PeerSetup) (now : PeerNow) (accepted made : List TagRecord) (s
   row_preserves _ _ same (rows.ends_well input entered going sure why) = quiet setup accepted made _ refl (remains _ _ _ (λ _. sure))
   row_preserves _ _ same (rows.ends_badly input entered going why) = quiet setup accepted made _ refl (remains _ _ _ (λ e. absurd (false≢true e)))
   row_preserves _ _ same (rows.method_replies bytes selects id kind body packet m d tags views heard calls turned _) =
-      record { stands = after_turn kind packet m d tags views (turned_to selects kind _ _ calls turned) _ _ _ (goes_on now.vars.state heard.going) }
+      record { stands = after_turn kind packet m d tags views (turned_to selects kind _ _ calls turned) (still_both kind _ _ turned) _ _ _ (goes_on now.vars.state heard.going) }
   row_preserves _ _ same (rows.method_fails bytes selects id kind body packet m d tags views heard calls turned _) =
-      record { stands = after_turn kind packet m d tags views (turned_to selects kind _ _ calls turned) _ _ _ false≢true }
+      record { stands = after_turn kind packet m d tags views (turned_to selects kind _ _ calls turned) (still_both kind _ _ turned) _ _ _ false≢true }
 
   -- by the table alone
   abbrev IsConsistent : PeerInput → PeerAnswer → Type 0
@@ -104,7 +115,7 @@ module _ (setup : PeerSetup) (now : PeerNow) (accepted made : List TagRecord) (s
   expressed_preserves : (out : PeerAnswer) (sent : Option (List ℕ)) → Preserves setup accepted made out → Preserves setup accepted made (expanded_answer out sent)
   expressed_preserves out None kept = kept
   expressed_preserves out (Some packet) kept =
-      let s = kept.stands in record { stands = record { own = s.own; tags = s.tags; decided = s.decided; sure = s.sure } }
+      let s = kept.stands in record { stands = record { own = s.own; both = s.both; tags = s.tags; decided = s.decided; sure = s.sure } }
 
   receiving_preserves : (bytes : List ℕ) (out : PeerAnswer) → PeerReceiving now bytes out → IsConsistent (inputs.octets bytes) out
   receiving_preserves bytes _ as_it_is same = of_octets bytes
@@ -122,11 +133,12 @@ peer_preserves setup now accepted made input same stands =
     input same).stands
 
 -- a peer of these settings that begins a new conversation stands as one that has just begun, with the new nonce
-pub peer_invariant_anew : (setup : PeerSetup) (now : PeerNow) (nonce : List ℕ) → now.vars.setup ≡ setup
+pub peer_invariant_anew : (setup : PeerSetup) (now : PeerNow) (nonce : List ℕ) → now.vars.setup ≡ setup → PeerHasBoth setup.methods now.views
     → PeerInvariant (setup_with_nonce setup nonce) (peer_accepts now (restart nonce)).after [] []
 unfolding peer_restart
-peer_invariant_anew setup now nonce own =
-    subst (λ (s : PeerSetup). PeerInvariant (setup_with_nonce s nonce) (initial_peer (setup_with_nonce now.vars.setup nonce)) [] []) own (peer_initiates (setup_with_nonce now.vars.setup nonce))
+peer_invariant_anew setup now nonce own both =
+    subst (λ (s : PeerSetup). PeerInvariant (setup_with_nonce setup nonce) (wide.initial_peer (setup_with_nonce s nonce) now.views) [] []) (sym own)
+    (initiates_with (setup_with_nonce setup nonce) now.views both)
 
 -- it has made no tag in it
 pub peer_tags_none : (now : PeerNow) (nonce : List ℕ) → (peer_accepts now (restart nonce)).step.tags ≡ no_tags

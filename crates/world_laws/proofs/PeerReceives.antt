@@ -41,7 +41,7 @@ module _ (setup : PeerSetup) (now : PeerNow) (accepted made : List TagRecord) (s
       → (peer_turn kind now.views (spelled (request id kind body))).after ≡ after
       → Receives (Some (data_read (packet_of bytes))) (peer_foreign now.vars.selected now.views) (peer_foreign (Some kind) after)
   called_received bytes id kind body after calls heard is_after =
-      by (turn_received kind now.views (spelled (request id kind body)) _ (turn_of kind now.views (spelled (request id kind body))))
+      by (turn_received kind now.views (spelled (request id kind body)) _ (turn_of kind now.views (spelled (request id kind body)) stands.both))
     where
       by : Receives (Some (body_of (spelled (request id kind body)))) (peer_foreign_of now.views kind)
           (peer_foreign_of (peer_turn kind now.views (spelled (request id kind body))).after kind)

@@ -27,6 +27,7 @@ use Rattle.world_laws.specs.SingleSteps.{identifier_of, is_again}
 use Rattle.world_laws.proofs.PeerByMethod.{turn_answers, turn_of}
 use Rattle.world_laws.proofs.PeerTurns.{IsResponse, response_is}
 use Rattle.world_laws.proofs.Accepting.{peer_accepted_tags}
+use Rattle.world_laws.specs.PeerInvariant.{PeerHasBoth}
 
 -- ---- the Identifier of a packet
 
@@ -43,11 +44,11 @@ request_id : (id kind : ℕ) (body : List ℕ) → identifier_of (spelled (reque
 unfolding spelled
 request_id id kind body = refl
 
-method_answers : (id kind : ℕ) (body packet : List ℕ) (m : MethodState) (d : Decision) (tags : Tags) (views after : PeerViews)
-    → peer_turn kind views (spelled (request id kind body)) ≡ record { turn = Reply packet m d tags; after = after } → IsResponse id packet
-method_answers id kind body packet m d tags views after turned =
+method_answers : {methods : List ℕ} (id kind : ℕ) (body packet : List ℕ) (m : MethodState) (d : Decision) (tags : Tags) (views after : PeerViews)
+    → peer_turn kind views (spelled (request id kind body)) ≡ record { turn = Reply packet m d tags; after = after } → PeerHasBoth methods views → IsResponse id packet
+method_answers id kind body packet m d tags views after turned both =
     subst (λ (n : ℕ). IsResponse n packet) (request_id id kind body)
-    ((turn_answers kind views (spelled (request id kind body)) _ (turn_of kind views (spelled (request id kind body)))).each packet m d tags
+    ((turn_answers kind views (spelled (request id kind body)) _ (turn_of kind views (spelled (request id kind body)) both)).each packet m d tags
     (ap (λ (out : PeerOutcome PeerViews). out.turn) turned))
 
 -- ---- the rows
@@ -68,7 +69,7 @@ pub data PeerSpeaks (now : PeerNow) : PeerInput → PeerAnswer → Type 0 where
   -- nothing is sent, and no Response stands in a new conversation
   begins : (nonce : List ℕ) (out : PeerAnswer) (unsent : out.step.sent ≡ None) (none : out.after.vars.last_id ≡ None) → PeerSpeaks now (restart nonce) out
 
-module _ (now : PeerNow) where
+module _ {methods : List ℕ} (now : PeerNow) (both : PeerHasBoth methods now.views) where
   answers_to : (bytes packet : List ℕ) (id kind : ℕ) (body : List ℕ) (out : PeerAnswer) → packet_of bytes ≡ Ok (request id kind body)
       → is_end now.vars.state ≡ false → IsResponse id packet → out.step.sent ≡ Some packet → list_any is_again out.step.path ≡ false
       → out.after.vars.last_id ≡ Some id → out.after.vars.last_response ≡ packet → PeerSpeaks now (octets bytes) out
@@ -100,7 +101,7 @@ module _ (now : PeerNow) where
   row_speaks _ _ (rows.ends_well input entered going sure why) = rests _ _ refl refl refl
   row_speaks _ _ (rows.ends_badly input entered going why) = rests _ _ refl refl refl
   row_speaks _ _ (rows.method_replies bytes selects id kind body packet m d tags views heard calls turned _) =
-      answers_to bytes packet id kind body _ heard.is_packet heard.going (method_answers id kind body packet m d tags now.views views turned)
+      answers_to bytes packet id kind body _ heard.is_packet heard.going (method_answers id kind body packet m d tags now.views views turned both)
       refl (before_new selects _ refl) refl refl
   row_speaks _ _ (rows.method_fails bytes selects id kind body packet m d tags views heard calls turned _) = rests _ _ refl refl refl
 
@@ -124,12 +125,12 @@ was_last_id : (held : Option ℕ) (id : ℕ) → held ≡ Some id → is_last_id
 was_last_id None id e = absurd cc
 was_last_id (Some last) id e = eq-eqb last id (let same : last ≡ id = cc in same)
 
-module _ (now : PeerNow) where
+module _ {methods : List ℕ} (now : PeerNow) (both : PeerHasBoth methods now.views) where
   abbrev Speaks : PeerInput → PeerAnswer → Type 0
   Speaks input out = PeerSpeaks now input out
 
   answer_speaks : (input : PeerInput) → Speaks input (peer_answers now input)
-  answer_speaks input = row_speaks now input _ (peer_answers_are_rows now input)
+  answer_speaks input = row_speaks now both input _ (peer_answers_are_rows now input)
 
   -- what answers other octets with the same Identifier, as it is, and expressed where they are no Request again
   module _ (bytes plain : List ℕ) (same : identifier_of plain ≡ identifier_of bytes) where
@@ -160,5 +161,5 @@ module _ (now : PeerNow) where
       expressed_speaks bytes (plain_octets bytes (request id kind body)) (plain_id bytes id kind body asks.asks.is_packet)
       (ap (is_last_id now.vars.last_id) (sym (arrived_with bytes id kind body asks.asks.is_packet)) ∙ new) _ (answer_speaks (octets _))
 
-pub peer_speaks : (now : PeerNow) (input : PeerInput) → PeerSpeaks now input (peer_accepts now input)
-peer_speaks now = peer_accepted_tags now (PeerSpeaks now) (answer_speaks now) (receiving_speaks now)
+pub peer_speaks : {methods : List ℕ} (now : PeerNow) → PeerHasBoth methods now.views → (input : PeerInput) → PeerSpeaks now input (peer_accepts now input)
+peer_speaks now both = peer_accepted_tags now (PeerSpeaks now) (answer_speaks now both) (receiving_speaks now both)

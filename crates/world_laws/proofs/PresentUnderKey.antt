@@ -14,7 +14,6 @@ use Rattle.tag_book.specs.declared.book.End.TheVariants as end
 use Rattle.tag_book.specs.declared.book.TagsVerdict.TheVariants.{Honest}
 use Rattle.tag_book.specs.declared.book.Use.TheVariants.{Accepted, Made}
 use Rattle.eap_world.specs.Judgement.{is_success}
-use Rattle.eap_world.specs.Run.{run_of}
 use Rattle.eap_world.specs.World.{WorldNow}
 use Rattle.world_laws.specs.Agreement.{AgreeAnew, AreApart, IsWhole}
 use Rattle.world_laws.specs.Alone.{PeerKnows}
@@ -44,6 +43,7 @@ use Rattle.world_laws.proofs.PskReflected.{asks_another, asks_listed, asks_prese
 use Rattle.world_laws.proofs.Reflected.{not_servers}
 use Rattle.world_laws.proofs.SucceedingEnds.{PeerSucceeds, ServerSucceeds, one_of, peer_succeeds, server_succeeds}
 use Rattle.world_laws.proofs.UnderKey as under_key
+use Rattle.world_laws.specs.Runs.{run_of}
 
 -- ---- with fresh nonces
 

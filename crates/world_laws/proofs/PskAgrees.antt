@@ -1,11 +1,14 @@
 -- Two ends that have succeeded by EAP-PSK agree, and what they report is their own.
-use Rattle.std.proofs.Common.{◌≡◌, ℕ, true, false, Bool, List, ◌∷◌, ◌++◌, length, Some, refl, sym, ap, subst, ◌∙◌, length-append, arith, inl, inr}
+use Rattle.std.proofs.Common.{◌≡◌, ℕ, true, false, Bool, List, ◌∷◌, ◌++◌, length, Some, refl, sym, ap, subst, ◌∙◌, length-append, arith, inl, inr, Option, None}
+use Rattle.std.proofs.lemmas.Option.{same_Some}
 use Rattle.std.proofs.lemmas.Bool.{and_from, not_from_false}
 use Rattle.login_setup.specs.declared.setup.PeerSetup.{PeerSetup}
 use Rattle.login_setup.specs.declared.setup.ServerSetup.{ServerSetup}
 use Rattle.login_setup.specs.declared.setup.Setup.{Setup}
 use Rattle.octet_lists.specs.Among.{psk_kind, gpsk_kind}
 use Rattle.login_setup.specs.Users.{user_of}
+use Rattle.eap_method.specs.BothServers as at_server
+use Rattle.eap_method.specs.BothServers.{psk_at}
 use Rattle.eap_method.specs.declared.tags.Label.TheVariants.{Ak, Tek}
 use Rattle.eap_method.specs.declared.tags.TagRecord.{TagRecord}
 use Rattle.eap_method.specs.declared.values.Report.{Report}
@@ -13,7 +16,8 @@ use Rattle.eap_method.specs.PskPeer as peer
 use Rattle.eap_method.specs.PskServer as server
 use Rattle.eap_method.specs.PskTags.{ak_record, rand_of, mac_p_octets, mac_s_octets}
 use Rattle.eap_method.specs.Peer.{peer_report_of}
-use Rattle.eap_method.specs.Server.{server_report_of, side_of, psk_report}
+use Rattle.eap_method.specs.Server as servers
+use Rattle.eap_method.specs.Server.{server_report_of, side_of}
 use Rattle.peer_machine.specs.PeerTable.{PeerNow, selected_report, peer_reports}
 use Rattle.server_machine.specs.ServerTable.{ServerNow, current_report, server_reports}
 use Rattle.eap_world.specs.Judgement.{agreement_of, peer_agrees, server_agrees, is_welcome}
@@ -29,6 +33,8 @@ use Rattle.world_laws.proofs.EqualReports.{reports_agree}
 use Rattle.world_laws.proofs.Fields.{ends}
 use Rattle.world_laws.proofs.Results.{own_key, own_name}
 use Rattle.world_laws.proofs.PskFields.{front_size}
+use Rattle.eap_method.specs.BothPeers.{psk_in, psk_of, psk_shown}
+use Rattle.eap_method.specs.Peer.{Method, by_psk, by_gpsk, by_other, View, report, PeerShown, peer_report, reported}
 
 -- both ends speak of the same login
 pub record IsSame (p : peer.Login) (s : server.Login) : Type 0 where
@@ -91,14 +97,36 @@ pub not_barred : (barred : Bool) (r : ℕ) → r ≡ server.r_for barred → r �
 not_barred true r is_sent is_success = absurd (omega arith)
 not_barred false r is_sent is_success = refl
 
+psk_method_reported : (m : Method) (view : View m) (login : peer.Login) → psk_of m view ≡ peer.over login true → report m view ≡ Some (peer.report_of login)
+psk_method_reported by_psk view login in_view = ap peer.report in_view
+psk_method_reported by_gpsk view login in_view = absurd cc
+psk_method_reported (by_other custom) view login in_view = absurd cc
+
+psk_reported : (found : Option PeerShown) (login : peer.Login) → psk_shown found ≡ peer.over login true → reported found ≡ Some (peer.report_of login)
+unfolding peer_report
+psk_reported None login in_view = absurd cc
+psk_reported (Some s) login in_view = psk_method_reported s.method s.view login in_view
+
 module _ (setup : PeerSetup) (login : peer.Login) (facts : PskStarted setup login) where
   by_peer : peer_agrees setup (peer.report_of login) ≡ true
   unfolding peer.report_of
   by_peer = and_from _ _ facts.allowed (and_from _ _ facts.accepted refl)
 
-  pub peer_reported : (now : PeerNow) → now.vars.selected ≡ Some psk_kind → now.views.psk ≡ peer.over login true → peer_reports now ≡ Some (peer.report_of login)
+  pub peer_reported : (now : PeerNow) → now.vars.selected ≡ Some psk_kind → psk_in now.views ≡ peer.over login true → peer_reports now ≡ Some (peer.report_of login)
   unfolding peer_report_of
-  peer_reported now is_selected in_view = ap (selected_report now.views) is_selected ∙ ap peer.report in_view
+  peer_reported now is_selected in_view = ap (selected_report now.views) is_selected ∙ psk_reported (now.views psk_kind) login in_view
+
+server_method_reported : (m : servers.Method) (view : servers.View m) (login : server.Login) → at_server.psk_of m view ≡ Some (server.over login true)
+    → servers.report m view ≡ Some (server.report_of login)
+server_method_reported servers.by_psk view login in_view = ap server.report (same_Some _ _ in_view)
+server_method_reported servers.by_gpsk view login in_view = absurd cc
+server_method_reported (servers.by_other custom) view login in_view = absurd cc
+
+server_psk_reported : (found : Option servers.ServerShown) (login : server.Login) → at_server.psk_shown found ≡ Some (server.over login true)
+    → servers.reported found ≡ Some (server.report_of login)
+unfolding servers.server_report
+server_psk_reported None login in_view = absurd cc
+server_psk_reported (Some s) login in_view = server_method_reported s.method s.view login in_view
 
 module _ (setup : ServerSetup) (login : server.Login) (facts : PskChecked setup login) (r_sent : login.r ≡ 2) where
   by_server : server_agrees setup (server.report_of login) ≡ true
@@ -107,9 +135,9 @@ module _ (setup : ServerSetup) (login : server.Login) (facts : PskChecked setup 
       let barred : facts.user.barred ≡ false = not_barred facts.user.barred login.r facts.r r_sent in
       and_from _ _ facts.ordered (and_from _ _ refl (ap is_welcome facts.known ∙ not_from_false _ barred))
 
-  pub server_reported : (now : ServerNow) → now.vars.current ≡ Some psk_kind → now.views.psk ≡ Some (server.over login true) → server_reports now ≡ Some (server.report_of login)
+  pub server_reported : (now : ServerNow) → now.vars.current ≡ Some psk_kind → psk_at now.views ≡ Some (server.over login true) → server_reports now ≡ Some (server.report_of login)
   unfolding server_report_of
-  server_reported now is_current in_view = ap (current_report now.views) is_current ∙ ap psk_report in_view
+  server_reported now is_current in_view = ap (current_report now.views) is_current ∙ server_psk_reported (now.views psk_kind) login in_view
 
 module _ (peer_setup : PeerSetup) (server_setup : ServerSetup) (p : peer.Login) (begun : PskStarted peer_setup p)
     (s : server.Login) (checked : PskChecked server_setup s)
@@ -131,8 +159,8 @@ module _ (peer_setup : PeerSetup) (server_setup : ServerSetup) (p : peer.Login) 
         | inr one ↦ absurd (other_label (ap (λ (tag : TagRecord). tag.label) one))
       ]
 
-  pub psk_agree : (now : PeerNow) (other : ServerNow) → now.vars.selected ≡ Some psk_kind → now.views.psk ≡ peer.over p true
-      → other.vars.current ≡ Some psk_kind → other.views.psk ≡ Some (server.over s true) → s.r ≡ 2 → IsSame p s
+  pub psk_agree : (now : PeerNow) (other : ServerNow) → now.vars.selected ≡ Some psk_kind → psk_in now.views ≡ peer.over p true
+      → other.vars.current ≡ Some psk_kind → psk_at other.views ≡ Some (server.over s true) → s.r ≡ 2 → IsSame p s
       → agreement_of peer_setup server_setup (peer_reports now) (server_reports other) ≡ true
   psk_agree now other is_selected in_view is_current in_other r_sent same =
       let reports : peer.report_of p ≡ server.report_of s = same_reports p s same in
@@ -148,8 +176,8 @@ module _ (setup : Setup) (w : WorldNow) (login : peer.Login) (facts : PskStarted
   unfolding side_of
   server_name = same.id_s ∙ ap (λ own. own.id_s) checked.own
 
-  pub psk_theirs : w.parties.peer.vars.selected ≡ Some psk_kind → w.parties.peer.views.psk ≡ peer.over login true
-      → w.parties.server.vars.current ≡ Some psk_kind → w.parties.server.views.psk ≡ Some (server.over other true) → other.r ≡ 2 → AreTheirs setup w.parties.peer w.parties.server
+  pub psk_theirs : w.parties.peer.vars.selected ≡ Some psk_kind → psk_in w.parties.peer.views ≡ peer.over login true
+      → w.parties.server.vars.current ≡ Some psk_kind → psk_at w.parties.server.views ≡ Some (server.over other true) → other.r ≡ 2 → AreTheirs setup w.parties.peer w.parties.server
   unfolding peer.report_of
   psk_theirs is_selected in_view is_current in_other r_sent =
       let name : login.cred.id_p ≡ setup.peer.name = own_name setup.peer psk_kind login.cred facts.cred in

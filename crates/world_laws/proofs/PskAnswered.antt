@@ -23,6 +23,7 @@ use Rattle.world_laws.proofs.PskFields.{front_size}
 use Rattle.world_laws.proofs.PskHeaders.{header_created, same_header}
 use Rattle.world_laws.proofs.PskPeerOwners.{labels_apart}
 use Rattle.world_laws.proofs.PskServerOwners.{mac_s_created}
+use Rattle.eap_method.specs.BothPeers.{psk_in}
 
 -- a conversation of the server with this nonce has accepted a PSK-4, whose header ends in its RAND_S
 pub record HasPsk4 (nonce : List ℕ) (accepted : List TagRecord) : Type 0 where
@@ -83,5 +84,5 @@ module _ (psk header : List ℕ) (sealed : ℕ) (tag rand_s : List ℕ) (rand_in
       → PeerTags (peers.setup_with_nonce setup nonce) selected views accepted made → IsIn psk4_tag made → HasAsked nonce rand_s (peer_foreign selected views) accepted
   has_asked selected views accepted made told is =
       let by = created_by_psk (peers.setup_with_nonce setup nonce) selected views accepted made psk4_tag told is refl in
-      let h = view_asked views.psk accepted made by.1 is in
+      let h = view_asked (psk_in views) accepted made by.1 is in
       record { holds = ap (λ (o : Option ℕ). peer_foreign o views) by.0 ∙ h.holds; asks = h.asks }

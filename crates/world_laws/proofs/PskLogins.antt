@@ -4,6 +4,7 @@ use Rattle.login_setup.specs.declared.setup.PeerSetup.{PeerSetup}
 use Rattle.login_setup.specs.declared.setup.ServerSetup.{ServerSetup}
 use Rattle.octet_lists.specs.Among.{psk_kind, gpsk_kind}
 use Rattle.login_setup.specs.Users.{user_of}
+use Rattle.eap_method.specs.BothServers.{psk_at}
 use Rattle.eap_method.specs.declared.values.ServerSide.{ServerSide}
 use Rattle.eap_method.specs.declared.tags.TagRecord.{TagRecord}
 use Rattle.eap_method.specs.declared.values.Report.{Report}
@@ -29,6 +30,7 @@ use Rattle.world_laws.proofs.PskFields.{front_size}
 use Rattle.world_laws.proofs.PskHeaders.{same_sealed}
 use Rattle.world_laws.proofs.PskPeerOwners.{labels_apart}
 use Rattle.world_laws.proofs.SucceedingEnds.{FirstIn, first_in}
+use Rattle.eap_method.specs.BothPeers.{psk_in}
 
 -- the first tag that a conversation of the server accepted is one of this method
 pub first_method : (setup : ServerSetup) (view : server.View) (accepted made : List TagRecord) → PskServerTags setup view accepted made
@@ -97,7 +99,7 @@ module _ (peer_setup : PeerSetup) (server_setup : ServerSetup) (peer_nonce : len
     server_reaches _ _ _ (psk_server_stands.psk_over other good header sealed other_id checked r_sent rand_in r_came) is first =
         checked_reaches other other_id checked is (first.is _ _ refl)
 
-  pub peers_login : (now : PeerNow) (login : peer.Login) → PskStarted peer_setup login → now.vars.selected ≡ Some psk_kind → now.views.psk ≡ peer.over login true
+  pub peers_login : (now : PeerNow) (login : peer.Login) → PskStarted peer_setup login → now.vars.selected ≡ Some psk_kind → psk_in now.views ≡ peer.over login true
       → (theirs : Option Report) → LoginOf server_setup theirs (peer.report_of login) login.cred.psk → PeersLogin peer_setup server_setup now theirs
   unfolding peer.report_of
   peers_login now login facts is_selected in_view theirs found = record {
@@ -133,7 +135,7 @@ module _ (peer_setup : PeerSetup) (server_setup : ServerSetup) (peer_nonce : len
         elim (among_two _ _ _ is) [ inl e ↦ by_psk2 other facts e | inr e ↦ labels_apart (ap (λ (r : TagRecord). r.label) e) ]
 
   pub servers_login : (now : ServerNow) (login : server.Login) → PskChecked server_setup login → login.r ≡ 2 → now.vars.current ≡ Some psk_kind
-      → now.views.psk ≡ Some (server.over login true) → (theirs : Option Report) → ResultsIn peer_setup theirs (server.report_of login) login.psk
+      → psk_at now.views ≡ Some (server.over login true) → (theirs : Option Report) → ResultsIn peer_setup theirs (server.report_of login) login.psk
       → ServersLogin peer_setup server_setup now theirs
   unfolding server.report_of side_of
   servers_login now login checked r_sent is_current in_view theirs found = record {

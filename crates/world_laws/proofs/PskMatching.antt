@@ -39,6 +39,7 @@ use Rattle.tag_book.specs.declared.book.End.TheVariants as end
 use Rattle.tag_book.specs.declared.book.RecordOwner.TheVariants.{Either, Other}
 use Rattle.tag_book.specs.declared.book.TagsVerdict.TheVariants.{Honest}
 use Rattle.tag_book.specs.declared.book.Use.TheVariants.{Accepted, Made}
+use Rattle.eap_method.specs.BothPeers.{psk_in}
 
 module _ (setup : Setup) (last : WorldNow) (ps : List OfPeer) (ss : List OfServer) (all : AllKnown setup last ps ss) where
   -- one in SUCCESS by EAP-PSK has accepted PSK-4
@@ -143,7 +144,7 @@ module _ (setup : Setup) (last : WorldNow) (ps : List OfPeer) (ss : List OfServe
       let known = all.peers p p_is in
       let by = peer_made_by_psk (peers.setup_with_nonce setup.peer (peer_nonce p)) p.now.vars.selected p.now.views p.accepted p.made _ known.stands.tags made refl in
       let won = logins.confirms (peers.setup_with_nonce setup.peer (peer_nonce p)) (servers.setup_with_nonce setup.server (server_nonce s)) known.size (all.servers s s_is).size
-      c.login c.checked c.header c.sealed c.r_came p.now.views.psk p.accepted p.made by.1
+      c.login c.checked c.header c.sealed c.r_came (psk_in p.now.views) p.accepted p.made by.1
       ((first_in s.accepted p.made rests.tag rests.more rests.first rests.is_made).is _ _ c.first) made in
       peer_reported (peers.setup_with_nonce setup.peer (peer_nonce p)) won.login won.facts p.now by.0 won.in_view
       ∙ sym (ap (λ (o : Option ℕ). peer_login o p.now.views) by.0 ∙ ap psk_peer_login won.in_view)

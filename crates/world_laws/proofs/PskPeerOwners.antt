@@ -16,6 +16,7 @@ use Rattle.world_laws.proofs.Among.{among_one, among_two}
 use Rattle.world_laws.proofs.Fields.{ends}
 use Rattle.world_laws.proofs.PeerByMethod.{created_by_psk}
 use Rattle.world_laws.proofs.PskFields.{front_size}
+use Rattle.eap_method.specs.BothPeers.{psk_in}
 
 pub labels_apart : {A : Type 0} → Ak ≡ Tek → A
 labels_apart e = absurd cc
@@ -58,7 +59,7 @@ module _ (psk_key id_p id_s rand_s rand_p mac : List ℕ) (p_size : length rand_
       → (front nonce ≡ rand_p) × (peer_foreign selected views ≡ Some rand_s)
   psk_tags_imply setup nonce selected views accepted made size tags is =
       let by = created_by_psk (peers.setup_with_nonce setup nonce) selected views accepted made mac_p_tag tags is refl in
-      let t = psk_view_implies setup nonce views.psk accepted made size by.1 is in
+      let t = psk_view_implies setup nonce (psk_in views) accepted made size by.1 is in
       (t.0, ap (λ (o : Option ℕ). peer_foreign o views) by.0 ∙ t.1)
 
   pub mac_p_created : OnlyByPeer mac_p_tag rand_p rand_s

@@ -1,8 +1,8 @@
 -- Each turn of a peer's method EAP-PSK: of what came it holds RAND_S alone, it answers the Request, and its view tells the tags.
-use Rattle.std.proofs.Common.{◌≡◌, ℕ, List, [], ◌∷◌, ◌++◌, Bool, true, false, if◌then◌else◌, Some, None, Ok, refl, sym, ap, subst, arith, inl, inr}
+use Rattle.std.proofs.Common.{◌≡◌, ℕ, List, [], ◌∷◌, ◌++◌, Bool, true, false, Some, None, Ok, refl, sym, ap, subst, arith, inl, inr}
 use Rattle.std.proofs.lemmas.Bool.{true≢false}
 use Rattle.login_setup.specs.declared.setup.PeerSetup.{PeerSetup}
-use Rattle.octet_lists.specs.Among.{psk_kind, is_among}
+use Rattle.octet_lists.specs.Among.{psk_kind}
 use Rattle.login_setup.specs.Setup.{accepts_name}
 use Rattle.psk_messages.specs.Message.{psk1}
 use Rattle.psk_messages.specs.Reading as psk_reading
@@ -50,11 +50,6 @@ psk_responds view bytes _ (psk_row.confirms_success _ _ _ _ _ _ _ _ _ _ _ _ _ _ 
 psk_responds view bytes _ (psk_row.confirms_failure _ _ _ _ _ _ _ _ _ _ _ _ _ _ _ _ _ _) = replies_one _ _ _ _ _ _
 
 -- ---- the tags
-
-pub psk_started : (setup : PeerSetup) (allowed : Bool) → is_among setup.methods psk_kind ≡ allowed
-    → PskPeerTags setup (if allowed then psk.fresh (credential_for setup psk_kind) setup.nonce else psk.unset) [] []
-psk_started setup true allowed = psk_fresh allowed
-psk_started setup false allowed = psk_unset
 
 module _ (setup : PeerSetup) (accepted made : List TagRecord) where
   abbrev pub PskTurned : PeerOutcome psk.View → Type 0

@@ -9,7 +9,6 @@ use Rattle.eap_method.specs.PskPeer as psk
 use Rattle.eap_method.specs.PskTags.{ak_record, rand_of, mac_p_octets, mac_s_octets}
 use Rattle.peer_machine.specs.PeerTable as peers
 use Rattle.peer_machine.specs.PeerTable.{PeerNow}
-use Rattle.eap_world.specs.Run.{run_of}
 use Rattle.tag_book.specs.Book.{first_broken, tags_verdict_either}
 use Rattle.eap_world.specs.Conversations.{front}
 use Rattle.eap_world.specs.Judgement.{is_success}
@@ -41,6 +40,8 @@ use Rattle.tag_book.specs.declared.book.End.TheVariants as end
 use Rattle.tag_book.specs.declared.book.RecordOwner.TheVariants.{Either}
 use Rattle.tag_book.specs.declared.book.TagsVerdict.TheVariants.{Honest}
 use Rattle.tag_book.specs.declared.book.Use.TheVariants.{Accepted, Made}
+use Rattle.world_laws.specs.Runs.{run_of}
+use Rattle.eap_method.specs.BothPeers.{psk_in}
 
 -- ---- MAC_S among the tags of a conversation of the peer
 
@@ -72,7 +73,7 @@ module _ (key id_s rand_p mac : List ℕ) (p_size : length rand_p ≡ 16) (setup
   in_tags : (selected : Option ℕ) (views : PeerViews) (accepted made : List TagRecord) → PeerTags (peers.setup_with_nonce setup nonce) selected views accepted made
       → IsIn tag made → front nonce ≡ rand_p
   in_tags selected views accepted made told is =
-      in_view views.psk accepted made (created_by_psk (peers.setup_with_nonce setup nonce) selected views accepted made tag told is refl).1 is
+      in_view (psk_in views) accepted made (created_by_psk (peers.setup_with_nonce setup nonce) selected views accepted made tag told is refl).1 is
 
 -- ---- what a peer that has succeeded by EAP-PSK asks of the server
 

@@ -34,6 +34,8 @@ use Rattle.world_laws.proofs.PskAgrees as psk_agrees
 use Rattle.world_laws.proofs.PskLogins as psk
 use Rattle.world_laws.proofs.ServerByMethod as server_by_method
 use Rattle.world_laws.proofs.SucceedingEnds.{FirstIn, PeerSucceeds, ServerSucceeds, with_psk, with_gpsk, of_psk, of_gpsk, first_in}
+use Rattle.eap_method.specs.BothPeers.{psk_in}
+use Rattle.eap_method.specs.BothPeers.{gpsk_in}
 
 -- ---- one method, and the whole of the nonces
 
@@ -76,7 +78,7 @@ module _ (peer_setup : PeerSetup) (server_setup : ServerSetup) (nonce server_non
   server_on selected views current server_views _ _ (by_method.gpsk_current view server_accepted initial_server is_current in_view theirs) accepted made told tag more first is =
       let taken = whole.first_taken servers_own view server_accepted initial_server theirs tag more first in
       let by = peer_by_method.created_by_gpsk own selected views accepted made tag told is (ap (λ (t : TagRecord). t.method) taken.is) in
-      let both = whole.server_on peer_setup server_setup nonce server_nonce size server_size view tag taken views.gpsk accepted made by.1 is in
+      let both = whole.server_on peer_setup server_setup nonce server_nonce size server_size view tag taken (gpsk_in views) accepted made by.1 is in
       one_by_gpsk selected views nonce current server_views server_nonce by.0 is_current
       (record { rand_s = both.0; rand_p = ap gpsk_whole_rand_p_in in_view ∙ both.1 })
 
@@ -125,14 +127,14 @@ module _ (peer_setup : PeerSetup) (server_setup : ServerSetup) (peer_nonce : len
     psk_reaches login checked is =
         let by = peer_by_method.created_by_psk peer_setup selected views their_accepted their_made _ told is refl in
         reaches_too peer_setup _ _ _ _ (ap (λ (o : Option ℕ). peer_login o views) by.0)
-        (psk.peer_reaches peer_setup server_setup peer_nonce server_nonce login checked views.psk their_accepted their_made by.1 is)
+        (psk.peer_reaches peer_setup server_setup peer_nonce server_nonce login checked (psk_in views) their_accepted their_made by.1 is)
 
     gpsk_reaches : (login : gpsk_server.Login) (pd : List ℕ) → GpskChecked server_setup login false → IsIn (sk_record login.psk (gpsk2_of_login login pd)) their_made
         → ResultsIn peer_setup (peer_login selected views) (gpsk_server.report_of login) login.psk
     gpsk_reaches login pd checked is =
         let by = peer_by_method.created_by_gpsk peer_setup selected views their_accepted their_made _ told is refl in
         reaches_too peer_setup _ _ _ _ (ap (λ (o : Option ℕ). peer_login o views) by.0)
-        (gpsk.peer_reaches peer_setup server_setup peer_nonce server_nonce login pd checked views.gpsk their_accepted their_made by.1 is)
+        (gpsk.peer_reaches peer_setup server_setup peer_nonce server_nonce login pd checked (gpsk_in views) their_accepted their_made by.1 is)
 
     pub servers_login : (now : ServerNow) (accepted made : List TagRecord) → ServerSucceeds server_setup now accepted made → FirstIn accepted their_made
         → ServersLogin peer_setup server_setup now (peer_login selected views)
@@ -150,7 +152,7 @@ module _ (peer_setup : PeerSetup) (server_setup : ServerSetup) (peer_nonce : len
         let is = (first_in _ _ rests.tag rests.more rests.first rests.is_made).is _ _ refl in
         let by = peer_by_method.created_by_psk peer_setup selected views their_accepted their_made _ told is refl in
         ap (λ (o : Option ℕ). peer_login o views) by.0
-        ∙ (psk.rests_reaches peer_setup server_setup peer_nonce server_nonce login checked id views.psk their_accepted their_made by.1 is (back is_current)
+        ∙ (psk.rests_reaches peer_setup server_setup peer_nonce server_nonce login checked id (psk_in views) their_accepted their_made by.1 is (back is_current)
         ∙ sym (psk_agrees.server_reported server_setup login checked r_sent now is_current in_view))
     same_report now _ _ (of_gpsk login pd last_pd is_current in_view checked) rests back =
         gpsk.reaches_whole peer_setup server_setup peer_nonce server_nonce login _
@@ -165,7 +167,7 @@ module _ (peer_setup : PeerSetup) (server_setup : ServerSetup) (peer_nonce : len
         let is = theirs _ (here _) in
         let by = peer_by_method.created_by_psk peer_setup selected views their_accepted their_made _ told is refl in
         same_report now _ _ (of_psk login header sealed id is_current in_view checked r_sent) (record { tag = _; more = _; first = refl; is_made = is })
-        (λ _. psk.psk4_rests peer_setup server_setup peer_nonce server_nonce login header sealed views.psk their_accepted their_made _ by.1
+        (λ _. psk.psk4_rests peer_setup server_setup peer_nonce server_nonce login header sealed (psk_in views) their_accepted their_made _ by.1
         (theirs _ (later _ _ (here _))) back)
     whole_login now _ _ (of_gpsk login pd last_pd is_current in_view checked) theirs back =
         same_report now _ _ (of_gpsk login pd last_pd is_current in_view checked)

@@ -8,6 +8,7 @@ use Rattle.octet_lists.specs.Among.{gpsk_kind, psk_kind}
 use Rattle.octet_lists.specs.declared.suite.Suite.{Suite}
 use Rattle.gpsk_messages.specs.Message.{covered_of}
 use Rattle.eax_mode.specs.Eax.{eax_accepts, eax_tag}
+use Rattle.eap_method.specs.BothServers.{gpsk_at, psk_at}
 use Rattle.eap_method.specs.declared.tags.TagRecord.{TagRecord}
 use Rattle.eap_method.specs.GpskPeer as gpsk_peer
 use Rattle.eap_method.specs.GpskServer as gpsk_server
@@ -38,6 +39,8 @@ use Rattle.world_laws.specs.PskServerInvariant as psk_of_server
 use Rattle.world_laws.specs.Records.{IsIn}
 use Rattle.world_laws.proofs.Among.{among_one, among_two}
 use Rattle.world_laws.proofs.Results.{own_key, own_name}
+use Rattle.eap_method.specs.BothPeers.{gpsk_in}
+use Rattle.eap_method.specs.BothPeers.{psk_in}
 
 -- what holds of each tag of two lists
 pub record OfEach (P : TagRecord → Type 0) (accepted made : List TagRecord) : Type 0 where
@@ -164,7 +167,7 @@ module _ (setup : PeerSetup) (nonce : List ℕ) where
 
     -- by EAP-GPSK
     gpsk_peer_right : (login : gpsk_peer.Login) (list : List ℕ) → GpskStarted peer_own login list → peer_login selected views ≡ Some (gpsk_peer.report_of login)
-        → gpsk_whole_rand_s views.gpsk ≡ Some login.rand_s → (t : TagRecord) → peer_gpsk_right login t → peer_right t
+        → gpsk_whole_rand_s (gpsk_in views) ≡ Some login.rand_s → (t : TagRecord) → peer_gpsk_right login t → peer_right t
     unfolding gpsk_peer.report_of
     gpsk_peer_right login list facts leads knows t right = record {
       report = gpsk_peer.report_of login;
@@ -176,7 +179,7 @@ module _ (setup : PeerSetup) (nonce : List ℕ) where
     }
 
     gpsk_peer_tags : (view : gpsk_peer.View) (accepted made : List TagRecord) → GpskPeerTags peer_own view accepted made
-        → peer_login selected views ≡ gpsk_peer_login view → gpsk_whole_rand_s views.gpsk ≡ gpsk_whole_rand_s view → OfEach peer_right accepted made
+        → peer_login selected views ≡ gpsk_peer_login view → gpsk_whole_rand_s (gpsk_in views) ≡ gpsk_whole_rand_s view → OfEach peer_right accepted made
     gpsk_peer_tags _ _ _ gpsk_of_peer.gpsk_unset leads knows = record { accepted_so = none_so peer_right; made_so = none_so peer_right }
     gpsk_peer_tags _ _ _ (gpsk_of_peer.gpsk_fresh allowed) leads knows = record { accepted_so = none_so peer_right; made_so = none_so peer_right }
     gpsk_peer_tags _ _ _ (gpsk_of_peer.gpsk_waits login list facts) leads knows =
@@ -203,8 +206,8 @@ module _ (setup : PeerSetup) (nonce : List ℕ) where
 
     pub peer_tags_right : (accepted made : List TagRecord) → PeerTags peer_own selected views accepted made → OfEach peer_right accepted made
     peer_tags_right _ _ (none_selected none psk_none gpsk_none) = record { accepted_so = none_so peer_right; made_so = none_so peer_right }
-    peer_tags_right accepted made (psk_selected _ _ is told) = psk_peer_tags views.psk accepted made told (selected_is psk_kind is)
-    peer_tags_right accepted made (gpsk_selected _ _ is told) = gpsk_peer_tags views.gpsk accepted made told (selected_is gpsk_kind is) refl
+    peer_tags_right accepted made (psk_selected _ _ is told) = psk_peer_tags (psk_in views) accepted made told (selected_is psk_kind is)
+    peer_tags_right accepted made (gpsk_selected _ _ is told) = gpsk_peer_tags (gpsk_in views) accepted made told (selected_is gpsk_kind is) refl
 
 -- ---- the server by EAP-PSK
 
@@ -275,7 +278,7 @@ module _ (setup : ServerSetup) (nonce : List ℕ) (current : Option ℕ) (views 
 
   -- by EAP-PSK
   psk_server_right : (login : psk_server.Login) → PskChecked server_own login → server_login current views ≡ Some (psk_server.report_of login)
-      → psk_rand_p_in views.psk ≡ Some login.rand_p → (t : TagRecord) → server_psk_right login t → server_right t
+      → psk_rand_p_in (psk_at views) ≡ Some login.rand_p → (t : TagRecord) → server_psk_right login t → server_right t
   unfolding psk_server.report_of
   psk_server_right login facts leads knows t right = record {
     report = psk_server.report_of login;
@@ -288,7 +291,7 @@ module _ (setup : ServerSetup) (nonce : List ℕ) (current : Option ℕ) (views 
   }
 
   psk_server_tags : (view : psk_server.View) (accepted made : List TagRecord) → PskServerTags server_own view accepted made
-      → server_login current views ≡ psk_server_login (Some view) → psk_rand_p_in views.psk ≡ psk_rand_p_in (Some view) → OfEach server_right accepted made
+      → server_login current views ≡ psk_server_login (Some view) → psk_rand_p_in (psk_at views) ≡ psk_rand_p_in (Some view) → OfEach server_right accepted made
   psk_server_tags _ _ _ (psk_of_server.psk_asked ordered) leads knows = record { accepted_so = none_so server_right; made_so = none_so server_right }
   psk_server_tags _ _ _ psk_of_server.psk_refused leads knows = record { accepted_so = none_so server_right; made_so = none_so server_right }
   psk_server_tags _ _ _ (psk_of_server.psk_checked login id facts) leads knows =
@@ -306,7 +309,7 @@ module _ (setup : ServerSetup) (nonce : List ℕ) (current : Option ℕ) (views 
 
   -- by EAP-GPSK
   gpsk_server_right : (login : gpsk_server.Login) (barred : Bool) → GpskChecked server_own login barred
-      → server_login current views ≡ Some (gpsk_server.report_of login) → gpsk_whole_rand_p_in views.gpsk ≡ Some login.rand_p
+      → server_login current views ≡ Some (gpsk_server.report_of login) → gpsk_whole_rand_p_in (gpsk_at views) ≡ Some login.rand_p
       → (t : TagRecord) → server_gpsk_right login t → server_right t
   unfolding gpsk_server.report_of
   gpsk_server_right login barred facts leads knows t right = record {
@@ -320,7 +323,7 @@ module _ (setup : ServerSetup) (nonce : List ℕ) (current : Option ℕ) (views 
   }
 
   gpsk_server_tags : (view : gpsk_server.View) (accepted made : List TagRecord) → GpskServerTags server_own view accepted made
-      → server_login current views ≡ gpsk_server_login (Some view) → gpsk_whole_rand_p_in views.gpsk ≡ gpsk_whole_rand_p_in (Some view)
+      → server_login current views ≡ gpsk_server_login (Some view) → gpsk_whole_rand_p_in (gpsk_at views) ≡ gpsk_whole_rand_p_in (Some view)
       → OfEach server_right accepted made
   gpsk_server_tags _ _ _ (gpsk_of_server.gpsk_asked ordered) leads knows = record { accepted_so = none_so server_right; made_so = none_so server_right }
   gpsk_server_tags _ _ _ gpsk_of_server.gpsk_refusing leads knows = record { accepted_so = none_so server_right; made_so = none_so server_right }

@@ -51,7 +51,7 @@ module _ (setup : ServerSetup) (now : ServerNow) (accepted made : List TagRecord
       → rows.Receives now bytes id kind body → rows.Turns now id kind body answered after
       → Receives (Some (data_read (packet_of bytes))) before (server_foreign now.vars.current after)
   called_received bytes id kind body answered after heard turned =
-      by (turn_received now.vars.setup.users (next_id now.vars) kind now.views (spelled (response id kind body)) _ (turn_of now.vars.setup.users (next_id now.vars) kind now.views (spelled (response id kind body))))
+      by (turn_received now.vars.setup.users (next_id now.vars) kind now.views (spelled (response id kind body)) _ (turn_of now.vars.setup.users (next_id now.vars) kind now.views (spelled (response id kind body)) stands.both))
     where
       is_after : (server_turn now.vars.setup.users (next_id now.vars) kind now.views (spelled (response id kind body))).after ≡ after
       is_after = ap (λ (out : ServerOutcome ServerViews). out.after) turned.is_turn
@@ -101,7 +101,7 @@ module _ (setup : ServerSetup) (now : ServerNow) (accepted made : List TagRecord
   -- a method that is offered holds none, and without an object of it all views stay
   offered_none : (kind : ℕ) (packet : List ℕ) (views : ServerViews) → Offers setup kind now.views (record { packet = Some packet; after = views })
       → server_foreign (Some kind) views ≡ None
-  offered_none kind _ _ (asks packet after tags) = untagged_none setup (Some kind) after [] [] tags refl
+  offered_none kind _ _ (asks packet after both tags) = untagged_none setup (Some kind) after [] [] tags refl
 
   offered_same : (kind : ℕ) (views : ServerViews) → Offers setup kind now.views (record { packet = None; after = views }) → views ≡ now.views
   offered_same kind _ lacks = refl
@@ -123,10 +123,10 @@ module _ (setup : ServerSetup) (now : ServerNow) (accepted made : List TagRecord
   row_received _ _ later no_restart (rows.times_out going late) = as_before refl
   row_received _ _ later no_restart (rows.proposes bytes id kind body entered vars desired next packet views heard selects next_is) =
       let was = unheard id kind body entered vars desired selects in
-      as_before (offered_none next packet views (proposes_own setup now vars desired next _ was.own next_is) ∙ sym was.none)
+      as_before (offered_none next packet views (proposes_own setup now stands.both vars desired next _ was.own next_is) ∙ sym was.none)
   row_received _ _ later no_restart (rows.proposes_without bytes id kind body entered vars desired next views heard selects next_is) =
       let was = unheard id kind body entered vars desired selects in
-      gives_up vars views (offered_same next views (proposes_own setup now vars desired next _ was.own next_is)) was.current
+      gives_up vars views (offered_same next views (proposes_own setup now stands.both vars desired next _ was.own next_is)) was.current
   row_received _ _ later no_restart (rows.proposes_none bytes id kind body entered vars desired heard selects none) =
       gives_up vars now.views refl (unheard id kind body entered vars desired selects).current
   row_received _ _ later no_restart (rows.requests bytes id kind body packet tags views heard turned) = called_received bytes id kind body _ views heard turned

@@ -13,13 +13,16 @@ use Rattle.eap_method.specs.declared.tags.TagRecord.{TagRecord}
 use Rattle.eap_method.specs.Tags.{Tags, no_tags}
 use Rattle.eap_method.specs.ServerTurn.{ServerTurn}
 use Rattle.eap_method.specs.ServerTurn as turn
+use Rattle.eap_method.specs.BothServers.{both_of}
 use Rattle.eap_method.specs.Server.{ServerViews, Offer, server_turn}
+use Rattle.eap_method.specs.Turns.{ServerOutcome}
 use Rattle.server_machine.specs.Expanded.{response_octets, discards_bad, wraps_sent}
 use Rattle.server_machine.specs.Inputs.{ServerInput, start, restart, server_answers, server_accepts}
 use Rattle.server_machine.specs.Inputs as inputs
 use Rattle.server_machine.specs.Rows as rows
 use Rattle.server_machine.specs.Rows.{Selects, after_identity, after_nak, first_identity, first_nak, first_other}
-use Rattle.server_machine.specs.ServerTable.{ServerNow, ServerAnswer, setup_with_nonce, initial_server, server_restart, next_id, with_request, offers, is_proposed, is_started, awaits_first, is_backend, picked_up, server_deliver, server_start}
+use Rattle.server_machine.specs.ServerTable as wide
+use Rattle.server_machine.specs.ServerTable.{ServerNow, ServerAnswer, setup_with_nonce, server_restart, next_id, with_request, offers, is_proposed, is_started, awaits_first, is_backend, picked_up, server_deliver, server_start}
 use Rattle.server_machine.specs.declared.variables.Role.{Role}
 use Rattle.server_machine.proofs.Receiving.{ServerReceiving, as_it_is, bad, wrapping}
 use Rattle.server_machine.proofs.ServerRows.{server_answers_are_rows}
@@ -29,33 +32,44 @@ use Rattle.server_machine.specs.declared.variables.ServerVariables.{ServerVariab
 use Rattle.eap_world.specs.Judgement.{is_success}
 use Rattle.world_laws.specs.ByMethod.{ServerHasSucceeded, ServerTags, identity_current, none_current}
 use Rattle.world_laws.specs.Records.{AreFew, AreNone, untagged}
-use Rattle.world_laws.specs.ServerInvariant.{IsUntouched, ServerInvariant}
+use Rattle.world_laws.specs.Runs.{initial_server}
+use Rattle.world_laws.specs.ServerInvariant.{IsUntouched, ServerHasBoth, ServerInvariant}
 use Rattle.world_laws.proofs.OneMethod.{goes_on}
+use Rattle.world_laws.proofs.ServerObjects.{both_after, both_are, both_started}
 use Rattle.world_laws.proofs.ServerByMethod.{MethodTurned, in_identity, in_none, method_turned, proposes_own, tags_few, turn_of}
 use Rattle.world_laws.proofs.ServerTurns.{Offers, asks, ends, lacks, requests}
 use Rattle.world_laws.proofs.Accepting.{server_accepted_tags}
 
 -- ---- the begin
 
+module _ (of : Role) (setup : ServerSetup) (views : ServerViews) (both : ServerHasBoth setup.methods views) (first_id max_retrans : ℕ) where
+  initiates_with : ServerInvariant setup (wide.initial_server of setup views first_id max_retrans) [] []
+  initiates_with = record {
+    own = refl;
+    both = both_started setup views both;
+    tags = none_current refl;
+    unstarted = λ _. record { no_method = refl; no_id = refl };
+    proposed = λ _. untagged;
+    sure = λ e. absurd (false≢true e);
+  }
+
+  starts_with : (let out = server_start (wide.initial_server of setup views first_id max_retrans) in ServerInvariant setup out.after [] [])
+  unfolding server_start
+  starts_with = record {
+    own = refl;
+    both = both_started setup views both;
+    tags = identity_current refl;
+    unstarted = λ e. absurd (false≢true (sym e));
+    proposed = λ _. untagged;
+    sure = λ e. absurd (false≢true e);
+  }
+
 pub server_initiates : (of : Role) (setup : ServerSetup) (first_id max_retrans : ℕ) → ServerInvariant setup (initial_server of setup first_id max_retrans) [] []
-server_initiates of setup first_id max_retrans = record {
-  own = refl;
-  tags = none_current refl;
-  unstarted = λ _. record { no_method = refl; no_id = refl };
-  proposed = λ _. untagged;
-  sure = λ e. absurd (false≢true e);
-}
+server_initiates of setup = initiates_with of setup (both_of setup.methods) (both_are setup.methods)
 
 pub started_invariant : (of : Role) (setup : ServerSetup) (first_id max_retrans : ℕ)
     → (let out = server_start (initial_server of setup first_id max_retrans) in ServerInvariant setup out.after [] [])
-unfolding server_start
-started_invariant of setup first_id max_retrans = record {
-  own = refl;
-  tags = identity_current refl;
-  unstarted = λ e. absurd (false≢true (sym e));
-  proposed = λ _. untagged;
-  sure = λ e. absurd (false≢true e);
-}
+started_invariant of setup = starts_with of setup (both_of setup.methods) (both_are setup.methods)
 
 -- ---- the calls
 
@@ -85,6 +99,7 @@ module _ (setup : ServerSetup) (now : ServerNow) (accepted made : List TagRecord
       accepted made
   remains s id p count unstarted proposed sure = record {
     own = stands.own;
+    both = stands.both;
     tags = stands.tags;
     unstarted = λ e. let untouched = unstarted e in record { no_method = untouched.no_method; no_id = untouched.no_id };
     proposed = proposed;
@@ -105,14 +120,20 @@ module _ (setup : ServerSetup) (now : ServerNow) (accepted made : List TagRecord
       (subst (λ (users : List User). MethodTurned setup now.vars.current accepted made (server_turn users (next_id now.vars) kind now.views (spelled (response id kind body))))
       (sym own_users)
       (method_turned setup now.vars.current now.views accepted made stands.tags (next_id now.vars) kind _ _ turned.is_current
-      (turn_of setup.users (next_id now.vars) kind now.views (spelled (response id kind body)))))
+      (turn_of setup.users (next_id now.vars) kind now.views (spelled (response id kind body)) stands.both)))
+
+  still_both : (id kind : ℕ) (body : List ℕ) (answered : ServerTurn) (views : ServerViews) → rows.Turns now id kind body answered views → ServerHasBoth setup.methods views
+  still_both id kind body answered views turned =
+      subst (λ (out : ServerOutcome ServerViews). ServerHasBoth setup.methods out.after) turned.is_turn
+      (both_after stands.both now.vars.setup.users (next_id now.vars) kind (spelled (response id kind body)))
 
   after_request : (packet : List ℕ) (tags : Tags) (views : ServerViews) → MethodTurned setup now.vars.current accepted made (record { turn = turn.Request packet tags; after = views })
-      → (is_started now.vars ≡ false → ⊥) → (is_success now.vars.state ≡ true → ⊥)
+      → ServerHasBoth setup.methods views → (is_started now.vars ≡ false → ⊥) → (is_success now.vars.state ≡ true → ⊥)
       → ServerInvariant setup (record { vars = record (with_request now.vars packet) { progress = progress.Continue }; views = views })
       (accepted ++ tags.accepted) (made ++ tags.made)
-  after_request _ _ _ (requests _ _ _ told) begun unsure = record {
+  after_request _ _ _ (requests _ _ _ told) both begun unsure = record {
     own = stands.own;
+    both = both;
     tags = told;
     unstarted = λ e. absurd (begun e);
     proposed = λ e. absurd (false≢true e);
@@ -120,11 +141,12 @@ module _ (setup : ServerSetup) (now : ServerNow) (accepted made : List TagRecord
   }
 
   after_end : (good : Bool) (tags : Tags) (views : ServerViews) → MethodTurned setup now.vars.current accepted made (record { turn = turn.Done good tags; after = views })
-      → (s : State) → is_started (record now.vars { state = s }) ≡ true → (is_success s ≡ true → good ≡ true)
+      → ServerHasBoth setup.methods views → (s : State) → is_started (record now.vars { state = s }) ≡ true → (is_success s ≡ true → good ≡ true)
       → ServerInvariant setup (record { vars = record now.vars { progress = progress.End; state = s }; views = views })
       (accepted ++ tags.accepted) (made ++ tags.made)
-  after_end _ _ _ (ends _ _ _ told well) s begun sure = record {
+  after_end _ _ _ (ends _ _ _ told well) both s begun sure = record {
     own = stands.own;
+    both = both;
     tags = told;
     unstarted = λ e. absurd (false≢true (sym e ∙ begun));
     proposed = λ e. absurd (false≢true e);
@@ -175,8 +197,9 @@ module _ (setup : ServerSetup) (now : ServerNow) (accepted made : List TagRecord
   -- a method is offered, or there is no object of it
   offered : (entered : List State) (vars : ServerVariables) (id kind : ℕ) → Proposing vars → (offer : Offer) → Offers setup kind now.views offer
       → Preserves setup accepted made (offers entered vars offer.after id kind offer.packet)
-  offered entered vars id kind at _ (asks packet after tags) = quiet setup accepted made _ refl (record {
+  offered entered vars id kind at _ (asks packet after both tags) = quiet setup accepted made _ refl (record {
     own = at.own;
+    both = both;
     tags = none_told at.none tags;
     unstarted = λ e. absurd (at.begun e);
     proposed = λ _. at.none;
@@ -186,7 +209,7 @@ module _ (setup : ServerSetup) (now : ServerNow) (accepted made : List TagRecord
 
   offer_preserves : (entered : List State) (vars : ServerVariables) (desired : Option (List ℕ)) (id kind : ℕ) (offer : Offer) → Proposing vars
       → rows.Proposes now vars desired kind offer → Preserves setup accepted made (offers entered vars offer.after id kind offer.packet)
-  offer_preserves entered vars desired id kind offer at next = offered entered vars id kind at offer (proposes_own setup now vars desired kind offer at.own next)
+  offer_preserves entered vars desired id kind offer at next = offered entered vars id kind at offer (proposes_own setup now stands.both vars desired kind offer at.own next)
 
   row_preserves : (input : ServerInput) (out : ServerAnswer) → (input ≡ start → ⊥) → ((nonce : List ℕ) → input ≡ restart nonce → ⊥)
       → rows.ServerRow now input out → Preserves setup accepted made out
@@ -207,12 +230,12 @@ module _ (setup : ServerSetup) (now : ServerNow) (accepted made : List TagRecord
       quiet setup accepted made _ refl (proposing (goes_on now.vars.state heard.going) id kind body entered vars desired selects).gives_up
   row_preserves _ _ later same (rows.requests bytes id kind body packet tags views heard turned) =
       record {
-        stands = after_request packet tags views (turned_to id kind body _ views turned) (started_by id turned.is_id) (goes_on now.vars.state heard.going);
+        stands = after_request packet tags views (turned_to id kind body _ views turned) (still_both id kind body _ views turned) (started_by id turned.is_id) (goes_on now.vars.state heard.going);
       }
   row_preserves _ _ later same (rows.succeeds bytes id kind body tags views heard turned) =
-      record { stands = after_end true tags views (turned_to id kind body _ views turned) _ refl (λ _. refl) }
+      record { stands = after_end true tags views (turned_to id kind body _ views turned) (still_both id kind body _ views turned) _ refl (λ _. refl) }
   row_preserves _ _ later same (rows.method_fails bytes id kind body tags views heard turned) =
-      record { stands = after_end false tags views (turned_to id kind body _ views turned) _ refl (λ e. e) }
+      record { stands = after_end false tags views (turned_to id kind body _ views turned) (still_both id kind body _ views turned) _ refl (λ e. e) }
 
   -- by the table alone
   abbrev IsConsistent : ServerInput → ServerAnswer → Type 0
@@ -233,6 +256,7 @@ module _ (setup : ServerSetup) (now : ServerNow) (accepted made : List TagRecord
       (λ _. record {
         stands = record {
           own = s.own;
+          both = s.both;
           tags = s.tags;
           unstarted = λ e. record { no_method = (s.unstarted e).no_method; no_id = (s.unstarted e).no_id };
           proposed = s.proposed;
@@ -262,14 +286,15 @@ server_preserves setup now accepted made input later same stands =
 
 -- a server of these settings that begins a new conversation stands as one that was made, or has started, with the new
 -- nonce
-pub server_invariant_anew : (setup : ServerSetup) (now : ServerNow) (nonce : List ℕ) → now.vars.setup ≡ setup
+pub server_invariant_anew : (setup : ServerSetup) (now : ServerNow) (nonce : List ℕ) → now.vars.setup ≡ setup → ServerHasBoth setup.methods now.views
     → ServerInvariant (setup_with_nonce setup nonce) (server_accepts now (restart nonce)).after [] []
 unfolding server_restart
-server_invariant_anew setup now nonce own =
+server_invariant_anew setup now nonce own both =
+    let set : ServerHasBoth now.vars.setup.methods now.views = subst (λ (s : ServerSetup). ServerHasBoth s.methods now.views) (sym own) both in
     subst (λ (s : ServerSetup). ServerInvariant (setup_with_nonce s nonce) (server_restart now nonce).after [] []) own
     (cond_both (is_backend now.vars) _ _ (λ (out : ServerAnswer). ServerInvariant (setup_with_nonce now.vars.setup nonce) out.after [] [])
-    (λ _. server_initiates now.vars.role (setup_with_nonce now.vars.setup nonce) now.vars.first_id now.vars.max_retrans)
-    (λ _. started_invariant now.vars.role (setup_with_nonce now.vars.setup nonce) now.vars.first_id now.vars.max_retrans))
+    (λ _. initiates_with now.vars.role (setup_with_nonce now.vars.setup nonce) now.views set now.vars.first_id now.vars.max_retrans)
+    (λ _. starts_with now.vars.role (setup_with_nonce now.vars.setup nonce) now.views set now.vars.first_id now.vars.max_retrans))
 
 -- it has made no tag in it
 pub server_tags_none : (now : ServerNow) (nonce : List ℕ) → (server_accepts now (restart nonce)).step.tags ≡ no_tags

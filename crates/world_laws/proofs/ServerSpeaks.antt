@@ -7,6 +7,7 @@ use Rattle.eap_packet.specs.Fault.{code_of}
 use Rattle.eap_packet.specs.Packet.{response, success, failure, spelled}
 use Rattle.eap_packet.specs.declared.state.State.{State}
 use Rattle.eap_packet.specs.declared.state.State.TheVariants as state
+use Rattle.world_laws.specs.ServerInvariant.{ServerHasBoth}
 use Rattle.eap_method.specs.Server.{Offer, ServerViews, side_of}
 use Rattle.eap_method.specs.Steps.{is_end}
 use Rattle.eap_method.specs.Turns.{ServerOutcome}
@@ -74,7 +75,7 @@ unstarted_proceeds s e = absurd (false≢true (sym e))
 one_end : (packet : List ℕ) → IsEnd packet → (other : List ℕ) → Some packet ≡ Some other → IsEnd other
 one_end packet is other e = let same : packet ≡ other = cc in subst IsEnd same is
 
-module _ (now : ServerNow) where
+module _ {methods : List ℕ} (now : ServerNow) (both : ServerHasBoth methods now.views) where
   follows_id : (id : ℕ) → now.vars.current_id ≡ Some id → Follows now (next_id now.vars)
   follows_id id is_id = record { before = id; was = is_id; next = ap (next_id_after now.vars.first_id) is_id }
 
@@ -119,7 +120,7 @@ module _ (now : ServerNow) where
   row_speaks _ _ (rows.proposes bytes id kind body entered vars desired next packet views heard selects next_is) =
       asks packet (next_id vars)
       (offer_asks (side_of vars.setup) vars.setup.nonce next (next_id vars) now.views _
-      (offer_of (side_of vars.setup) vars.setup.nonce next (next_id vars) now.views) packet (ap (λ (offer : Offer). offer.packet) next_is.is_offer))
+      (offer_of (side_of vars.setup) vars.setup.nonce next (next_id vars) now.views both) packet (ap (λ (offer : Offer). offer.packet) next_is.is_offer))
       heard.going refl (selects_new id kind body entered vars desired _ selects refl) refl refl
       (λ alone _. selects_next id kind body entered vars desired selects alone)
   row_speaks _ _ (rows.proposes_without bytes id kind body entered vars desired next views heard selects next_is) =
@@ -129,7 +130,7 @@ module _ (now : ServerNow) where
   row_speaks _ _ (rows.requests bytes id kind body packet tags views heard turned) =
       asks packet (next_id now.vars)
       ((turn_asks now.vars.setup.users (next_id now.vars) kind now.views _ _
-      (turn_of now.vars.setup.users (next_id now.vars) kind now.views (spelled (response id kind body)))).each packet tags
+      (turn_of now.vars.setup.users (next_id now.vars) kind now.views (spelled (response id kind body)) both)).each packet tags
       (ap (λ (out : ServerOutcome ServerViews). out.turn) turned.is_turn))
       heard.going refl refl refl refl (λ _ _. follows_id id turned.is_id)
   row_speaks _ _ (rows.succeeds bytes id kind body tags views heard turned) = ends heard.going refl refl (one_end _ (success_is id))
@@ -137,12 +138,12 @@ module _ (now : ServerNow) where
 
 -- ---- with Expanded Types
 
-module _ (now : ServerNow) where
+module _ {methods : List ℕ} (now : ServerNow) (both : ServerHasBoth methods now.views) where
   abbrev Speaks : ServerInput → ServerAnswer → Type 0
   Speaks input out = ServerSpeaks now input out
 
   answer_speaks : (input : ServerInput) → Speaks input (server_answers now input)
-  answer_speaks input = row_speaks now input _ (server_answers_are_rows now input)
+  answer_speaks input = row_speaks now both input _ (server_answers_are_rows now input)
 
   -- a Success and a Failure aren't wrapped
   end_wraps : (out : ServerAnswer) (packet : List ℕ) → IsEnd packet → wraps_sent out (Some packet) ≡ out
@@ -183,5 +184,5 @@ module _ (now : ServerNow) where
   receiving_speaks bytes _ (wrapping id kind body answers good) =
       wraps_speak bytes (response_octets now.vars bytes id kind body) _ (answer_speaks (octets _))
 
-pub server_speaks : (now : ServerNow) (input : ServerInput) → ServerSpeaks now input (server_accepts now input)
-server_speaks now = server_accepted_tags now (ServerSpeaks now) (answer_speaks now) (receiving_speaks now)
+pub server_speaks : {methods : List ℕ} (now : ServerNow) → ServerHasBoth methods now.views → (input : ServerInput) → ServerSpeaks now input (server_accepts now input)
+server_speaks now both = server_accepted_tags now (ServerSpeaks now) (answer_speaks now both) (receiving_speaks now both)

@@ -4,6 +4,7 @@ use Rattle.login_setup.specs.declared.setup.ServerSetup.{ServerSetup}
 use Rattle.eap_packet.specs.Fault.{code_of}
 use Rattle.eap_packet.specs.Packet.{request, spelled}
 use Rattle.eap_packet.specs.declared.cause.Cause.{Cause}
+use Rattle.world_laws.specs.ServerInvariant.{ServerHasBoth}
 use Rattle.eap_method.specs.declared.tags.TagRecord.{TagRecord}
 use Rattle.eap_method.specs.Server.{Offer, ServerViews}
 use Rattle.eap_method.specs.ServerTurn.{ServerTurn}
@@ -59,8 +60,9 @@ carried into shows wins _ (drops view c) = drops _ c
 carried into shows wins _ (requests packet tags view told) = requests packet tags _ (shows _ _ _ told)
 carried into shows wins _ (ends good tags view told well) = ends good tags _ (shows _ _ _ told) (λ e. wins _ (well e))
 
--- the offer of a method: its view then says that it has asked; without an object of it all views stay
+-- the offer of a method: its view then says that it has asked, and the objects are of both methods still; without an object of
+-- it all views stay
 pub data Offers (setup : ServerSetup) (kind : ℕ) (views : ServerViews) : Offer → Type 0 where
-  asks : (packet : List ℕ) (after : ServerViews) (tags : ServerTags setup (Some kind) after [] [])
+  asks : (packet : List ℕ) (after : ServerViews) (both : ServerHasBoth setup.methods after) (tags : ServerTags setup (Some kind) after [] [])
       → Offers setup kind views (record { packet = Some packet; after = after })
   lacks : Offers setup kind views (record { packet = None; after = views })

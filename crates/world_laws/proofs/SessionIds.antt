@@ -17,7 +17,6 @@ use Rattle.peer_machine.specs.PeerTable.{PeerNow}
 use Rattle.server_machine.specs.ServerTable as servers
 use Rattle.eap_world.specs.Conversations.{front}
 use Rattle.eap_world.specs.Judgement.{is_success}
-use Rattle.eap_world.specs.Run.{run_of}
 use Rattle.eap_world.specs.World.{WorldNow}
 use Rattle.world_laws.specs.ByMethod as by_method
 use Rattle.world_laws.specs.ByMethod.{PeerTags}
@@ -36,6 +35,9 @@ use Rattle.world_laws.proofs.OneOf.{first_of, second_of}
 use Rattle.world_laws.proofs.PskAgrees as psk
 use Rattle.world_laws.proofs.PskFields.{front_size}
 use Rattle.world_laws.proofs.SucceedingEnds.{BothSucceed, both_succeed, by_gpsk, by_psk, first_in}
+use Rattle.world_laws.specs.Runs.{run_of}
+use Rattle.eap_method.specs.BothPeers.{psk_in}
+use Rattle.eap_method.specs.BothPeers.{gpsk_in}
 
 -- ---- both ends of one login
 
@@ -114,9 +116,9 @@ from_nonce : (setup : PeerSetup) (now : PeerNow) (accepted made : List TagRecord
 from_nonce setup now _ _ (by_method.none_selected unselected psk_verdict gpsk_verdict) x is =
     absurd (let e = sym (ap (peer_session_of now) unselected) ∙ is in cc e)
 from_nonce setup now _ _ (by_method.psk_selected accepted made is_selected told) x is =
-    of_psk_view setup now.views.psk accepted made told x (sym (ap (peer_session_of now) is_selected) ∙ is)
+    of_psk_view setup (psk_in now.views) accepted made told x (sym (ap (peer_session_of now) is_selected) ∙ is)
 from_nonce setup now _ _ (by_method.gpsk_selected accepted made is_selected told) x is =
-    of_gpsk_view setup now.views.gpsk accepted made told x (sym (ap (peer_session_of now) is_selected) ∙ is)
+    of_gpsk_view setup (gpsk_in now.views) accepted made told x (sym (ap (peer_session_of now) is_selected) ∙ is)
 
 tails : (a b : ℕ) (xs ys : List ℕ) → a ∷ xs ≡ b ∷ ys → xs ≡ ys
 tails a b xs ys e = cc

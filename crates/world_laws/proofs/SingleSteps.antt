@@ -27,12 +27,11 @@ use Rattle.server_machine.specs.declared.variables.Role.TheVariants as role
 use Rattle.server_machine.proofs.Starting.{stays_as_it_is}
 use Rattle.pass_through.specs.Inputs.{PassInput, pass_accepts}
 use Rattle.pass_through.specs.PassTable.{Side, is_over}
-use Rattle.eap_world.specs.Run.{run_of}
 use Rattle.eap_world.specs.Judgement.{is_success}
 use Rattle.eap_world.specs.Conversations.{Conversations}
 use Rattle.eap_world.specs.Sent.{Sent, last_to, packet_numbered}
 use Rattle.world_laws.specs.SingleSteps.{identifier_of, delivered_in, is_delivery_of, is_restart, Sends, AnswersIt, is_again, CountsOn, has_ended, end_state, StepsAreLawful}
-use Rattle.eap_world.specs.World.{Call, Parties, WorldNow, WorldOutcome, act, call_at, call_of, call_with, act_of_call, called_unless, conversations_after, conversed_by, conversed_unless, first_skip, port_to, reported_anew, reported_before, reported_unless, is_alone, is_delivery, pass_port, pass_state, restart_call, restart_skips, role_in, run_after, sent_to, skip_table, act_of_skip, start_call, state_of, timer_call, timer_skips, to_pass, to_peer, to_server, initial_world, world_start, world_step}
+use Rattle.eap_world.specs.World.{Call, Parties, WorldNow, WorldOutcome, act, call_at, call_of, call_with, act_of_call, called_unless, conversations_after, conversed_by, conversed_unless, first_skip, port_to, reported_anew, reported_before, reported_unless, is_alone, is_delivery, pass_port, pass_state, restart_call, restart_skips, role_in, run_after, sent_to, skip_table, act_of_skip, start_call, state_of, timer_call, timer_skips, to_pass, to_peer, to_server, world_start, world_step}
 use Rattle.tag_book.specs.declared.book.End.{End}
 use Rattle.tag_book.specs.declared.book.End.TheVariants as end
 use Rattle.tag_book.specs.declared.book.Use.TheVariants.{Accepted}
@@ -40,16 +39,19 @@ use Rattle.eap_world.specs.declared.told.Skip.{Skip}
 use Rattle.world_laws.specs.EndInvariants.{BothInvariants, present_tags}
 use Rattle.world_laws.proofs.Acting.{counted_acted, next_is, restart_is, some_call, step_steps}
 use Rattle.world_laws.proofs.AsksByMethod.{peer_accepted, server_accepted}
-use Rattle.world_laws.proofs.EndInvariants.{every_run_so_far, step_invariant}
+use Rattle.world_laws.proofs.EndInvariants.{InvariantSoFar, start_invariant, step_invariant}
 use Rattle.world_laws.proofs.OneMethod.{some_same}
 use Rattle.world_laws.proofs.SucceedingEnds.{peer_succeeds, server_succeeds}
-use Rattle.world_laws.proofs.LastSent.{Fits, HaveSent, call_has_sent, is_first_line, starts_pass}
+use Rattle.world_laws.proofs.LastSent.{IsFitting, HaveSent, call_has_sent, is_first_line, starts_pass}
 use Rattle.world_laws.proofs.PassSpeaks as passing
 use Rattle.world_laws.proofs.PassSpeaks.{PassSpeaks, pass_speaks}
 use Rattle.world_laws.proofs.PeerSpeaks as peering
 use Rattle.world_laws.proofs.PeerSpeaks.{PeerSpeaks, peer_speaks}
 use Rattle.world_laws.proofs.ServerSpeaks as serving
 use Rattle.world_laws.proofs.ServerSpeaks.{ServerSpeaks, server_speaks}
+use Rattle.world_laws.specs.Runs.{initial_world, run_of}
+use Rattle.world_laws.proofs.PeerPreserves.{peer_initiates}
+use Rattle.world_laws.proofs.ServerPreserves.{server_initiates}
 
 -- ---- a step is a skip, or a call that the event is
 
@@ -185,7 +187,8 @@ pub record ConversationStart (parties : Parties) : Type 0 where
   pub role : parties.server.vars.role ≡ role_in parties.mode
   pub begun : parties.mode ≡ mode.Alone → is_started parties.server.vars ≡ true
 
-pub record Holds (w : WorldNow) : Type 0 where
+pub record Holds (setup : Setup) (w : WorldNow) : Type 0 where
+  pub so : InvariantSoFar setup w
   pub said : HaveSent w.parties w.sent
   pub begun : ConversationStart w.parties
 
@@ -211,7 +214,7 @@ call_started parties (to_server input) was =
     }
 call_started parties (to_pass input) was = record { role = was.role; begun = was.begun }
 
-matches_unstarted : (parties : Parties) (call : Call) → is_start call ≡ false → Fits parties call
+matches_unstarted : (parties : Parties) (call : Call) → is_start call ≡ false → IsFitting parties call
 matches_unstarted parties (to_peer input) later alone = refl
 matches_unstarted parties (to_server input) later alone = refl
 matches_unstarted parties (to_pass input) later alone = later
@@ -276,29 +279,34 @@ not_alone mode.Alone skip alone unskipped = cc unskipped
 not_alone mode.Through skip alone unskipped = cc alone
 
 restart_matches : (parties : Parties) (conversations : Conversations) (of : Party) (call : Call)
-    → first_skip (restart_skips parties conversations of) ≡ None → restart_call conversations of ≡ Some call → Fits parties call
+    → first_skip (restart_skips parties conversations of) ≡ None → restart_call conversations of ≡ Some call → IsFitting parties call
 restart_matches parties conversations party.Peer call unskipped is =
-    next_is (Fits parties) (λ nonce. to_peer (peer_inputs.restart nonce)) (λ nonce alone. refl) conversations.peer_left call is
+    next_is (IsFitting parties) (λ nonce. to_peer (peer_inputs.restart nonce)) (λ nonce alone. refl) conversations.peer_left call is
 restart_matches parties conversations party.Pass call unskipped is = λ alone. absurd (not_alone parties.mode _ alone unskipped)
 restart_matches parties conversations party.Server call unskipped is =
-    next_is (Fits parties) (λ nonce. to_server (server_inputs.restart nonce)) (λ nonce alone. refl) conversations.server_left call is
+    next_is (IsFitting parties) (λ nonce. to_server (server_inputs.restart nonce)) (λ nonce alone. refl) conversations.server_left call is
 
 event_matches : (parties : Parties) (conversations : Conversations) (sent : List Sent) (e : Event) (call : Call)
-    → first_skip (skip_table parties conversations sent e) ≡ None → call_of conversations sent e ≡ Some call → Fits parties call
+    → first_skip (skip_table parties conversations sent e) ≡ None → call_of conversations sent e ≡ Some call → IsFitting parties call
 event_matches parties conversations sent (event.Restart of) call unskipped is = restart_matches parties conversations of call unskipped is
 event_matches parties conversations sent e call unskipped is = matches_unstarted parties call (of_start conversations sent e call refl is)
 
-step_satisfies : (w : WorldNow) (e : Event) (out : WorldOutcome) → StepOf w e out → Holds w → Holds out.after
-step_satisfies w e _ (is_skipped skip) holds = record { said = rw (append-nil w.sent) holds.said; begun = holds.begun }
-step_satisfies w e _ (is_called call unskipped is_call) holds = record {
-  said = call_has_sent w.parties w.sent holds.said call (event_matches w.parties w.conversations w.sent e call unskipped is_call);
+step_satisfies : (setup : Setup) (w : WorldNow) (e : Event) (out : WorldOutcome) → StepOf w e out → InvariantSoFar setup out.after → Holds setup w
+    → Holds setup out.after
+step_satisfies setup w e _ (is_skipped skip) so holds = record { so = so; said = rw (append-nil w.sent) holds.said; begun = holds.begun }
+step_satisfies setup w e _ (is_called call unskipped is_call) so holds = record {
+  so = so;
+  said = (let stand = holds.so.both in
+      call_has_sent w.parties w.sent holds.said call (event_matches w.parties w.conversations w.sent e call unskipped is_call) stand.peer_invariant.both stand.server_invariant.both);
   begun = call_started w.parties call holds.begun;
 }
 
-run_satisfies : (w : WorldNow) (events : List Event) → Holds w → Holds (run_after w events)
+run_satisfies : (setup : Setup) (w : WorldNow) (events : List Event) → Holds setup w → Holds setup (run_after w events)
 unfolding run_after
-run_satisfies w [] holds = holds
-run_satisfies w (e ∷ rest) holds = run_satisfies (world_step w e).after rest (step_satisfies w e (world_step w e) (step_of w e) holds)
+run_satisfies setup w [] holds = holds
+run_satisfies setup w (e ∷ rest) holds =
+    run_satisfies setup (world_step w e).after rest
+    (step_satisfies setup w e (world_step w e) (step_of w e) (step_invariant setup w (world_step w e) (step_steps w e) holds.so) holds)
 
 start_matches : (m : Mode) → m ≡ mode.Alone → starts_pass (start_call m) ≡ false
 start_matches mode.Alone alone = refl
@@ -317,15 +325,17 @@ unfolding server_start
 start_started setup mode.Alone is = record { role = refl; begun = λ alone. refl }
 start_started setup mode.Through is = record { role = refl; begun = λ alone. absurd (let both : mode.Alone ≡ mode.Through = sym alone ∙ is in cc) }
 
-start_satisfies : (setup : Setup) → Holds (world_start (initial_world setup)).after
+start_satisfies : (setup : Setup) → Holds setup (world_start (initial_world setup)).after
 unfolding world_start
 start_satisfies setup = record {
-  said = call_has_sent (initial_world setup).parties [] (initial_has_sent setup) (start_call setup.mode) (start_matches setup.mode);
+  so = start_invariant setup;
+  said = call_has_sent (initial_world setup).parties [] (initial_has_sent setup) (start_call setup.mode) (start_matches setup.mode)
+      (peer_initiates setup.peer).both (server_initiates (role_in setup.mode) setup.server setup.first_id setup.max_retrans).both;
   begun = start_started setup setup.mode refl;
 }
 
-pub every_run_satisfies : (setup : Setup) (events : List Event) → Holds (run_of setup events)
-every_run_satisfies setup events = run_satisfies (world_start (initial_world setup)).after events (start_satisfies setup)
+pub every_run_satisfies : (setup : Setup) (events : List Event) → Holds setup (run_of setup events)
+every_run_satisfies setup events = run_satisfies setup (world_start (initial_world setup)).after events (start_satisfies setup)
 
 -- ---- the laws
 
@@ -335,7 +345,7 @@ some_state one other e = cc
 no_party : {A : Type 0} (of : Party) → ◌≡◌ {A = Option Party} None (Some of) → A
 no_party of e = absurd cc
 
-module _ (w : WorldNow) (e : Event) (holds : Holds w) where
+module _ (setup : Setup) (w : WorldNow) (e : Event) (holds : Holds setup w) where
   peer_answers : (input : PeerInput) (packet : Sent) → (let out = peer_accepts w.parties.peer input in
       PeerSpeaks w.parties.peer input out → call_of w.conversations w.sent e ≡ Some (to_peer input) → out.step.sent ≡ Some packet.octets
       → AnswersIt (delivered_in w.sent e) packet.octets)
@@ -361,7 +371,7 @@ module _ (w : WorldNow) (e : Event) (holds : Holds w) where
   answers_law _ (is_skipped skip) packet sends = no_party _ sends.acts
   answers_law _ (is_called (to_peer input) unskipped is_call) packet sends =
       let is = one_sent _ _ packet (cancel w.sent _ _ sends.adds) in
-      peer_answers input packet (peer_speaks w.parties.peer input) is_call is.sent
+      peer_answers input packet (peer_speaks w.parties.peer holds.so.both.peer_invariant.both input) is_call is.sent
   answers_law _ (is_called (to_server input) unskipped is_call) packet sends = absurd (let other = sends.acts in cc other)
   answers_law _ (is_called (to_pass input) unskipped is_call) packet sends = absurd (let other = sends.acts in cc other)
 
@@ -405,11 +415,11 @@ module _ (w : WorldNow) (e : Event) (holds : Holds w) where
   repeats_law _ (is_skipped skip) of packet sends again = no_party _ sends.acts
   repeats_law _ (is_called (to_peer input) unskipped is_call) of packet sends again =
       let is = one_sent _ _ packet (cancel w.sent _ _ sends.adds) in
-      ap (λ (to : Port). last_to to w.sent) is.port ∙ peer_again input packet.octets (peer_speaks w.parties.peer input) again is.sent
+      ap (λ (to : Port). last_to to w.sent) is.port ∙ peer_again input packet.octets (peer_speaks w.parties.peer holds.so.both.peer_invariant.both input) again is.sent
   repeats_law _ (is_called (to_server input) unskipped is_call) of packet sends again =
       let is = one_sent _ _ packet (cancel w.sent _ _ sends.adds) in
       ap (λ (to : Port). last_to to w.sent) is.port
-      ∙ server_again input packet.octets (server_speaks w.parties.server input)
+      ∙ server_again input packet.octets (server_speaks w.parties.server holds.so.both.server_invariant.both input)
       (λ same. server_timer w.parties w.conversations w.sent e unskipped (is_call ∙ ap (λ (i : ServerInput). Some (to_server i)) same)) again is.sent
   repeats_law _ (is_called (to_pass input) unskipped is_call) of packet sends again =
       let is = one_sent _ _ packet (cancel w.sent _ _ sends.adds) in
@@ -447,7 +457,7 @@ module _ (w : WorldNow) (e : Event) (holds : Holds w) where
   counts_law _ (is_called (to_peer input) unskipped is_call) alone delivered packet sends is_request = absurd (let other = sends.acts in cc other)
   counts_law _ (is_called (to_server input) unskipped is_call) alone delivered packet sends is_request =
       let is = one_sent _ _ packet (cancel w.sent _ _ sends.adds) in
-      server_counts input packet.octets (server_speaks w.parties.server input) alone
+      server_counts input packet.octets (server_speaks w.parties.server holds.so.both.server_invariant.both input) alone
       (of_delivery w.conversations w.sent e (to_server input) delivered is_call)
       is.sent is_request
   counts_law _ (is_called (to_pass input) unskipped is_call) alone delivered packet sends is_request = absurd (let other = sends.acts in cc other)
@@ -490,14 +500,14 @@ module _ (w : WorldNow) (e : Event) (holds : Holds w) where
   silent_law _ (is_skipped skip) goes_on of s stands over packet sends = no_party _ sends.acts
   silent_law _ (is_called (to_peer input) unskipped is_call) goes_on party.Peer s stands over packet sends =
       let is = one_sent _ _ packet (cancel w.sent _ _ sends.adds) in
-      peer_silent input packet.octets (peer_speaks w.parties.peer input) (ap is_end (some_state _ _ stands) ∙ over) is.sent
+      peer_silent input packet.octets (peer_speaks w.parties.peer holds.so.both.peer_invariant.both input) (ap is_end (some_state _ _ stands) ∙ over) is.sent
   silent_law _ (is_called (to_peer input) unskipped is_call) goes_on party.Pass s stands over packet sends = let other = sends.acts in cc other
   silent_law _ (is_called (to_peer input) unskipped is_call) goes_on party.Server s stands over packet sends = let other = sends.acts in cc other
   silent_law _ (is_called (to_server input) unskipped is_call) goes_on party.Peer s stands over packet sends = let other = sends.acts in cc other
   silent_law _ (is_called (to_server input) unskipped is_call) goes_on party.Pass s stands over packet sends = let other = sends.acts in cc other
   silent_law _ (is_called (to_server input) unskipped is_call) goes_on party.Server s stands over packet sends =
       let is = one_sent _ _ packet (cancel w.sent _ _ sends.adds) in
-      server_silent input packet.octets (server_speaks w.parties.server input) (of_start w.conversations w.sent e (to_server input) goes_on is_call) (ap is_end (some_state _ _ stands) ∙ over) is.sent
+      server_silent input packet.octets (server_speaks w.parties.server holds.so.both.server_invariant.both input) (of_start w.conversations w.sent e (to_server input) goes_on is_call) (ap is_end (some_state _ _ stands) ∙ over) is.sent
   silent_law _ (is_called (to_pass input) unskipped is_call) goes_on party.Peer s stands over packet sends = let other = sends.acts in cc other
   silent_law _ (is_called (to_pass input) unskipped is_call) goes_on party.Pass s stands over packet sends =
       let is = one_sent _ _ packet (cancel w.sent _ _ sends.adds) in
@@ -520,11 +530,11 @@ steps_are_lawful setup events e =
     let w = run_of setup events in
     let holds = every_run_satisfies setup events in
     let step = step_of w e in
-    let so = step_invariant setup w (world_step w e) (step_steps w e) (every_run_so_far setup events) in
+    let so = step_invariant setup w (world_step w e) (step_steps w e) holds.so in
     record {
-      answers = answers_law w e holds _ step;
-      repeats = repeats_law w e holds _ step;
-      counts = counts_law w e holds _ step;
-      silent = silent_law w e holds _ step;
+      answers = answers_law setup w e holds _ step;
+      repeats = repeats_law setup w e holds _ step;
+      counts = counts_law setup w e holds _ step;
+      silent = silent_law setup w e holds _ step;
       accepted = one_at_least setup _ so.both;
     }

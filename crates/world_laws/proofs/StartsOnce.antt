@@ -2,10 +2,11 @@
 use Rattle.std.proofs.Common.{◌≡◌, ℕ, List, [], ◌∷◌, length, map, Option, Some, None, refl, ap}
 use Rattle.world_laws.specs.Agreement.{StartsOnce}
 use Rattle.eap_world.specs.Conversations.{Conversations, hears, waiting}
-use Rattle.eap_world.specs.World.{WorldNow, WorldOutcome, call_octets, delivered_in_call, initial_world, world_start}
+use Rattle.eap_world.specs.World.{WorldNow, WorldOutcome, call_octets, delivered_in_call, world_start}
 use Rattle.eap_world.specs.declared.conversations.Waiting.{Waiting}
 use Rattle.login_setup.specs.declared.setup.Setup.{Setup}
 use Rattle.world_laws.proofs.Acting.{Steps, calls, peer_restarts, run_preserves, server_restarts, skips}
+use Rattle.world_laws.specs.Runs.{initial_world}
 
 -- no end has a nonce left, and each has begun one conversation
 record HaveNoMore (all : Conversations) : Type 0 where

@@ -6,6 +6,7 @@ use Rattle.login_setup.specs.declared.setup.PeerSetup.{PeerSetup}
 use Rattle.login_setup.specs.declared.setup.ServerSetup.{ServerSetup}
 use Rattle.login_setup.specs.declared.setup.Setup.{Setup}
 use Rattle.octet_lists.specs.Among.{psk_kind, gpsk_kind}
+use Rattle.eap_method.specs.BothServers.{gpsk_at, psk_at}
 use Rattle.eap_method.specs.declared.tags.TagRecord.{TagRecord}
 use Rattle.eap_method.specs.PskPeer as psk_peer
 use Rattle.eap_method.specs.PskServer as psk_server
@@ -36,6 +37,8 @@ use Rattle.world_laws.proofs.OneMethod.{apart as one_method}
 use Rattle.world_laws.proofs.PeerByMethod as peer_by_method
 use Rattle.world_laws.proofs.PskAgrees as psk
 use Rattle.world_laws.proofs.ServerByMethod as server_by_method
+use Rattle.eap_method.specs.BothPeers.{psk_in}
+use Rattle.eap_method.specs.BothPeers.{gpsk_in}
 
 -- a record of a method isn't among two of the other
 apart : psk_kind ≡ gpsk_kind → ⊥
@@ -55,40 +58,40 @@ one_of (inr b) not_other = absurd (not_other b)
 -- both ends have succeeded by one method, and speak of the same login
 pub data BothSucceed (peer_setup : PeerSetup) (server_setup : ServerSetup) (p : PeerNow) (s : ServerNow) : Type 0 where
   by_psk : (login : psk_peer.Login) (facts : psk_peer_stands.PskStarted peer_setup login) (other : psk_server.Login) (checked : psk_server_stands.PskChecked server_setup other)
-      (is_selected : p.vars.selected ≡ Some psk_kind) (in_view : p.views.psk ≡ psk_peer.over login true)
-      (is_current : s.vars.current ≡ Some psk_kind) (in_other : s.views.psk ≡ Some (psk_server.over other true)) (r_sent : other.r ≡ 2)
+      (is_selected : p.vars.selected ≡ Some psk_kind) (in_view : psk_in p.views ≡ psk_peer.over login true)
+      (is_current : s.vars.current ≡ Some psk_kind) (in_other : psk_at s.views ≡ Some (psk_server.over other true)) (r_sent : other.r ≡ 2)
       (same : psk.IsSame login other) → BothSucceed peer_setup server_setup p s
   by_gpsk : (login : gpsk_peer.Login) (list : List ℕ) (facts : gpsk_peer_stands.GpskStarted peer_setup login list)
       (other : gpsk_server.Login) (pd : List ℕ) (checked : gpsk_server_stands.GpskChecked server_setup other false)
-      (is_selected : p.vars.selected ≡ Some gpsk_kind) (in_view : p.views.gpsk ≡ gpsk_peer.over login true)
-      (is_current : s.vars.current ≡ Some gpsk_kind) (in_other : s.views.gpsk ≡ Some (gpsk_server.over other true))
+      (is_selected : p.vars.selected ≡ Some gpsk_kind) (in_view : gpsk_in p.views ≡ gpsk_peer.over login true)
+      (is_current : s.vars.current ≡ Some gpsk_kind) (in_other : gpsk_at s.views ≡ Some (gpsk_server.over other true))
       (same : gpsk.IsSame login list other) → BothSucceed peer_setup server_setup p s
 
 -- a peer, or a server, that has succeeded, with its tags
 pub data PeerSucceeds (setup : PeerSetup) (now : PeerNow) : List TagRecord → List TagRecord → Type 0 where
   with_psk : (login : psk_peer.Login) (header : List ℕ) (sealed id : ℕ)
-      (is_selected : now.vars.selected ≡ Some psk_kind) (in_view : now.views.psk ≡ psk_peer.over login true) (facts : psk_peer_stands.PskStarted setup login)
+      (is_selected : now.vars.selected ≡ Some psk_kind) (in_view : psk_in now.views ≡ psk_peer.over login true) (facts : psk_peer_stands.PskStarted setup login)
       → PeerSucceeds setup now (psk_peer_stands.psk3_records_of login header sealed) (psk_peer_stands.psk2_record login ∷ psk_peer.psk4_record login id 2)
   with_gpsk : (login : gpsk_peer.Login) (list pd : List ℕ)
-      (is_selected : now.vars.selected ≡ Some gpsk_kind) (in_view : now.views.gpsk ≡ gpsk_peer.over login true) (facts : gpsk_peer_stands.GpskStarted setup login list)
+      (is_selected : now.vars.selected ≡ Some gpsk_kind) (in_view : gpsk_in now.views ≡ gpsk_peer.over login true) (facts : gpsk_peer_stands.GpskStarted setup login list)
       → PeerSucceeds setup now (sk_record login.cred.psk (gpsk_peer_stands.gpsk3_of_login login pd) ∷ [])
       (gpsk_peer_stands.gpsk2_record login list ∷ sk_record login.cred.psk (gpsk_peer.gpsk4_of login) ∷ [])
 
 pub data ServerSucceeds (setup : ServerSetup) (now : ServerNow) : List TagRecord → List TagRecord → Type 0 where
   of_psk : (login : psk_server.Login) (header : List ℕ) (sealed id : ℕ) (is_current : now.vars.current ≡ Some psk_kind)
-      (in_view : now.views.psk ≡ Some (psk_server.over login true)) (facts : psk_server_stands.PskChecked setup login) (r_sent : login.r ≡ 2)
+      (in_view : psk_at now.views ≡ Some (psk_server.over login true)) (facts : psk_server_stands.PskChecked setup login) (r_sent : login.r ≡ 2)
       → ServerSucceeds setup now (psk_server_stands.psk2_record login ∷ psk_server_stands.psk4_taken login header sealed ∷ []) (psk_server.psk3_records login id)
   of_gpsk : (login : gpsk_server.Login) (pd last_pd : List ℕ) (is_current : now.vars.current ≡ Some gpsk_kind)
-      (in_view : now.views.gpsk ≡ Some (gpsk_server.over login true)) (facts : gpsk_server_stands.GpskChecked setup login false)
+      (in_view : gpsk_at now.views ≡ Some (gpsk_server.over login true)) (facts : gpsk_server_stands.GpskChecked setup login false)
       → ServerSucceeds setup now (sk_record login.psk (gpsk_server_stands.gpsk2_of_login login pd) ∷ sk_record login.psk (gpsk_server_stands.gpsk4_of_login login last_pd) ∷ [])
       (sk_record login.psk (gpsk_server.gpsk3_of login) ∷ [])
 
 module _ (setup : PeerSetup) (now : PeerNow) where
-  peer_psk : (login : psk_peer.Login) → now.vars.selected ≡ Some psk_kind → now.views.psk ≡ psk_peer.over login true
+  peer_psk : (login : psk_peer.Login) → now.vars.selected ≡ Some psk_kind → psk_in now.views ≡ psk_peer.over login true
       → (accepted made : List TagRecord) → psk_peer_stands.PskPeerTags setup (psk_peer.over login true) accepted made → PeerSucceeds setup now accepted made
   peer_psk login is_selected in_view _ _ (psk_peer_stands.psk_over _ _ header sealed id facts) = with_psk login header sealed id is_selected in_view facts
 
-  peer_gpsk : (login : gpsk_peer.Login) → now.vars.selected ≡ Some gpsk_kind → now.views.gpsk ≡ gpsk_peer.over login true
+  peer_gpsk : (login : gpsk_peer.Login) → now.vars.selected ≡ Some gpsk_kind → gpsk_in now.views ≡ gpsk_peer.over login true
       → (accepted made : List TagRecord) → gpsk_peer_stands.GpskPeerTags setup (gpsk_peer.over login true) accepted made → PeerSucceeds setup now accepted made
   peer_gpsk login is_selected in_view _ _ (gpsk_peer_stands.gpsk_confirmed _ list pd facts) = with_gpsk login list pd is_selected in_view facts
 
@@ -104,12 +107,12 @@ module _ (setup : PeerSetup) (now : PeerNow) where
       (peer_by_method.reported_by_gpsk setup now.vars.selected now.views accepted made (one_method now.vars.selected gpsk_kind psk_kind refl is_selected) tags))
 
 module _ (setup : ServerSetup) (now : ServerNow) where
-  server_psk : (login : psk_server.Login) → now.vars.current ≡ Some psk_kind → now.views.psk ≡ Some (psk_server.over login true)
+  server_psk : (login : psk_server.Login) → now.vars.current ≡ Some psk_kind → psk_at now.views ≡ Some (psk_server.over login true)
       → (accepted made : List TagRecord) → psk_server_stands.PskServerTags setup (psk_server.over login true) accepted made → ServerSucceeds setup now accepted made
   server_psk login is_current in_view _ _ (psk_server_stands.psk_over _ _ header sealed id facts r_sent rand_in r_came) =
       of_psk login header sealed id is_current in_view facts (r_sent refl)
 
-  server_gpsk : (login : gpsk_server.Login) → now.vars.current ≡ Some gpsk_kind → now.views.gpsk ≡ Some (gpsk_server.over login true)
+  server_gpsk : (login : gpsk_server.Login) → now.vars.current ≡ Some gpsk_kind → gpsk_at now.views ≡ Some (gpsk_server.over login true)
       → (accepted made : List TagRecord) → gpsk_server_stands.GpskServerTags setup (gpsk_server.over login true) accepted made → ServerSucceeds setup now accepted made
   server_gpsk login is_current in_view _ _ (gpsk_server_stands.gpsk_confirmed _ pd last_pd facts) =
       of_gpsk login pd last_pd is_current in_view facts

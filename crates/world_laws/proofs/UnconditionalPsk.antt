@@ -1,8 +1,7 @@
 -- By EAP-PSK a peer whose decision isn't FAIL has decided for a success that nothing can undo.
-use Rattle.std.proofs.Common.{◌≡◌, ℕ, List, true, false, Option, Some, None, refl, sym, subst}
-use Rattle.login_setup.specs.declared.setup.Mode.{Mode}
-use Rattle.login_setup.specs.declared.setup.Mode.TheVariants as mode
+use Rattle.std.proofs.Common.{◌≡◌, ℕ, List, true, false, Option, Some, None, refl, subst}
 use Rattle.octet_lists.specs.Among.{psk_kind}
+use Rattle.eap_method.specs.BothPeers.{psk_in}
 use Rattle.eap_method.specs.PeerTurn.{PeerTurn}
 use Rattle.eap_method.specs.PeerTurn.{Discard, Reply}
 use Rattle.eap_method.specs.Peer.{PeerViews, peer_turn}
@@ -20,11 +19,15 @@ use Rattle.peer_machine.specs.Rows.{PeerRow}
 use Rattle.peer_machine.proofs.Receiving.{PeerReceiving, as_it_is, bad, expresses, peer_receives_so}
 use Rattle.peer_machine.proofs.Receiving as receiving
 use Rattle.peer_machine.proofs.PeerRows.{peer_answers_are_rows}
-use Rattle.eap_world.specs.World.{Call, Parties, WorldNow, WorldOutcome, act_of_call, initial_world, start_call, to_pass, to_peer, to_server, world_start}
+use Rattle.eap_world.specs.World.{Call, Parties, WorldNow, WorldOutcome, act_of_call, start_call, to_pass, to_peer, to_server, world_start}
+use Rattle.world_laws.specs.PeerInvariant.{PeerHasBoth}
+use Rattle.world_laws.specs.Runs.{initial_world}
 use Rattle.world_laws.specs.UnconditionalPsk.{IsUnconditional, PskSuccessIsUnconditional}
 use Rattle.world_laws.proofs.Acting.{Steps, calls, peer_restarts, run_preserves, server_restarts, skips}
+use Rattle.world_laws.proofs.EndInvariants.{InvariantSoFar, start_invariant, step_invariant}
 use Rattle.world_laws.proofs.OneMethod.{some_same}
 use Rattle.world_laws.proofs.PeerByMethod.{TurnOf, kinds_apart, of_gpsk, of_none, of_psk, turn_of}
+use Rattle.world_laws.proofs.PeerPreserves.{peer_initiates}
 
 -- ---- a turn
 
@@ -41,19 +44,19 @@ psk_sure view bytes _ (confirms_failure login rand_s mac nonce tag sealed in_vie
     λ e. cc e
 
 turn_sure : (kind : ℕ) (views : PeerViews) (bytes : List ℕ) (out : PeerOutcome PeerViews) → TurnOf kind views bytes out → kind ≡ psk_kind → IsSure out.turn
-turn_sure kind views bytes _ (of_psk same out row) is = psk_sure views.psk bytes out row
+turn_sure kind views bytes _ (of_psk same out row) is = psk_sure (psk_in views) bytes out row
 turn_sure kind views bytes _ (of_gpsk same out row) is = kinds_apart kind is same
 turn_sure kind views bytes _ (of_none c) is = tt
 
-reply_sure : (kind : ℕ) (views after : PeerViews) (bytes packet : List ℕ) (m : MethodState) (d : Decision) (tags : Tags)
+reply_sure : {methods : List ℕ} (kind : ℕ) (views after : PeerViews) → PeerHasBoth methods views → (bytes packet : List ℕ) (m : MethodState) (d : Decision) (tags : Tags)
     → peer_turn kind views bytes ≡ record { turn = Reply packet m d tags; after = after } → Some kind ≡ Some psk_kind → is_fail d ≡ false
     → (is_uncond d ≡ true) × (is_done m ≡ true)
-reply_sure kind views after bytes packet m d tags turn is =
-    subst (λ (o : PeerOutcome PeerViews). IsSure o.turn) turn (turn_sure kind views bytes (peer_turn kind views bytes) (turn_of kind views bytes) (some_same kind psk_kind is))
+reply_sure kind views after both bytes packet m d tags turn is =
+    subst (λ (o : PeerOutcome PeerViews). IsSure o.turn) turn (turn_sure kind views bytes (peer_turn kind views bytes) (turn_of kind views bytes both) (some_same kind psk_kind is))
 
 -- ---- the peer
 
-module _ (now : PeerNow) (h : IsUnconditional now) where
+module _ {methods : List ℕ} (now : PeerNow) (both : PeerHasBoth methods now.views) (h : IsUnconditional now) where
   row_sure : (input : PeerInput) (out : PeerAnswer) → PeerRow now input out → IsUnconditional out.after
   unfolding peer_restart
   row_sure _ _ (rows.ended bytes over) = h
@@ -68,12 +71,12 @@ module _ (now : PeerNow) (h : IsUnconditional now) where
   row_sure _ _ (rows.ends_well input entered going sure why) = record { sure = h.sure; over = h.over }
   row_sure _ _ (rows.ends_badly input entered going why) = record { sure = h.sure; over = h.over }
   row_sure _ _ (rows.method_replies bytes selects id kind body packet m d tags views heard called turn goes_on) = record {
-    sure = λ is fails. (reply_sure kind now.views views _ packet m d tags turn is fails).0;
-    over = λ is fails. (reply_sure kind now.views views _ packet m d tags turn is fails).1;
+    sure = λ is fails. (reply_sure kind now.views views both _ packet m d tags turn is fails).0;
+    over = λ is fails. (reply_sure kind now.views views both _ packet m d tags turn is fails).1;
   }
   row_sure _ _ (rows.method_fails bytes selects id kind body packet m d tags views heard called turn has_failed) = record {
-    sure = λ is fails. (reply_sure kind now.views views _ packet m d tags turn is fails).0;
-    over = λ is fails. (reply_sure kind now.views views _ packet m d tags turn is fails).1;
+    sure = λ is fails. (reply_sure kind now.views views both _ packet m d tags turn is fails).0;
+    over = λ is fails. (reply_sure kind now.views views both _ packet m d tags turn is fails).1;
   }
 
   answer_sure : (input : PeerInput) → IsUnconditional (peer_answers now input).after
@@ -101,22 +104,26 @@ module _ (now : PeerNow) (h : IsUnconditional now) where
 
 -- ---- the world
 
-call_sure : (parties : Parties) (call : Call) → IsUnconditional parties.peer → IsUnconditional (act_of_call parties call).after.peer
-call_sure parties (to_peer input) h = accepts_sure parties.peer h input
-call_sure parties (to_server input) h = h
-call_sure parties (to_pass input) h = h
+call_sure : {methods : List ℕ} (parties : Parties) (call : Call) → PeerHasBoth methods parties.peer.views → IsUnconditional parties.peer → IsUnconditional (act_of_call parties call).after.peer
+call_sure parties (to_peer input) both h = accepts_sure parties.peer both h input
+call_sure parties (to_server input) both h = h
+call_sure parties (to_pass input) both h = h
 
-step_sure : (w : WorldNow) (out : WorldOutcome) → Steps w out → IsUnconditional w.parties.peer → IsUnconditional out.after.parties.peer
-step_sure w _ (skips skip) h = h
-step_sure w _ (calls call later same) h = call_sure w.parties call h
-step_sure w _ (peer_restarts one left next) h = accepts_sure w.parties.peer h (restart one.nonce)
-step_sure w _ (server_restarts one left next) h = h
+step_sure : {methods : List ℕ} (w : WorldNow) (out : WorldOutcome) → Steps w out → PeerHasBoth methods w.parties.peer.views → IsUnconditional w.parties.peer → IsUnconditional out.after.parties.peer
+step_sure w _ (skips skip) both h = h
+step_sure w _ (calls call later same) both h = call_sure w.parties call both h
+step_sure w _ (peer_restarts one left next) both h = accepts_sure w.parties.peer both h (restart one.nonce)
+step_sure w _ (server_restarts one left next) both h = h
 
-started_sure : (w : WorldNow) → IsUnconditional w.parties.peer → IsUnconditional (world_start w).after.parties.peer
+started_sure : {methods : List ℕ} (w : WorldNow) → PeerHasBoth methods w.parties.peer.views → IsUnconditional w.parties.peer → IsUnconditional (world_start w).after.parties.peer
 unfolding world_start
-started_sure w h = call_sure w.parties (start_call w.parties.mode) h
+started_sure w both h = call_sure w.parties (start_call w.parties.mode) both h
 
 pub psk_success_is_unconditional : PskSuccessIsUnconditional
 psk_success_is_unconditional setup events =
-    run_preserves (λ (w : WorldNow). IsUnconditional w.parties.peer) step_sure (world_start (initial_world setup)).after events
-    (started_sure (initial_world setup) (record { sure = λ is fails. cc fails; over = λ is fails. cc fails }))
+    (run_preserves (λ (w : WorldNow). InvariantSoFar setup w × IsUnconditional w.parties.peer)
+    (λ w out steps was. (step_invariant setup w out steps was.0, step_sure w out steps was.0.both.peer_invariant.both was.1))
+    (world_start (initial_world setup)).after events (
+      start_invariant setup,
+      started_sure (initial_world setup) (peer_initiates setup.peer).both (record { sure = λ is fails. cc fails; over = λ is fails. cc fails }),
+    )).1

@@ -2,8 +2,8 @@
 use Rattle.std.proofs.Common.{◌≡◌, List, [], ◌∷◌, refl}
 use Rattle.login_setup.specs.declared.event.Event.{Event}
 use Rattle.login_setup.specs.declared.setup.Setup.{Setup}
-use Rattle.eap_world.specs.Run.{run_of}
-use Rattle.eap_world.specs.World.{WorldNow, run_after, initial_world, world_start, world_step}
+use Rattle.eap_world.specs.World.{WorldNow, run_after, world_start, world_step}
+use Rattle.world_laws.specs.Runs.{initial_world, run_of}
 
 version_after : (w : WorldNow) (events : List Event) → (run_after w events).version ≡ w.version
 unfolding run_after world_step

@@ -1,10 +1,8 @@
 -- The Identity round (RFC 3748 section 2), computed from the definitions alone.
 use Rattle.std.proofs.Common.{◌≡◌, List, [], ◌∷◌, true, false, refl, Some, None}
 use Rattle.std.specs.Prelude.{codes, map, replicate}
-use Rattle.login_setup.specs.Setup.{no_later}
 use Rattle.login_setup.specs.declared.setup.Setup.{Setup}
 use Rattle.login_setup.specs.declared.setup.Mode.TheVariants as mode
-use Rattle.login_setup.specs.declared.setup.Accepts.TheVariants.{One}
 use Rattle.login_setup.specs.declared.setup.Party.TheVariants as party
 use Rattle.login_setup.specs.declared.setup.Port.TheVariants as port
 use Rattle.login_setup.specs.declared.event.Event.{Event}
@@ -14,8 +12,6 @@ use Rattle.eap_packet.specs.declared.state.State.TheVariants as state
 use Rattle.eap_packet.specs.Packet.{spelled}
 use Rattle.eap_packet.specs.Fault.{fault, packet_of}
 use Rattle.login_policy.specs.Policy.{next_kind}
-use Rattle.eap_method.specs.PskPeer as psk_peer
-use Rattle.eap_method.specs.GpskPeer as gpsk_peer
 use Rattle.eap_method.specs.Peer as peer
 use Rattle.eap_method.specs.Server as server
 use Rattle.eap_method.specs.declared.values.MethodState.TheVariants.{NotSet}
@@ -29,7 +25,10 @@ use Rattle.server_machine.specs.declared.variables.Role.TheVariants.{StandAlone}
 use Rattle.pass_through.specs.PassTable.{initial_pass}
 use Rattle.eap_world.specs.Conversations.{beginning}
 use Rattle.tag_book.specs.declared.book.End.TheVariants as end
-use Rattle.eap_world.specs.World.{initial_world, world_start, act, conversed_by, reported_before, world_step, outcomes_after, run_after}
+use Rattle.eap_world.specs.World.{world_start, act, conversed_by, reported_before, world_step, outcomes_after, run_after}
+use Rattle.eap_method.specs.BothPeers.{both_of}
+use Rattle.eap_method.specs.BothServers as of_server
+use Rattle.world_laws.specs.Runs.{initial_world}
 
 -- alice logs in at the server srv, which sends a Request again four times; no end has a method
 example_setup : Setup
@@ -53,7 +52,7 @@ identity_round : run_after (world_start (initial_world example_setup)).after thr
             last_id = Some 0;
             last_response = 2 ∷ 0 ∷ 0 ∷ 10 ∷ 1 ∷ codes "alice";
           };
-          views = record { psk = psk_peer.unset; gpsk = gpsk_peer.unset };
+          views = peer.views_started example_setup.peer (both_of example_setup.peer.methods);
         };
         server = record {
           vars = record {
@@ -69,7 +68,7 @@ identity_round : run_after (world_start (initial_world example_setup)).after thr
             last_request = 1 ∷ 0 ∷ 0 ∷ 5 ∷ 1 ∷ [];
             proposed = [];
           };
-          views = record { psk = None; gpsk = None };
+          views = server.views_started example_setup.server (of_server.both_of example_setup.server.methods);
         };
         pass = initial_pass 0 4;
       };

@@ -1,10 +1,8 @@
 -- What is heard, used and fresh, computed from the definitions alone.
-use Rattle.std.proofs.Common.{◌≡◌, ℕ, ◌∷◌, ◌++◌, List, [], true, false, take, drop, refl, Some, None}
-use Rattle.std.specs.Prelude.{codes, replicate}
+use Rattle.std.proofs.Common.{◌≡◌, ℕ, ◌∷◌, ◌++◌, List, [], true, false, take, drop, refl, Some}
+use Rattle.std.specs.Prelude.{replicate}
 use Rattle.login_setup.specs.declared.event.Event.{Event}
 use Rattle.login_setup.specs.declared.event.Event.TheVariants.{Inject, Restart}
-use Rattle.login_setup.specs.declared.setup.Accepts.TheVariants.{One}
-use Rattle.login_setup.specs.declared.setup.Mode.TheVariants as mode
 use Rattle.login_setup.specs.declared.setup.Party.TheVariants as party
 use Rattle.login_setup.specs.declared.setup.Port.TheVariants as port
 use Rattle.login_setup.specs.declared.setup.Setup.{Setup}
@@ -13,10 +11,10 @@ use Rattle.eap_packet.specs.Fault.{fault, packet_of}
 use Rattle.peer_machine.specs.PeerTable.{peer_restart}
 use Rattle.server_machine.specs.ServerTable.{server_deliver, server_restart, server_start}
 use Rattle.eap_world.specs.Conversations.{beginning, hears, is_used, since_from, since_of, occurs_in, waiting}
-use Rattle.eap_world.specs.Run.{run_of}
 use Rattle.eap_world.specs.World.{act, conversed_by, reported_before, run_after, world_start, world_step}
 use Rattle.tag_book.specs.declared.book.End.TheVariants as end
 use Rattle.eap_world.specs.declared.told.Skip.TheVariants.{NoNonce, NoParty}
+use Rattle.world_laws.specs.Runs.{run_of}
 
 -- 32 octets, all different
 abbrev counted : List ℕ

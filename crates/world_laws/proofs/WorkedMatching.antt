@@ -1,11 +1,9 @@
 -- The conversations of both ends, on what they rest, and whether they are fresh, computed from the definitions alone: two logins,
 -- between them a conversation over the packets of the first, as in examples/three-logins.scenario.
-use Rattle.std.proofs.Common.{◌≡◌, ℕ, ◌+◌, Bool, true, false, List, [], ◌∷◌, ◌++◌, None, refl, ap, arith}
-use Rattle.std.specs.Prelude.{codes, map, replicate, slice_index}
+use Rattle.std.proofs.Common.{◌≡◌, ℕ, ◌+◌, Bool, true, false, List, [], ◌∷◌, ◌++◌, refl, ap, arith}
+use Rattle.std.specs.Prelude.{map, replicate, slice_index}
 use Rattle.login_setup.specs.declared.event.Event.{Event}
 use Rattle.login_setup.specs.declared.event.Event.TheVariants.{Restart}
-use Rattle.login_setup.specs.declared.setup.Accepts.TheVariants.{One}
-use Rattle.login_setup.specs.declared.setup.Mode.TheVariants as mode
 use Rattle.login_setup.specs.declared.setup.Party.TheVariants as party
 use Rattle.login_setup.specs.declared.setup.Setup.{Setup}
 use Rattle.login_setup.specs.Plain.{plain_setup}
@@ -21,12 +19,13 @@ use Rattle.eap_world.specs.Judgement.{is_success}
 use Rattle.world_laws.specs.Matching.{RestsOn}
 use Rattle.world_laws.specs.Records.{here, tags_by}
 use Rattle.eap_world.specs.Conversations.{initiated_by}
-use Rattle.eap_world.specs.World.{WorldNow, act, conversed_by, reported_before, initial_world, world_start, world_step}
+use Rattle.eap_world.specs.World.{WorldNow, act, conversed_by, reported_before, world_start, world_step}
 use Rattle.tag_book.specs.declared.book.End.TheVariants as end
 use Rattle.tag_book.specs.declared.book.TagsVerdict.TheVariants.{Honest}
 use Rattle.tag_book.specs.declared.book.Use.TheVariants.{Accepted, Made}
 use Rattle.world_laws.proofs.Among.{among_one}
 use Rattle.world_laws.proofs.SucceedingEnds.{first_in}
+use Rattle.world_laws.specs.Runs.{initial_world}
 
 -- alice and srv, each with three nonces
 abbrev setup : Setup

@@ -20,9 +20,9 @@ use Rattle.world_laws.specs.ByMethod.{peer_foreign, server_foreign}
 use Rattle.world_laws.specs.GpskLogins.{HasFirstSuite, HaveAllOctets}
 use Rattle.eap_world.specs.Judgement.{verdict_of, is_success}
 use Rattle.eap_world.specs.declared.verdict.Verdict.TheVariants.{Agree, Apart}
-use Rattle.eap_world.specs.Run.{run_of}
 use Rattle.eap_world.specs.World.{WorldNow}
 use Rattle.world_laws.specs.Records.{tags_by}
+use Rattle.world_laws.specs.Runs.{run_of}
 
 -- a setup as a scenario gives it: both ends are sound, and each nonce has 32 octets
 pub record IsWhole (setup : Setup) : Type 0 where

@@ -15,11 +15,11 @@ use Rattle.eap_packet.specs.declared.state.State.{State}
 use Rattle.eap_packet.specs.declared.state.State.TheVariants as state
 use Rattle.tag_book.specs.declared.book.End.TheVariants as end
 use Rattle.eap_world.specs.Conversations.{initiated_by}
-use Rattle.eap_world.specs.Run.{run_of}
 use Rattle.eap_world.specs.World.{WorldNow, world_step}
 use Rattle.eap_world.specs.Sent.{Sent}
 use Rattle.world_laws.specs.Agreement.{IsWhole}
 use Rattle.world_laws.specs.SingleSteps.{Sends, delivered_in, is_again}
+use Rattle.world_laws.specs.Runs.{run_of}
 
 -- NAK of the server's table (RFC 4137 section 5)
 abbrev pub is_nak_state : State → Bool

@@ -9,11 +9,12 @@ use Rattle.tag_book.specs.Book.{same_end}
 use Rattle.eap_world.specs.Conversations.{initiated_by}
 use Rattle.world_laws.specs.ByMethod.{peer_foreign, server_foreign}
 use Rattle.world_laws.specs.Records.{tags_by}
-use Rattle.eap_world.specs.World.{WorldNow, initial_world, world_start, world_step}
+use Rattle.eap_world.specs.World.{WorldNow, world_start, world_step}
 use Rattle.tag_book.specs.declared.book.End.{End}
 use Rattle.tag_book.specs.declared.book.End.TheVariants as end
 use Rattle.tag_book.specs.declared.book.Use.TheVariants.{Accepted, Made}
 use Rattle.eap_world.specs.declared.conversations.ConversationStart.{ConversationStart}
+use Rattle.world_laws.specs.Runs.{initial_world}
 
 -- a conversation of an end: the end's state in it, or when it began the next one, and the tags that it accepted and
 -- made in it, in their order

@@ -6,7 +6,6 @@ use Rattle.login_setup.specs.declared.setup.Setup.{Setup}
 use Rattle.eap_method.specs.declared.tags.TagRecord.{TagRecord}
 use Rattle.peer_machine.specs.PeerTable as peers
 use Rattle.server_machine.specs.ServerTable as servers
-use Rattle.eap_world.specs.Run.{run_of}
 use Rattle.eap_world.specs.Conversations.{since_of}
 use Rattle.world_laws.specs.PeerInvariant.{PeerInvariant}
 use Rattle.world_laws.specs.Records.{since, tags_by}
@@ -16,6 +15,7 @@ use Rattle.tag_book.specs.declared.book.End.{End}
 use Rattle.tag_book.specs.declared.book.End.TheVariants as end
 use Rattle.tag_book.specs.declared.book.Use.{Use}
 use Rattle.tag_book.specs.declared.book.Use.TheVariants.{Accepted, Made}
+use Rattle.world_laws.specs.Runs.{run_of}
 
 -- the tags of an end's present conversation: those of the events after the one in which it began
 abbrev pub present_tags : End → Use → WorldNow → List TagRecord

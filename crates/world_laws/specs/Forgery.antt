@@ -14,6 +14,7 @@ use Rattle.cmac_mac.specs.Cmac.{aes_cmac}
 use Rattle.eax_mode.specs.Eax.{eax_tag}
 use Rattle.login_keys.specs.Gpsk.{gpsk_keys_of, gpsk_tag_of}
 use Rattle.login_keys.specs.Psk.{psk_keys_of, psk_long_of}
+use Rattle.eap_method.specs.BothServers.{gpsk_at, psk_at}
 use Rattle.eap_method.specs.declared.tags.Label.TheVariants.{Sk}
 use Rattle.eap_method.specs.declared.tags.TagRecord.{TagRecord}
 use Rattle.eap_method.specs.declared.values.Report.{Report}
@@ -31,7 +32,6 @@ use Rattle.tag_book.specs.declared.book.Use.TheVariants.{Accepted, Made}
 use Rattle.eap_world.specs.Conversations.{front}
 use Rattle.eap_world.specs.declared.verdict.Verdict.TheVariants.{Agree}
 use Rattle.eap_world.specs.Judgement.{is_success, verdict_of}
-use Rattle.eap_world.specs.Run.{run_of}
 use Rattle.eap_world.specs.World.{WorldNow}
 use Rattle.world_laws.specs.Agreement.{AgreeAnew, AreApart, IsWhole}
 use Rattle.world_laws.specs.ByMethod.{peer_login, server_login}
@@ -42,6 +42,8 @@ use Rattle.world_laws.specs.PskServerInvariant.{psk_rand_p_in}
 use Rattle.world_laws.specs.Records.{IsIn}
 use Rattle.world_laws.specs.PresentUnderKey.{AgreeOnTheirs, SucceedBy}
 use Rattle.world_laws.specs.UnderKey.{IsOfKey}
+use Rattle.eap_method.specs.BothPeers.{gpsk_in}
+use Rattle.world_laws.specs.Runs.{run_of}
 
 -- from what the keys of a login derive: by EAP-PSK the PSK and RAND_P (RFC 4764 section 3); by EAP-GPSK CSuite_Sel, the PSK,
 -- RAND_Peer, ID_Peer, RAND_Server and ID_Server (RFC 5433 section 4)
@@ -72,15 +74,15 @@ pub data IsRightMac : KeyInputs → TagRecord → Type 0 where
 pub data PeerDerives (setup : PeerSetup) (nonce : List ℕ) (views : PeerViews) (report : Report) : KeyInputs → Type 0 where
   psk_peer : (by_psk : report.method ≡ psk_kind) → PeerDerives setup nonce views report (psk_inputs (key_for setup psk_kind) (front nonce))
   gpsk_peer : (by_gpsk : report.method ≡ gpsk_kind) (suite : Suite) (is_suite : report.suite ≡ suite_number suite)
-      (rand_s : List ℕ) (knows : gpsk_whole_rand_s views.gpsk ≡ Some rand_s)
+      (rand_s : List ℕ) (knows : gpsk_whole_rand_s (gpsk_in views) ≡ Some rand_s)
       → PeerDerives setup nonce views report (gpsk_inputs suite (key_for setup gpsk_kind) nonce setup.name rand_s report.id_s)
 
 -- and one of the server: the key of the user of that name, its own nonce and name
 pub data ServerDerives (setup : ServerSetup) (nonce : List ℕ) (views : ServerViews) (report : Report) (user : User) : KeyInputs → Type 0 where
-  psk_server : (by_psk : report.method ≡ psk_kind) (rand_p : List ℕ) (knows : psk_rand_p_in views.psk ≡ Some rand_p)
+  psk_server : (by_psk : report.method ≡ psk_kind) (rand_p : List ℕ) (knows : psk_rand_p_in (psk_at views) ≡ Some rand_p)
       → ServerDerives setup nonce views report user (psk_inputs user.psk rand_p)
   gpsk_server : (by_gpsk : report.method ≡ gpsk_kind) (suite : Suite) (is_suite : report.suite ≡ suite_number suite)
-      (rand_p : List ℕ) (knows : gpsk_whole_rand_p_in views.gpsk ≡ Some rand_p)
+      (rand_p : List ℕ) (knows : gpsk_whole_rand_p_in (gpsk_at views) ≡ Some rand_p)
       → ServerDerives setup nonce views report user (gpsk_inputs suite user.psk rand_p report.id_p nonce setup.name)
 
 -- the tag is right under a key that such a conversation of the peer derives

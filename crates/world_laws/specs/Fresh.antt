@@ -6,10 +6,10 @@ use Rattle.login_setup.specs.declared.event.Event.{Event}
 use Rattle.login_setup.specs.declared.setup.Setup.{Setup}
 use Rattle.peer_machine.specs.Inputs as peer_inputs
 use Rattle.server_machine.specs.Inputs as server_inputs
-use Rattle.eap_world.specs.Run.{run_of}
 use Rattle.eap_world.specs.Conversations.{front, occurs_in}
-use Rattle.eap_world.specs.World.{Call, WorldNow, call_octets, call_of, first_skip, skip_table, to_peer, to_server, initial_world, world_start, world_step}
+use Rattle.eap_world.specs.World.{Call, WorldNow, call_octets, call_of, first_skip, skip_table, to_peer, to_server, world_start, world_step}
 use Rattle.eap_world.specs.declared.told.Skip.{Skip}
+use Rattle.world_laws.specs.Runs.{initial_world, run_of}
 
 -- octets were delivered to some party; an end began a conversation with a nonce
 pub data Happening : Type 0 where

@@ -5,17 +5,19 @@ use Rattle.octet_lists.specs.declared.suite.Suite.{Suite}
 use Rattle.octet_lists.specs.Among.{gpsk_kind}
 use Rattle.octet_lists.specs.Suite.{suite_number}
 use Rattle.login_policy.specs.Policy.{picked_suite}
+use Rattle.eap_method.specs.BothServers.{gpsk_at}
 use Rattle.eap_method.specs.declared.values.Report.{Report}
 use Rattle.eap_method.specs.GpskTags.{suite_list}
 use Rattle.eap_method.specs.Peer.{PeerViews}
 use Rattle.eap_method.specs.Server.{ServerViews}
 use Rattle.world_laws.specs.GpskPeerInvariant.{gpsk_whole_rand_s}
 use Rattle.world_laws.specs.GpskServerInvariant.{gpsk_whole_rand_p_in}
+use Rattle.eap_method.specs.BothPeers.{gpsk_in}
 
 -- the peer, with these views and this nonce, and the server have the whole of each other's nonces
 pub record HaveWhole (peer_views : PeerViews) (peer_nonce : List ℕ) (server_views : ServerViews) (server_nonce : List ℕ) : Type 0 where
-  pub rand_s : gpsk_whole_rand_s peer_views.gpsk ≡ Some server_nonce
-  pub rand_p : gpsk_whole_rand_p_in server_views.gpsk ≡ Some peer_nonce
+  pub rand_s : gpsk_whole_rand_s (gpsk_in peer_views) ≡ Some server_nonce
+  pub rand_p : gpsk_whole_rand_p_in (gpsk_at server_views) ≡ Some peer_nonce
 
 abbrev pub HaveAllOctets : Option ℕ → PeerViews → List ℕ → ServerViews → List ℕ → Type 0
 HaveAllOctets kind peer_views peer_nonce server_views server_nonce = kind ≡ Some gpsk_kind → HaveWhole peer_views peer_nonce server_views server_nonce

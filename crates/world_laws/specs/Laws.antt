@@ -4,7 +4,8 @@ use Rattle.login_setup.specs.declared.event.Event.{Event}
 use Rattle.login_setup.specs.declared.setup.Party.{Party}
 use Rattle.login_setup.specs.declared.setup.Setup.{Setup}
 use Rattle.eap_world.specs.declared.world.HasReported.{HasReported}
-use Rattle.eap_world.specs.World.{WorldNow, WorldOutcome, Parties, has_reported, report_of, initial_world, world_start, world_step, run_after}
+use Rattle.eap_world.specs.World.{WorldNow, WorldOutcome, Parties, has_reported, report_of, world_start, world_step, run_after}
+use Rattle.world_laws.specs.Runs.{initial_world}
 
 -- a report that an end has was reported
 pub record HasTracedReports (held : HasReported) (parties : Parties) : Type 0 where

@@ -1,3 +1,4 @@
+pub mod Runs
 pub mod PskPeerInvariant
 pub mod PskServerInvariant
 pub mod GpskPeerInvariant

@@ -9,7 +9,6 @@ use Rattle.peer_machine.specs.PeerTable as peer_table
 use Rattle.peer_machine.specs.PeerTable.{peer_reports}
 use Rattle.server_machine.specs.ServerTable as server_table
 use Rattle.server_machine.specs.ServerTable.{server_reports}
-use Rattle.eap_world.specs.Run.{run_of}
 use Rattle.world_laws.specs.Agreement.{IsWhole}
 use Rattle.world_laws.specs.Alone.{SameKeys}
 use Rattle.tag_book.specs.Book.{tags_verdict, tags_verdict_either}
@@ -25,6 +24,7 @@ use Rattle.eap_world.specs.World.{WorldNow}
 use Rattle.tag_book.specs.declared.book.End.TheVariants as end
 use Rattle.tag_book.specs.declared.book.TagsVerdict.TheVariants.{Honest}
 use Rattle.tag_book.specs.declared.book.Use.TheVariants.{Accepted, Made}
+use Rattle.world_laws.specs.Runs.{run_of}
 
 -- a conversation that accepted these tags rests on one of the other end, which made those: the first tag that it accepted is among
 -- them. At the server the first one is MAC_P of PSK-2 (RFC 4764 section 5.2) or the MAC of GPSK-2 (RFC 5433 section 9.2), which

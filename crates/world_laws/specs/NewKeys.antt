@@ -6,9 +6,9 @@ use Rattle.octet_lists.specs.Among.{psk_kind}
 use Rattle.aes_block.specs.Blocks.{IsBlock}
 use Rattle.eap_method.specs.Peer.{key_for}
 use Rattle.eap_world.specs.Conversations.{front}
-use Rattle.eap_world.specs.Run.{run_of}
 use Rattle.world_laws.specs.Agreement.{IsWhole}
 use Rattle.world_laws.specs.EachConversation.{AreTwoOf, OfPeer, peer_conversations, peer_nonce}
+use Rattle.world_laws.specs.Runs.{run_of}
 use Rattle.world_laws.specs.SessionIds.{SessionOf, peer_session}
 
 -- the method of this conversation has succeeded by EAP-PSK, whose RAND_P is a block

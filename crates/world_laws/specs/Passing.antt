@@ -12,10 +12,10 @@ use Rattle.login_setup.specs.declared.setup.Setup.{Setup}
 use Rattle.pass_through.specs.Inputs.{PassInput, from_peer, from_backend}
 use Rattle.pass_through.specs.PassTable.{initial_pass}
 use Rattle.pass_through.specs.Runs.{IsCarried, SentOn, pass_after, pass_sends}
-use Rattle.eap_world.specs.Run.{run_of}
 use Rattle.eap_world.specs.Sent.{Sent, packet_numbered}
-use Rattle.eap_world.specs.World.{Acted, Action, Call, Called, Skipped, WorldNow, act, alteration, call_of, act_of_call, first_skip, pass_octets, pass_port, sent_by, skip_table, start_call, to_pass, to_peer, to_server, initial_world, world_start, world_step}
+use Rattle.eap_world.specs.World.{Acted, Action, Call, Called, Skipped, WorldNow, act, alteration, call_of, act_of_call, first_skip, pass_octets, pass_port, sent_by, skip_table, start_call, to_pass, to_peer, to_server, world_start, world_step}
 use Rattle.eap_world.specs.declared.told.Skip.{Skip}
+use Rattle.world_laws.specs.Runs.{initial_world, run_of}
 
 -- ---- read off a run
 

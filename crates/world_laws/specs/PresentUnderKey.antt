@@ -9,12 +9,12 @@ use Rattle.tag_book.specs.Book.{tags_verdict, tags_verdict_either, under}
 use Rattle.tag_book.specs.declared.book.TagsVerdict.TheVariants.{Honest}
 use Rattle.eap_world.specs.Judgement.{is_success, verdict_of}
 use Rattle.eap_world.specs.declared.verdict.Verdict.TheVariants.{Agree, Apart}
-use Rattle.eap_world.specs.Run.{run_of}
 use Rattle.eap_world.specs.World.{WorldNow}
 use Rattle.world_laws.specs.Agreement.{AgreeAnew, AreApart, AreTheirs, IsWhole}
 use Rattle.world_laws.specs.Alone.{PeerIsAccepted, PeerKnows, ServerAccepts}
 use Rattle.world_laws.specs.EachConversation.{OfPeer, OfServer, peer_conversations, server_conversations}
 use Rattle.world_laws.specs.UnderKey.{IsOfKey}
+use Rattle.world_laws.specs.Runs.{run_of}
 
 -- two ends agree, on names, key and suite that are their own
 pub record AgreeOnTheirs (setup : Setup) (w : WorldNow) : Type 0 where

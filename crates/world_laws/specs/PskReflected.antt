@@ -3,12 +3,12 @@ use Rattle.std.specs.Prelude.{◌≡◌, List, true, Some}
 use Rattle.login_setup.specs.declared.event.Event.{Event}
 use Rattle.login_setup.specs.declared.setup.Setup.{Setup}
 use Rattle.octet_lists.specs.Among.{psk_kind}
-use Rattle.eap_world.specs.Run.{run_of}
 use Rattle.world_laws.specs.Agreement.{AgreeAnew, IsWhole}
 use Rattle.tag_book.specs.Book.{tags_verdict_either}
 use Rattle.eap_world.specs.Judgement.{is_success}
 use Rattle.eap_world.specs.World.{WorldNow}
 use Rattle.tag_book.specs.declared.book.TagsVerdict.TheVariants.{Honest}
+use Rattle.world_laws.specs.Runs.{run_of}
 
 -- if each accepted tag was made by either end, in whichever of its conversations, and nonces are fresh: two ends that are
 -- both in SUCCESS, the peer by EAP-PSK, agree

@@ -1,7 +1,9 @@
 -- What holds of the server at every moment of a run, with the tags that it has accepted and made: the view
 -- of its current method determines them exactly, also if the login has failed.
-use Rattle.std.specs.Prelude.{◌≡◌, List, true, false, None}
+use Rattle.std.specs.Prelude.{◌≡◌, ℕ, List, true, false, None, option_map}
 use Rattle.login_setup.specs.declared.setup.ServerSetup.{ServerSetup}
+use Rattle.eap_method.specs.BothServers.{both_of}
+use Rattle.eap_method.specs.Server.{ServerViews, method_of}
 use Rattle.eap_method.specs.declared.tags.TagRecord.{TagRecord}
 use Rattle.server_machine.specs.ServerTable.{ServerNow, is_proposed, is_started}
 use Rattle.server_machine.specs.declared.variables.ServerVariables.{ServerVariables}
@@ -14,9 +16,14 @@ pub record IsUntouched (vars : ServerVariables) : Type 0 where
   pub no_method : vars.current ≡ None
   pub no_id : vars.current_id ≡ None
 
+-- at each Type stands an object of the method with which the server began
+pub record ServerHasBoth (methods : List ℕ) (views : ServerViews) : Type 0 where
+  pub same : (kind : ℕ) → option_map method_of (views kind) ≡ option_map method_of (both_of methods kind)
+
 -- what holds of a server with the tags that it has accepted and made
 pub record ServerInvariant (setup : ServerSetup) (now : ServerNow) (accepted made : List TagRecord) : Type 0 where
   pub own : now.vars.setup ≡ setup
+  pub both : ServerHasBoth setup.methods now.views
   pub tags : ServerTags setup now.vars.current now.views accepted made
   pub unstarted : is_started now.vars ≡ false → IsUntouched now.vars
   -- a method that is only proposed has none

@@ -7,6 +7,7 @@ use Rattle.octet_lists.specs.Suite.{suite_numbered}
 use Rattle.octet_lists.specs.declared.suite.Suite.{Suite}
 use Rattle.login_keys.specs.Gpsk.{input_string}
 use Rattle.login_keys.specs.SessionId.{gpsk_id, method_id_input, psk_id}
+use Rattle.eap_method.specs.BothServers.{gpsk_at, psk_at}
 use Rattle.eap_method.specs.declared.values.Report.{Report}
 use Rattle.eap_method.specs.GpskPeer as gpsk_peer
 use Rattle.eap_method.specs.GpskServer as gpsk_server
@@ -16,12 +17,14 @@ use Rattle.eap_method.specs.PskTags.{rand_of}
 use Rattle.peer_machine.specs.PeerTable.{PeerNow}
 use Rattle.server_machine.specs.ServerTable.{ServerNow}
 use Rattle.eap_world.specs.Judgement.{is_success}
-use Rattle.eap_world.specs.Run.{run_of}
 use Rattle.eap_world.specs.World.{WorldNow}
 use Rattle.world_laws.specs.Agreement.{IsWhole}
 use Rattle.world_laws.specs.ByMethod.{by_kind}
 use Rattle.world_laws.specs.EachConversation.{AreTwoOf, IsOneOf, OfPeer, OfServer, peer_conversations, server_conversations}
 use Rattle.world_laws.specs.Matching.{RestsOn}
+use Rattle.world_laws.specs.Runs.{run_of}
+use Rattle.eap_method.specs.BothPeers.{psk_in}
+use Rattle.eap_method.specs.BothPeers.{gpsk_in}
 
 -- what the Session-Id of a login is made from: its report, and the nonces, of which EAP-PSK has 16 octets each
 pub record SessionOf : Type 0 where
@@ -61,7 +64,7 @@ gpsk_peer_session (gpsk_peer.over login good) = if_won good (record { report = g
 
 abbrev pub peer_session_of : PeerNow → Option ℕ → Option SessionOf
 peer_session_of now None = None
-peer_session_of now (Some kind) = by_kind (kind == psk_kind) (kind == gpsk_kind) (psk_peer_session now.views.psk) (gpsk_peer_session now.views.gpsk)
+peer_session_of now (Some kind) = by_kind (kind == psk_kind) (kind == gpsk_kind) (psk_peer_session (psk_in now.views)) (gpsk_peer_session (gpsk_in now.views))
 
 abbrev pub peer_session : PeerNow → Option SessionOf
 peer_session now = peer_session_of now now.vars.selected
@@ -76,7 +79,7 @@ gpsk_server_session view = None
 
 abbrev pub server_session_of : ServerNow → Option ℕ → Option SessionOf
 server_session_of now None = None
-server_session_of now (Some kind) = by_kind (kind == psk_kind) (kind == gpsk_kind) (psk_server_session now.views.psk) (gpsk_server_session now.views.gpsk)
+server_session_of now (Some kind) = by_kind (kind == psk_kind) (kind == gpsk_kind) (psk_server_session (psk_at now.views)) (gpsk_server_session (gpsk_at now.views))
 
 abbrev pub server_session : ServerNow → Option SessionOf
 server_session now = server_session_of now now.vars.current

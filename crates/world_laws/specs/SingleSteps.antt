@@ -17,11 +17,11 @@ use Rattle.pass_through.specs.PassTable.{is_over}
 use Rattle.tag_book.specs.declared.book.End.{End}
 use Rattle.tag_book.specs.declared.book.End.TheVariants as end
 use Rattle.tag_book.specs.declared.book.Use.TheVariants.{Accepted}
-use Rattle.eap_world.specs.Run.{run_of}
 use Rattle.eap_world.specs.Judgement.{is_success}
 use Rattle.world_laws.specs.EndInvariants.{present_tags}
 use Rattle.eap_world.specs.Sent.{Sent, last_to, packet_numbered}
 use Rattle.eap_world.specs.World.{Parties, WorldNow, WorldOutcome, alteration, octets_of, state_of, world_step}
+use Rattle.world_laws.specs.Runs.{run_of}
 
 -- the Identifier (RFC 3748 section 4)
 abbrev pub identifier_of : List ℕ → ℕ

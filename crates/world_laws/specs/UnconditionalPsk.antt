@@ -4,7 +4,7 @@ use Rattle.login_setup.specs.declared.event.Event.{Event}
 use Rattle.login_setup.specs.declared.setup.Setup.{Setup}
 use Rattle.octet_lists.specs.Among.{psk_kind}
 use Rattle.peer_machine.specs.PeerTable.{PeerNow, is_done, is_fail, is_uncond}
-use Rattle.eap_world.specs.Run.{run_of}
+use Rattle.world_laws.specs.Runs.{run_of}
 
 pub record IsUnconditional (now : PeerNow) : Type 0 where
   pub sure : now.vars.selected ≡ Some psk_kind → is_fail now.vars.decision ≡ false → is_uncond now.vars.decision ≡ true

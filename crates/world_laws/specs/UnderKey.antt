@@ -14,12 +14,12 @@ use Rattle.tag_book.specs.declared.book.Entry.{Entry}
 use Rattle.tag_book.specs.declared.book.TagsVerdict.TheVariants.{Honest}
 use Rattle.tag_book.specs.Book.{tags_verdict, tags_verdict_either, under}
 use Rattle.eap_world.specs.Judgement.{is_success}
-use Rattle.eap_world.specs.Run.{run_of}
 use Rattle.eap_world.specs.World.{WorldNow}
 use Rattle.world_laws.specs.Agreement.{IsWhole}
 use Rattle.world_laws.specs.ByMethod.{peer_login}
 use Rattle.world_laws.specs.EachConversation.{IsOneOf, OfPeer, OfServer, peer_conversations, server_conversations}
 use Rattle.world_laws.specs.Matching.{PeerMatches, ReportsAgree, RestsOn, ServerMatches}
+use Rattle.world_laws.specs.Runs.{run_of}
 
 -- what the server reports is of a user of this key
 pub record IsOfKey (setup : Setup) (key : List ℕ) (now : ServerNow) : Type 0 where

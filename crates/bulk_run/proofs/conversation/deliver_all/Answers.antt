@@ -10,7 +10,7 @@ loop-passed-init g c = record {
   packets = c.requires.packets;
   few = c.requires.few;
   objects = c.requires.objects;
-  kinds = refl;
+  methods = refl;
 }
 
 pub loop-passed-preserved : goal.loop-passed-preserved
@@ -21,5 +21,5 @@ loop-passed-preserved g c = record {
   packets = c.in_ok-step_event.ensures.packets;
   few = c.in_ok-step_event.ensures.few c.loop-passed.passed c.loop-passed.invariant.few;
   objects = c.step_event.ensures.objects;
-  kinds = c.step_event.ensures.kinds ∙ c.loop-passed.invariant.kinds;
+  methods = c.step_event.ensures.methods ∙ c.loop-passed.invariant.methods;
 }

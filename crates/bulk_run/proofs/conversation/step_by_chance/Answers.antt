@@ -13,7 +13,7 @@ loop-init g c = record {
   packets = c.requires.packets;
   few = c.requires.few;
   objects = c.requires.objects;
-  kinds = refl;
+  methods = refl;
 }
 
 pub loop-preserved : goal.loop-preserved
@@ -36,5 +36,5 @@ loop-preserved g c =
       packets = c.in_ok-step_chosen.ensures.packets;
       few = c.in_ok-step_chosen.ensures.few turns c.loop.invariant.few;
       objects = c.step_chosen.ensures.objects;
-      kinds = c.step_chosen.ensures.kinds ∙ c.loop.invariant.kinds;
+      methods = c.step_chosen.ensures.methods ∙ c.loop.invariant.methods;
     }

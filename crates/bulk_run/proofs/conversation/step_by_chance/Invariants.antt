@@ -1,12 +1,12 @@
 use Rattle.std.proofs.Common.{◌≡◌, ℕ, ◌+◌, ◌*◌, [], length, true}
 use Rattle.login_setup.specs.declared.setup.Setup.{Setup}
-use Rattle.eap_world.specs.Run.{run_of}
 use Rattle.eap_world.specs.World.{HasObjects, now_of}
-use Rattle.bulk_run.specs.Kinds.{PreservesKinds}
+use Rattle.bulk_run.specs.ObjectMethods.{PreservesMethods}
 use Rattle.bulk_run.specs.Conversation.{chances}
 use Rattle.bulk_run.specs.Draws.{state_at}
 use Rattle.bulk_run.specs.RunningEnd.{AreFew}
 use Rattle.bulk_run.proofs.conversation.step_by_chance.Given as goal
+use Rattle.world_laws.specs.Runs.{run_of}
 
 abbrev pub invariant-loop : goal.invariant-loop
 invariant-loop g l = record {
@@ -18,5 +18,5 @@ invariant-loop g l = record {
   packets : l.packets ≡ length l.world.sent;
   few : AreFew l.world.counts l.counter;
   objects : HasObjects g.P.PeerMethod.peer_shown g.S.ServerMethod.server_shown l.world;
-  kinds : PreservesKinds g.P.PeerMethod.peer_shown g.S.ServerMethod.server_shown l.initial.world l.world;
+  methods : PreservesMethods g.P.PeerMethod.peer_shown g.S.ServerMethod.server_shown l.initial.world l.world;
 }

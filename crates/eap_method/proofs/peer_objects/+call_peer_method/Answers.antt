@@ -1,6 +1,6 @@
 use Rattle.std.proofs.Common.{◌∙◌, sym, refl}
 use Rattle.eap_method.proofs.Lists.{empty_of}
-use Rattle.eap_method.proofs.PeerObjects.{turn_hit, turn_miss, step_kind}
+use Rattle.eap_method.proofs.PeerObjects.{turn_hit, turn_miss, step_kind, steps_method}
 use Rattle.eap_method.proofs.PeerViews.{turn_none}
 use Rattle.eap_method.proofs.Unnamed.{peer_hit, peer_miss}
 use Rattle.eap_method.proofs.peer_objects.+call_peer_method.Goals as goal
@@ -14,9 +14,9 @@ returns-then-kind-clause-turn g t c = λ allowed is_allowed.
     rw c.in-Some.ensures.cases.0
     (turn_hit allowed _ _ _ _ _ _ c.peer_turn.ensures.turn (sym c.kind.ensures ∙ c.if-kind.true) is_allowed)
 
-pub returns-then-kind-clause-kinds : goal.returns-then-kind-clause-kinds
-returns-then-kind-clause-kinds g t c =
-    rw c.in-Some.ensures.cases.0 (rw (step_kind _ _ _ _ c.peer_turn.ensures.turn) refl)
+pub returns-then-kind-clause-methods : goal.returns-then-kind-clause-methods
+returns-then-kind-clause-methods g t c =
+    rw c.in-Some.ensures.cases.0 (rw (steps_method _ _ _ _ c.peer_turn.ensures.turn) refl)
 
 pub returns-else-kind-clause-turn : goal.returns-else-kind-clause-turn
 returns-else-kind-clause-turn g t c = λ allowed is_allowed.

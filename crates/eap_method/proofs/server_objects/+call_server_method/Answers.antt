@@ -1,6 +1,6 @@
 use Rattle.std.proofs.Common.{◌∙◌, sym, refl}
 use Rattle.eap_method.proofs.Lists.{empty_of}
-use Rattle.eap_method.proofs.ServerObjects.{turn_hit, turn_miss, turn_none, step_kind}
+use Rattle.eap_method.proofs.ServerObjects.{turn_hit, turn_miss, turn_none, step_kind, steps_method}
 use Rattle.eap_method.proofs.Unnamed.{server_hit, server_miss}
 use Rattle.eap_method.proofs.server_objects.+call_server_method.Goals as goal
 
@@ -13,9 +13,9 @@ returns-then-kind-clause-turn g t c = λ order is_proposed.
     rw c.in-Some.ensures.cases.0
     (turn_hit _ _ order _ _ _ _ _ _ c.server_turn.ensures.turn (sym c.kind.ensures ∙ c.if-kind.true) is_proposed)
 
-pub returns-then-kind-clause-kinds : goal.returns-then-kind-clause-kinds
-returns-then-kind-clause-kinds g t c =
-    rw c.in-Some.ensures.cases.0 (rw (step_kind _ _ _ _ _ _ c.server_turn.ensures.turn) refl)
+pub returns-then-kind-clause-methods : goal.returns-then-kind-clause-methods
+returns-then-kind-clause-methods g t c =
+    rw c.in-Some.ensures.cases.0 (rw (steps_method _ _ _ _ _ _ c.server_turn.ensures.turn) refl)
 
 pub returns-else-kind-clause-turn : goal.returns-else-kind-clause-turn
 returns-else-kind-clause-turn g t c = λ order is_proposed.
