@@ -18234,57 +18234,30 @@
 .LBBbcd50_1:
 	.save	{r11, lr}
 	push	{r11, lr}
-	.pad	#8
-	sub	sp, sp, #8
 	ldr	r1, [r0, #2288]
 	ldr	r2, [r0, #2296]
 	ldr	r3, [r0, #2300]
-	ldrb	r0, [r0, #770]
-	str	r0, [sp]
-	mov	r0, r1
-	bl	"peer_machine::machine::object_of::<#807681be332d694b>"
-	add	sp, sp, #8
+	sub	r1, r1, #1520
+	ldrb	r12, [r0, #770]
+.LBBbcd50_2:
+	orrs	r0, r2, r3
+	beq	.LBBbcd50_5
+	subs	r2, r2, #1
+	ldrb	lr, [r1, #1520]!
+	sbc	r3, r3, #0
+	mov	r0, #51
+	cmp	lr, #0
+	movweq	r0, #47
+	cmp	r0, r12
+	bne	.LBBbcd50_2
+	mov	r0, #1
+	pop	{r11, pc}
+.LBBbcd50_5:
+	mov	r0, #0
+	mov	r1, #0
 	pop	{r11, pc}
 .Lfunc_endbcd50:
 	.size	"peer_machine::machine::PeerMachine::selected::<#807681be332d694b>", .Lfunc_endbcd50-"peer_machine::machine::PeerMachine::selected::<#807681be332d694b>"
-	.cantunwind
-	.fnend
-
-	.section	".text.peer_machine::machine::object_of::<#807681be332d694b>","ax",%progbits
-	.p2align	2
-	.type	"peer_machine::machine::object_of::<#807681be332d694b>",%function
-	.code	32
-"peer_machine::machine::object_of::<#807681be332d694b>":
-	.fnstart
-	mov	r1, r0
-	orrs	r0, r2, r3
-	moveq	r0, #0
-	moveq	r1, #0
-	bxeq	lr
-.LBBc3622_1:
-	.save	{r4, lr}
-	push	{r4, lr}
-	.pad	#8
-	sub	sp, sp, #8
-	ldr	r12, [sp, #16]
-	mov	lr, #51
-	ldrb	r0, [r1]
-	cmp	r0, #0
-	mov	r0, #1
-	movweq	lr, #47
-	uxtb	r4, r12
-	cmp	lr, r4
-	beq	.LBBc3622_3
-	subs	r2, r2, #1
-	add	r0, r1, #1520
-	sbc	r3, r3, #0
-	str	r12, [sp]
-	bl	"peer_machine::machine::object_of::<#807681be332d694b>"
-.LBBc3622_3:
-	add	sp, sp, #8
-	pop	{r4, pc}
-.Lfunc_endc3622:
-	.size	"peer_machine::machine::object_of::<#807681be332d694b>", .Lfunc_endc3622-"peer_machine::machine::object_of::<#807681be332d694b>"
 	.cantunwind
 	.fnend
 
@@ -18445,75 +18418,44 @@
 	.code	32
 "server_machine::machine::ServerMachine::current::<#476143f5be766e51>":
 	.fnstart
-	.save	{r4, r6, r7, lr}
-	push	{r4, r6, r7, lr}
-	.pad	#8
-	sub	sp, sp, #8
-	mov	r4, r0
-	movw	r0, #5982
-	ldrb	r0, [r1, r0]!
-	mov	r6, #0
-	cmp	r0, #0
-	beq	.LBB26032_2
+	.save	{r4, r6, r8, lr}
+	push	{r4, r6, r8, lr}
+	movw	r2, #5982
+	mov	r8, #0
+	ldrb	r2, [r1, r2]!
+	cmp	r2, #0
+	beq	.LBB26032_5
+	ldr	r3, [r1, #1538]
+	movw	r12, #1256
 	ldr	r2, [r1, #1546]
-	ldr	r3, [r1, #1550]
-	ldr	r0, [r1, #1538]
-	ldrb	r1, [r1, #1]
-	str	r1, [sp]
-	bl	"server_machine::machine::object_of::<#476143f5be766e51>"
-	mov	r7, r1
-	b	.LBB26032_3
+	ldr	r4, [r1, #1550]
+	sub	r3, r3, r12
+	ldrb	lr, [r1, #1]
 .LBB26032_2:
-	mov	r0, #0
-	mov	r7, #0
-.LBB26032_3:
-	strd	r6, r7, [r4, #4]
-	strh	r6, [r4, #2]
-	strb	r6, [r4, #1]
-	strb	r0, [r4]
-	add	sp, sp, #8
-	pop	{r4, r6, r7, pc}
+	orrs	r6, r2, r4
+	beq	.LBB26032_5
+	subs	r2, r2, #1
+	ldrb	r6, [r3, #1256]!
+	sbc	r4, r4, #0
+	mov	r1, #51
+	cmp	r6, #0
+	movweq	r1, #47
+	cmp	r1, lr
+	bne	.LBB26032_2
+	mov	r1, #1
+	b	.LBB26032_6
+.LBB26032_5:
+	mov	r1, #0
+	mov	r3, #0
+.LBB26032_6:
+	str	r8, [r0, #4]
+	str	r3, [r0, #8]
+	strh	r8, [r0, #2]
+	strb	r8, [r0, #1]
+	strb	r1, [r0]
+	pop	{r4, r6, r8, pc}
 .Lfunc_end26032:
 	.size	"server_machine::machine::ServerMachine::current::<#476143f5be766e51>", .Lfunc_end26032-"server_machine::machine::ServerMachine::current::<#476143f5be766e51>"
-	.cantunwind
-	.fnend
-
-	.section	".text.server_machine::machine::object_of::<#476143f5be766e51>","ax",%progbits
-	.p2align	2
-	.type	"server_machine::machine::object_of::<#476143f5be766e51>",%function
-	.code	32
-"server_machine::machine::object_of::<#476143f5be766e51>":
-	.fnstart
-	mov	r1, r0
-	orrs	r0, r2, r3
-	moveq	r0, #0
-	moveq	r1, #0
-	bxeq	lr
-.LBBdb9e0_1:
-	.save	{r4, lr}
-	push	{r4, lr}
-	.pad	#8
-	sub	sp, sp, #8
-	ldr	r12, [sp, #16]
-	mov	lr, #51
-	ldrb	r0, [r1]
-	cmp	r0, #0
-	mov	r0, #1
-	movweq	lr, #47
-	uxtb	r4, r12
-	cmp	lr, r4
-	beq	.LBBdb9e0_3
-	movw	r0, #1256
-	subs	r2, r2, #1
-	add	r0, r1, r0
-	sbc	r3, r3, #0
-	str	r12, [sp]
-	bl	"server_machine::machine::object_of::<#476143f5be766e51>"
-.LBBdb9e0_3:
-	add	sp, sp, #8
-	pop	{r4, pc}
-.Lfunc_enddb9e0:
-	.size	"server_machine::machine::object_of::<#476143f5be766e51>", .Lfunc_enddb9e0-"server_machine::machine::object_of::<#476143f5be766e51>"
 	.cantunwind
 	.fnend
 
@@ -18586,112 +18528,104 @@
 	push	{r4, r5, r6, r7, r8, r9, r10, r11, lr}
 	.pad	#20
 	sub	sp, sp, #20
-	mov	r9, r1
+	mov	r8, r1
 	movw	r7, #9056
-	ldrb	r3, [r9], #552
+	ldrb	r3, [r8], #552
 	add	r7, r1, r7
-	str	r2, [sp, #12]
-	cmp	r3, #3
 	str	r7, [sp, #16]
-	bne	.LBB887b0_13
-	ldrd	r10, r11, [r9]
-	ldr	r6, [r9, #1752]
-	ldr	r3, [r9, #1756]
-	orrs	r7, r10, r11
-	ldr	r2, [r1, #2296]
-	str	r2, [sp, #8]
-	beq	.LBB887b0_8
-	orrs	r7, r6, r3
-	str	r6, [sp, #4]
-	beq	.LBB887b0_13
-	movw	r7, #545
-	add	r2, r1, #544
-	add	r7, r1, r7
-	ldr	r6, [sp, #4]
-.LBB887b0_4:
-	mov	r5, r3
-	mov	r3, r2
-	ldrb	r4, [r3]
-	subs	r10, r10, #1
-	ldr	lr, [sp, #8]
-	sbc	r11, r11, #0
-	mov	r2, r7
-	mov	r3, r5
-	mov	r7, r5
-.LBB887b0_5:
-	ldrb	r12, [lr]
-	mov	r8, #51
-	cmp	r12, #0
-	movweq	r8, #47
-	cmp	r8, r4
+	cmp	r3, #3
+	bne	.LBB887b0_12
+	ldrd	r10, r11, [r8]
+	ldr	r7, [r8, #1752]
+	ldr	r3, [r8, #1756]
+	orrs	r6, r10, r11
+	ldr	r5, [r1, #2296]
 	beq	.LBB887b0_7
-	subs	r6, r6, #1
-	add	lr, lr, #1520
-	sbc	r7, r7, #0
-	orrs	r5, r6, r7
-	bne	.LBB887b0_5
-	b	.LBB887b0_13
-.LBB887b0_7:
-	orrs	r7, r10, r11
-	ldr	r6, [sp, #4]
-	mov	r7, r2
-	addne	r7, r7, #1
+	movw	r6, #545
+	add	r9, r1, #544
+	add	r6, r1, r6
+	str	r7, [sp, #12]
+	str	r3, [sp, #8]
+	str	r5, [sp, #4]
+.LBB887b0_3:
+	mov	r4, r9
+	subs	r10, r10, #1
+	ldrb	lr, [r4]
+	sbc	r11, r11, #0
+	mov	r9, r6
+	mov	r6, r5
+.LBB887b0_4:
+	orrs	r12, r7, r3
+	beq	.LBB887b0_12
+	subs	r7, r7, #1
+	ldrb	r5, [r6], #1520
+	sbc	r3, r3, #0
+	mov	r4, #51
+	cmp	r5, #0
+	movweq	r4, #47
+	cmp	r4, lr
 	bne	.LBB887b0_4
-.LBB887b0_8:
-	ldr	r2, [sp, #12]
-	add	r5, r1, #736
-	mov	r8, r0
-	add	r0, r1, #8
+	orrs	r3, r10, r11
+	mov	r6, r9
+	ldr	r7, [sp, #12]
+	addne	r6, r6, #1
+	ldr	r3, [sp, #8]
+	ldr	r5, [sp, #4]
+	bne	.LBB887b0_3
+.LBB887b0_7:
 	vld1.8	{d16, d17}, [r2]!
-	mov	r4, r1
+	add	r6, r1, #736
+	mov	r9, r0
+	add	r0, r1, #8
 	vld1.8	{d18, d19}, [r2]
 	mov	r2, #24
-	vst1.8	{d16, d17}, [r5]!
-	vst1.8	{d18, d19}, [r5], r2
-	mov	r2, r6
+	mov	r4, r1
+	vst1.8	{d16, d17}, [r6]!
+	vst1.8	{d18, d19}, [r6], r2
+	mov	r2, r7
 	str	r0, [sp]
-	ldr	r0, [sp, #8]
+	mov	r0, r5
 	bl	"eap_method::peer_objects::start_peers::<#807681be332d694b>"
-	ldr	r2, [r9, #1736]!
+	ldr	r2, [r8, #1736]!
 	mov	r1, #1
 	mov	r7, #0
 	mov	r3, r4
-	strb	r1, [r5]
+	strb	r1, [r6]
 	mov	r0, r4
-	ldr	r1, [r9, #4]
+	ldr	r1, [r8, #4]
 	str	r7, [r3, #777]!
 	orrs	r1, r2, r1
 	strh	r7, [r3, #4]
-	beq	.LBB887b0_10
+	beq	.LBB887b0_9
 	add	r0, r0, #784
 	mov	r1, #0
 	bl	memset
 	mov	r0, r4
-	str	r7, [r9]
-	str	r7, [r9, #4]
-.LBB887b0_10:
+	str	r7, [r8]
+	str	r7, [r8, #4]
+.LBB887b0_9:
 	ldr	r5, [sp, #16]
 	ldrd	r2, r3, [r5]
 	orrs	r1, r2, r3
-	beq	.LBB887b0_12
+	beq	.LBB887b0_11
 	add	r0, r0, #7552
 	mov	r1, #0
 	mov	r4, #0
 	bl	memset
 	str	r4, [r5]
 	str	r4, [r5, #4]
-.LBB887b0_12:
+.LBB887b0_11:
 	mov	r1, #0
 	mov	r2, #1
-	mov	r0, r8
 	strb	r1, [r5, #8]
-	b	.LBB887b0_14
-.LBB887b0_13:
+	mov	r0, r9
+	b	.LBB887b0_13
+.LBB887b0_12:
 	ldr	r1, [sp, #16]
 	mov	r2, #0
 	strb	r2, [r1, #8]
 	mov	r1, #1
-.LBB887b0_14:
+.LBB887b0_13:
 	strb	r2, [r0, #4]
 	mov	r2, #0
 	strb	r2, [r0, #3]
@@ -19210,40 +19144,34 @@
 	ldr	r2, [r4, r0]
 	orrs	r0, r2, r10
 	mov	r0, #1
-	beq	.LBBdb48f_8
-	ldr	lr, [r4, #4]
-	orrs	r5, r12, lr
 	beq	.LBBdb48f_7
-	ldr	r8, [r4, #-8]
+	ldr	lr, [r4, #-8]
 	add	r9, r1, #264
-.LBBdb48f_3:
+	ldr	r8, [r4, #4]
+.LBBdb48f_2:
 	subs	r2, r2, #1
 	ldrb	r5, [r9], #1
 	sbc	r10, r10, #0
-	mov	r6, r12
-	mov	r7, lr
+	mov	r6, lr
+	mov	r7, r12
 	mov	r4, r8
-.LBBdb48f_4:
-	ldrb	r1, [r4]
+.LBBdb48f_3:
+	orrs	r1, r7, r4
+	beq	.LBBdb48f_6
+	subs	r7, r7, #1
+	ldrb	r1, [r6], #1256
+	sbc	r4, r4, #0
 	mov	r3, #51
 	cmp	r1, #0
 	movweq	r3, #47
 	cmp	r3, r5
-	beq	.LBBdb48f_6
-	subs	r6, r6, #1
-	movw	r1, #1256
-	add	r4, r4, r1
-	sbc	r7, r7, #0
-	orrs	r1, r6, r7
-	bne	.LBBdb48f_4
+	bne	.LBBdb48f_3
+	orrs	r4, r2, r10
+	bne	.LBBdb48f_2
 	b	.LBBdb48f_7
 .LBBdb48f_6:
-	orrs	r4, r2, r10
-	bne	.LBBdb48f_3
-	b	.LBBdb48f_8
-.LBBdb48f_7:
 	mov	r0, #0
-.LBBdb48f_8:
+.LBBdb48f_7:
 	pop	{r4, r5, r6, r7, r8, r9, r10, pc}
 .Lfunc_enddb48f:
 	.size	"server_machine::machine::ServerMachine::has_objects::<#476143f5be766e51>", .Lfunc_enddb48f-"server_machine::machine::ServerMachine::has_objects::<#476143f5be766e51>"
@@ -19270,7 +19198,7 @@
 	mov	r9, #0
 	mov	r1, #0
 	mov	r3, #1
-.LPC136_0:
+.LPC134_0:
 	add	r0, pc, r0
 	str	r0, [sp]
 	mov	r0, r6
@@ -19315,7 +19243,7 @@
 .LCPI820f6_0:
 	.byte	0,12,13,14,15,1,0,0,6,0,0,0,0,0,0,0
 .LCPI820f6_1:
-	.long	.Lstatic.0-(.LPC136_0+8)
+	.long	.Lstatic.0-(.LPC134_0+8)
 .Lfunc_end820f6:
 	.size	"server_machine::machine::ServerMachine::start_step::<#476143f5be766e51>", .Lfunc_end820f6-"server_machine::machine::ServerMachine::start_step::<#476143f5be766e51>"
 	.cantunwind
@@ -19394,7 +19322,7 @@
 	mov	r7, #0
 	mov	r1, #0
 	mov	r3, #1
-.LPC138_0:
+.LPC136_0:
 	add	r0, pc, r0
 	str	r0, [sp]
 	mov	r0, r5
@@ -19423,7 +19351,7 @@
 .LCPI87da7_0:
 	.byte	0,12,13,14,15,1,0,0,6,0,0,0,0,0,0,0
 .LCPI87da7_1:
-	.long	.Lstatic.0-(.LPC138_0+8)
+	.long	.Lstatic.0-(.LPC136_0+8)
 .Lfunc_end87da7:
 	.size	"pass_through::machine::PassThrough::initialize", .Lfunc_end87da7-"pass_through::machine::PassThrough::initialize"
 	.cantunwind
@@ -19950,7 +19878,7 @@
 	mov	r3, #0
 	str	r2, [sp]
 	mov	r2, #0
-.LPC147_0:
+.LPC145_0:
 	add	r0, pc, r0
 	bl	"end_objects::refusals::has_keys"
 	mov	r2, r0
@@ -19977,7 +19905,7 @@
 	bx	lr
 	.p2align	2
 .LCPI77d03_0:
-	.long	.Lstatic.0-(.LPC147_0+8)
+	.long	.Lstatic.0-(.LPC145_0+8)
 .Lfunc_end77d03:
 	.size	"end_objects::refusals::user_refusal", .Lfunc_end77d03-"end_objects::refusals::user_refusal"
 	.cantunwind
@@ -21461,10 +21389,10 @@
 	ldr	r1, .LCPI9e343_1
 	tst	r5, #255
 	str	r2, [sp, #88]
-.LPC158_0:
+.LPC156_0:
 	add	r0, pc, r0
 	ldr	r2, [sp, #672]
-.LPC158_1:
+.LPC156_1:
 	add	r1, pc, r1
 	ldr	r3, [sp, #676]
 	mov	r6, #2
@@ -21585,9 +21513,9 @@
 	pop	{r4, r5, r6, r7, r8, r9, r10, r11, pc}
 	.p2align	2
 .LCPI9e343_0:
-	.long	.Lstatic.2-(.LPC158_0+8)
+	.long	.Lstatic.2-(.LPC156_0+8)
 .LCPI9e343_1:
-	.long	.Lstatic.37-(.LPC158_1+8)
+	.long	.Lstatic.37-(.LPC156_1+8)
 .Lfunc_end9e343:
 	.size	"tuvaddri_c::gpsk::gpsk_id", .Lfunc_end9e343-"tuvaddri_c::gpsk::gpsk_id"
 	.cantunwind
@@ -24444,7 +24372,7 @@ tuv_end_session_id:
 	ldr	r2, .LCPI5aec3_0
 	stmib	sp, {r0, r9}
 	add	r0, sp, #1728
-.LPC178_0:
+.LPC176_0:
 	add	r2, pc, r2
 	str	r3, [sp]
 	str	r7, [sp, #12]
@@ -24500,7 +24428,7 @@ tuv_end_session_id:
 	pop	{r4, r5, r6, r7, r8, r9, r10, r11, pc}
 	.p2align	2
 .LCPI5aec3_0:
-	.long	.Lstatic.14-(.LPC178_0+8)
+	.long	.Lstatic.14-(.LPC176_0+8)
 .Lfunc_end5aec3:
 	.size	tuv_end_session_id, .Lfunc_end5aec3-tuv_end_session_id
 	.cantunwind

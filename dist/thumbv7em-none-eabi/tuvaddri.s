@@ -19946,69 +19946,78 @@
 "peer_machine::machine::PeerMachine::selected::<#807681be332d694b>":
 	.fnstart
 	ldrb.w	r1, [r0, #769]
-	cbz	r1, .LBBbcd50_2
-	.save	{r7, lr}
-	push	{r7, lr}
-	.pad	#8
-	sub	sp, #8
-	ldr.w	r1, [r0, #2288]
-	ldr.w	r2, [r0, #2296]
-	ldr.w	r3, [r0, #2300]
+	cmp	r1, #0
+	beq	.LBBbcd50_11
 	ldrb.w	r12, [r0, #770]
-	mov	r0, r1
-	str.w	r12, [sp]
-	bl	"peer_machine::machine::object_of::<#807681be332d694b>"
-	add	sp, #8
-	pop	{r7, pc}
+	ldr.w	r1, [r0, #2288]
+	ldr.w	r3, [r0, #2296]
+	ldr.w	r0, [r0, #2300]
+	.p2align	2
 .LBBbcd50_2:
+	orrs.w	r2, r3, r0
+	beq	.LBBbcd50_11
+	ldrb	r2, [r1]
+	cmp	r2, #0
+	mov.w	r2, #51
+	it	eq
+	moveq	r2, #47
+	cmp	r2, r12
+	itt	eq
+	moveq	r0, #1
+	bxeq	lr
+.LBBbcd50_4:
+	eor	r2, r3, #1
+	orrs	r2, r0
+	beq	.LBBbcd50_11
+	ldrb.w	r2, [r1, #1520]
+	cmp	r2, #0
+	mov.w	r2, #51
+	it	eq
+	moveq	r2, #47
+	cmp	r2, r12
+	beq	.LBBbcd50_12
+	eor	r2, r3, #2
+	orrs	r2, r0
+	beq	.LBBbcd50_11
+	ldrb.w	r2, [r1, #3040]
+	cmp	r2, #0
+	mov.w	r2, #51
+	it	eq
+	moveq	r2, #47
+	cmp	r2, r12
+	beq	.LBBbcd50_13
+	eor	r2, r3, #3
+	orrs	r2, r0
+	beq	.LBBbcd50_11
+	movw	r2, #4560
+	add	r1, r2
+	ldrb	r2, [r1]
+	subs	r3, #4
+	sbc	r0, r0, #0
+	cmp	r2, #0
+	mov.w	r2, #51
+	it	eq
+	moveq	r2, #47
+	cmp	r2, r12
+	add.w	r1, r1, #1520
+	bne	.LBBbcd50_2
+	sub.w	r1, r1, #1520
+	movs	r0, #1
+	bx	lr
+.LBBbcd50_11:
 	movs	r0, #0
 	movs	r1, #0
+	bx	lr
+.LBBbcd50_12:
+	add.w	r1, r1, #1520
+	movs	r0, #1
+	bx	lr
+.LBBbcd50_13:
+	add.w	r1, r1, #3040
+	movs	r0, #1
 	bx	lr
 .Lfunc_endbcd50:
 	.size	"peer_machine::machine::PeerMachine::selected::<#807681be332d694b>", .Lfunc_endbcd50-"peer_machine::machine::PeerMachine::selected::<#807681be332d694b>"
-	.cantunwind
-	.fnend
-
-	.section	".text.peer_machine::machine::object_of::<#807681be332d694b>","ax",%progbits
-	.p2align	2
-	.type	"peer_machine::machine::object_of::<#807681be332d694b>",%function
-	.code	16
-	.thumb_func
-"peer_machine::machine::object_of::<#807681be332d694b>":
-	.fnstart
-	orrs.w	r1, r2, r3
-	beq	.LBBc3622_3
-	.save	{r7, lr}
-	push	{r7, lr}
-	.pad	#8
-	sub	sp, #8
-	mov	r1, r0
-	ldrb	r0, [r0]
-	ldr.w	r12, [sp, #16]
-	cmp	r0, #0
-	mov.w	lr, #51
-	uxtb.w	r0, r12
-	it	eq
-	moveq.w	lr, #47
-	cmp	lr, r0
-	bne	.LBBc3622_4
-	movs	r0, #1
-	add	sp, #8
-	pop	{r7, pc}
-.LBBc3622_3:
-	movs	r0, #0
-	movs	r1, #0
-	bx	lr
-.LBBc3622_4:
-	subs	r2, #1
-	sbc	r3, r3, #0
-	add.w	r0, r1, #1520
-	str.w	r12, [sp]
-	bl	"peer_machine::machine::object_of::<#807681be332d694b>"
-	add	sp, #8
-	pop	{r7, pc}
-.Lfunc_endc3622:
-	.size	"peer_machine::machine::object_of::<#807681be332d694b>", .Lfunc_endc3622-"peer_machine::machine::object_of::<#807681be332d694b>"
 	.cantunwind
 	.fnend
 
@@ -20174,78 +20183,83 @@
 	.thumb_func
 "server_machine::machine::ServerMachine::current::<#476143f5be766e51>":
 	.fnstart
-	.save	{r4, r5, r7, lr}
-	push	{r4, r5, r7, lr}
-	.pad	#8
-	sub	sp, #8
+	.save	{r4, lr}
+	push	{r4, lr}
 	movw	r2, #5982
 	ldrb	r3, [r1, r2]
-	mov	r4, r0
-	mov.w	r5, #0
-	cbz	r3, .LBB26032_2
-	add	r1, r2
-	ldr.w	r0, [r1, #1538]
-	ldr.w	r2, [r1, #1546]
-	ldr.w	r3, [r1, #1550]
-	ldrb	r1, [r1, #1]
-	str	r1, [sp]
-	bl	"server_machine::machine::object_of::<#476143f5be766e51>"
-	b	.LBB26032_3
+	mov.w	r12, #0
+	cmp	r3, #0
+	beq	.LBB26032_11
+	adds	r3, r1, r2
+	ldrb.w	lr, [r3, #1]
+	ldr.w	r1, [r3, #1538]
+	ldr.w	r2, [r3, #1546]
+	ldr.w	r3, [r3, #1550]
 .LBB26032_2:
-	movs	r0, #0
+	orrs.w	r4, r2, r3
+	beq	.LBB26032_11
+	ldrb	r4, [r1]
+	cmp	r4, #0
+	mov.w	r4, #51
+	it	eq
+	moveq	r4, #47
+	cmp	r4, lr
+	beq	.LBB26032_14
+	eor	r4, r2, #1
+	orrs	r4, r3
+	beq	.LBB26032_11
+	ldrb.w	r4, [r1, #1256]
+	cmp	r4, #0
+	mov.w	r4, #51
+	it	eq
+	moveq	r4, #47
+	cmp	r4, lr
+	beq	.LBB26032_12
+	eor	r4, r2, #2
+	orrs	r4, r3
+	beq	.LBB26032_11
+	ldrb.w	r4, [r1, #2512]
+	cmp	r4, #0
+	mov.w	r4, #51
+	it	eq
+	moveq	r4, #47
+	cmp	r4, lr
+	beq	.LBB26032_13
+	eor	r4, r2, #3
+	orrs	r4, r3
+	beq	.LBB26032_11
+	add.w	r4, r1, #5024
+	ldrb.w	r1, [r1, #3768]
+	subs	r2, #4
+	sbc	r3, r3, #0
+	cmp	r1, #0
+	mov.w	r1, #51
+	it	eq
+	moveq	r1, #47
+	cmp	r1, lr
+	mov	r1, r4
+	bne	.LBB26032_2
+	sub.w	r1, r4, #1256
+	b	.LBB26032_14
+.LBB26032_11:
+	movs	r2, #0
 	movs	r1, #0
-.LBB26032_3:
-	strd	r5, r1, [r4, #4]
-	strh	r5, [r4, #2]
-	strb	r5, [r4, #1]
-	strb	r0, [r4]
-	add	sp, #8
-	pop	{r4, r5, r7, pc}
+	b	.LBB26032_15
+.LBB26032_12:
+	add.w	r1, r1, #1256
+	b	.LBB26032_14
+.LBB26032_13:
+	add.w	r1, r1, #2512
+.LBB26032_14:
+	movs	r2, #1
+.LBB26032_15:
+	strd	r12, r1, [r0, #4]
+	strh.w	r12, [r0, #2]
+	strb.w	r12, [r0, #1]
+	strb	r2, [r0]
+	pop	{r4, pc}
 .Lfunc_end26032:
 	.size	"server_machine::machine::ServerMachine::current::<#476143f5be766e51>", .Lfunc_end26032-"server_machine::machine::ServerMachine::current::<#476143f5be766e51>"
-	.cantunwind
-	.fnend
-
-	.section	".text.server_machine::machine::object_of::<#476143f5be766e51>","ax",%progbits
-	.p2align	2
-	.type	"server_machine::machine::object_of::<#476143f5be766e51>",%function
-	.code	16
-	.thumb_func
-"server_machine::machine::object_of::<#476143f5be766e51>":
-	.fnstart
-	orrs.w	r1, r2, r3
-	beq	.LBBdb9e0_3
-	.save	{r7, lr}
-	push	{r7, lr}
-	.pad	#8
-	sub	sp, #8
-	mov	r1, r0
-	ldrb	r0, [r0]
-	ldr.w	r12, [sp, #16]
-	cmp	r0, #0
-	mov.w	lr, #51
-	uxtb.w	r0, r12
-	it	eq
-	moveq.w	lr, #47
-	cmp	lr, r0
-	bne	.LBBdb9e0_4
-	movs	r0, #1
-	add	sp, #8
-	pop	{r7, pc}
-.LBBdb9e0_3:
-	movs	r0, #0
-	movs	r1, #0
-	bx	lr
-.LBBdb9e0_4:
-	subs	r2, #1
-	sbc	r3, r3, #0
-	add.w	r0, r1, #1256
-	str.w	r12, [sp]
-	bl	"server_machine::machine::object_of::<#476143f5be766e51>"
-	add	sp, #8
-	pop	{r7, pc}
-.Lfunc_enddb9e0:
-	.size	"server_machine::machine::object_of::<#476143f5be766e51>", .Lfunc_enddb9e0-"server_machine::machine::object_of::<#476143f5be766e51>"
 	.cantunwind
 	.fnend
 
@@ -20323,95 +20337,92 @@
 	movw	r7, #9056
 	cmp	r3, #3
 	add.w	r8, r1, r7
-	bne.w	.LBB887b0_19
-	ldr.w	r7, [r1, #2296]
+	str	r2, [sp, #16]
+	bne.w	.LBB887b0_18
 	add.w	r3, r1, #2288
 	ldrd	lr, r10, [r1, #552]
-	str	r7, [sp, #16]
-	ldrd	r11, r7, [r3, #16]
-	str	r3, [sp, #8]
+	ldr.w	r7, [r1, #2296]
+	ldrd	r11, r4, [r3, #16]
+	str	r3, [sp, #12]
 	orrs.w	r3, lr, r10
-	beq	.LBB887b0_14
-	orrs.w	r3, r11, r7
-	str	r7, [sp, #12]
-	beq.w	.LBB887b0_19
-	ldr	r7, [sp, #12]
+	beq	.LBB887b0_13
 	add.w	r12, r1, #544
 	addw	r3, r1, #545
-.LBB887b0_4:
+	str	r7, [sp, #8]
+.LBB887b0_3:
 	ldrb.w	r6, [r12]
-	mov	r12, r3
 	subs.w	lr, lr, #1
-	ldr	r3, [sp, #16]
+	mov	r12, r3
 	sbc	r10, r10, #0
 	mov	r5, r11
-.LBB887b0_5:
-	ldrb	r4, [r3]
+	mov	r2, r4
+	mov	r3, r4
+.LBB887b0_4:
+	orrs.w	r9, r5, r3
+	beq	.LBB887b0_18
+	ldrb	r4, [r7]
 	cmp	r4, #0
 	mov.w	r4, #51
 	it	eq
 	moveq	r4, #47
 	cmp	r4, r6
-	beq	.LBB887b0_13
+	beq	.LBB887b0_12
 	eor	r4, r5, #1
-	orrs	r4, r7
-	beq	.LBB887b0_19
-	ldrb.w	r4, [r3, #1520]
+	orrs	r4, r3
+	beq	.LBB887b0_18
+	ldrb.w	r4, [r7, #1520]
 	cmp	r4, #0
 	mov.w	r4, #51
 	it	eq
 	moveq	r4, #47
 	cmp	r4, r6
-	beq	.LBB887b0_13
+	beq	.LBB887b0_12
 	eor	r4, r5, #2
-	orrs	r4, r7
-	beq	.LBB887b0_19
-	ldrb.w	r4, [r3, #3040]
+	orrs	r4, r3
+	beq	.LBB887b0_18
+	ldrb.w	r4, [r7, #3040]
 	cmp	r4, #0
 	mov.w	r4, #51
 	it	eq
 	moveq	r4, #47
 	cmp	r4, r6
-	beq	.LBB887b0_13
+	beq	.LBB887b0_12
 	eor	r4, r5, #3
-	orrs	r4, r7
-	beq	.LBB887b0_19
-	movw	r9, #4560
-	ldrb.w	r4, [r3, r9]
+	orrs	r4, r3
+	beq	.LBB887b0_18
+	movw	r4, #4560
+	ldrb	r4, [r7, r4]
+	subs	r5, #4
+	sbc	r3, r3, #0
 	cmp	r4, #0
 	mov.w	r4, #51
 	it	eq
 	moveq	r4, #47
 	cmp	r4, r6
-	beq	.LBB887b0_13
-	subs	r5, #4
-	add	r3, r9
-	sbc	r7, r7, #0
-	orrs.w	r4, r5, r7
-	add.w	r3, r3, #1520
-	bne	.LBB887b0_5
-	b	.LBB887b0_19
-.LBB887b0_13:
+	add.w	r7, r7, #6080
+	bne	.LBB887b0_4
+.LBB887b0_12:
 	orrs.w	r3, lr, r10
 	mov	r3, r12
 	it	ne
 	addne	r3, #1
-	ldr	r7, [sp, #12]
-	bne	.LBB887b0_4
-.LBB887b0_14:
-	mov	r4, r0
+	ldr	r7, [sp, #8]
+	mov	r4, r2
+	bne	.LBB887b0_3
+.LBB887b0_13:
+	mov	r9, r0
 	add.w	r6, r1, #8
 	add.w	r0, r1, #736
 	mov	r5, r1
-	mov	r1, r2
+	ldr	r1, [sp, #16]
 	movs	r2, #32
 	bl	__aeabi_memmove
-	ldr	r0, [sp, #16]
+	mov	r0, r7
 	mov	r2, r11
-	mov	r3, r7
+	mov	r3, r4
 	str	r6, [sp]
 	bl	"eap_method::peer_objects::start_peers::<#807681be332d694b>"
-	ldr	r7, [sp, #8]
+	ldr	r7, [sp, #12]
 	movs	r1, #1
 	strb.w	r1, [r5, #776]
 	ldrd	r1, r2, [r7]
@@ -20420,30 +20431,30 @@
 	orrs	r2, r1
 	str.w	r6, [r5, #777]
 	strh.w	r6, [r5, #781]
-	beq	.LBB887b0_16
+	beq	.LBB887b0_15
 	add.w	r0, r0, #784
 	bl	__aeabi_memclr
 	mov	r0, r5
 	strd	r6, r6, [r7]
-.LBB887b0_16:
+.LBB887b0_15:
 	ldrd	r1, r2, [r8]
 	orrs	r2, r1
-	beq	.LBB887b0_18
+	beq	.LBB887b0_17
 	add.w	r0, r0, #7552
 	bl	__aeabi_memclr
 	movs	r0, #0
 	strd	r0, r0, [r8]
-.LBB887b0_18:
+.LBB887b0_17:
 	movs	r2, #0
-	movs	r1, #1
-	mov	r0, r4
 	strb.w	r2, [r8, #8]
-	b	.LBB887b0_20
-.LBB887b0_19:
+	movs	r1, #1
+	mov	r0, r9
+	b	.LBB887b0_19
+.LBB887b0_18:
 	movs	r1, #0
-	strb.w	r1, [r8, #8]
 	movs	r2, #1
-.LBB887b0_20:
+	strb.w	r1, [r8, #8]
+.LBB887b0_19:
 	movs	r3, #0
 	strh	r3, [r0]
 	strb	r2, [r0, #2]
@@ -20928,69 +20939,65 @@
 	.save	{r4, r5, r6, r7, r8, lr}
 	push.w	{r4, r5, r6, r7, r8, lr}
 	add.w	r3, r0, #7520
-	ldrd	r3, r12, [r3, #8]
-	orrs.w	r7, r3, r12
-	beq	.LBBdb48f_13
 	mov.w	r7, #7520
-	ldr.w	lr, [r0, r7]
-	add.w	r8, r0, #264
-	b	.LBBdb48f_4
-	.p2align	2
-.LBBdb48f_3:
-	orrs.w	r0, r1, r2
-	mov.w	r0, #1
-	it	eq
-	popeq.w	{r4, r5, r6, r7, r8, pc}
-.LBBdb48f_4:
-	ldrb	r0, [r8], #1
+	ldr.w	r12, [r0, r7]
+	ldrd	r8, lr, [r3, #8]
+	add.w	r0, r0, #264
+.LBBdb48f_2:
+	ldrb	r4, [r0], #1
 	subs	r1, #1
 	sbc	r2, r2, #0
-	mov	r5, r3
-	mov	r6, r12
+	mov	r5, r12
+	mov	r6, r8
 	mov	r7, lr
-.LBBdb48f_5:
-	ldrb	r4, [r7]
-	cmp	r4, #0
-	mov.w	r4, #51
-	it	eq
-	moveq	r4, #47
-	cmp	r4, r0
-	beq	.LBBdb48f_3
-	eor	r4, r5, #1
-	orrs	r4, r6
+.LBBdb48f_3:
+	orrs.w	r3, r6, r7
 	beq	.LBBdb48f_13
-	ldrb.w	r4, [r7, #1256]
-	cmp	r4, #0
-	mov.w	r4, #51
+	ldrb	r3, [r5]
+	cmp	r3, #0
+	mov.w	r3, #51
 	it	eq
-	moveq	r4, #47
-	cmp	r4, r0
-	beq	.LBBdb48f_3
-	eor	r4, r5, #2
-	orrs	r4, r6
+	moveq	r3, #47
+	cmp	r3, r4
+	beq	.LBBdb48f_11
+	eor	r3, r6, #1
+	orrs	r3, r7
 	beq	.LBBdb48f_13
-	ldrb.w	r4, [r7, #2512]
-	cmp	r4, #0
-	mov.w	r4, #51
+	ldrb.w	r3, [r5, #1256]
+	cmp	r3, #0
+	mov.w	r3, #51
 	it	eq
-	moveq	r4, #47
-	cmp	r4, r0
-	beq	.LBBdb48f_3
-	eor	r4, r5, #3
-	orrs	r4, r6
+	moveq	r3, #47
+	cmp	r3, r4
+	beq	.LBBdb48f_11
+	eor	r3, r6, #2
+	orrs	r3, r7
 	beq	.LBBdb48f_13
-	ldrb.w	r4, [r7, #3768]
-	cmp	r4, #0
-	mov.w	r4, #51
+	ldrb.w	r3, [r5, #2512]
+	cmp	r3, #0
+	mov.w	r3, #51
 	it	eq
-	moveq	r4, #47
-	cmp	r4, r0
-	beq	.LBBdb48f_3
-	subs	r5, #4
-	sbc	r6, r6, #0
-	orrs.w	r4, r5, r6
-	add.w	r7, r7, #5024
-	bne	.LBBdb48f_5
+	moveq	r3, #47
+	cmp	r3, r4
+	beq	.LBBdb48f_11
+	eor	r3, r6, #3
+	orrs	r3, r7
+	beq	.LBBdb48f_13
+	ldrb.w	r3, [r5, #3768]
+	subs	r6, #4
+	sbc	r7, r7, #0
+	cmp	r3, #0
+	mov.w	r3, #51
+	it	eq
+	moveq	r3, #47
+	cmp	r3, r4
+	add.w	r5, r5, #5024
+	bne	.LBBdb48f_3
+.LBBdb48f_11:
+	orrs.w	r4, r1, r2
+	bne	.LBBdb48f_2
+	movs	r0, #1
+	pop.w	{r4, r5, r6, r7, r8, pc}
 .LBBdb48f_13:
 	movs	r0, #0
 	pop.w	{r4, r5, r6, r7, r8, pc}
