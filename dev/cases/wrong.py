@@ -18,7 +18,7 @@ from cases.lib.parts import module_of
 from cases.lib.small import Run, Small, holds, texts_of
 from lib.common import ROOT
 
-CODE, REST = "crates/small/src/lib.rt", "crates/small/specs/Rest.antt"
+CODE, REST, TOP = "crates/small/src/lib.rt", "crates/small/specs/Rest.antt", "crates/top/src/lib.rt"
 EDIT, OTHER = "wrong/small/double__is_0.edit", "wrong/top/four__is_2.edit"
 
 
@@ -55,7 +55,9 @@ def case_tries(run: Run) -> Iterator[Optional[str]]:
         yield tells(0, "wrong --stale", "wrong: 0 passed, 0 failed")
         for file, old, new, words in ((CODE, r"^    1$", "    2 - 1", "small"), (CODE, "n ≤ 5", "n ≤ 4", "small top"),
                                       (CODE, "pub fn one", "pub fn single", "small top"), (REST, r"n - by \*", "by *", "small top"),
-                                      (REST, "", "abbrev pub unused : ℕ\nunused = 2\n", "small")):
+                                      (REST, "", "abbrev pub above : ℕ\nabove = 2\n", "small"),
+                                      (TOP, "", "ghost use Rattle.small.specs.Rest.{above};\n", "top"),
+                                      (REST, "above = 2", "above = 3", "small top")):
             small.turn(file, old, new)
             stale = words.count(" ") + 1
             yield tells(1, "wrong status", f"edits refused on today's sources: {2 - stale} passed, {stale} failed")
