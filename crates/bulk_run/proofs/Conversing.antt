@@ -5,7 +5,7 @@ use Rattle.login_setup.specs.declared.setup.Setup.{Setup}
 use Rattle.eap_world.specs.World.{WorldNow}
 use Rattle.login_setup.specs.declared.setup.Later.{Later}
 use Rattle.login_setup.specs.declared.setup.PeerSetup.{PeerSetup}
-use Rattle.login_setup.specs.declared.setup.ServerSetup.{ServerSetup}
+use Rattle.login_setup.specs.Setup.{ServerSetup}
 use Rattle.login_setup.specs.declared.setup.Mode.TheVariants.{Alone}
 use Rattle.login_setup.specs.declared.users.User.{User}
 use Rattle.login_setup.specs.Plain.{plain_server}

@@ -5,7 +5,7 @@ use Rattle.std.specs.Prelude.{◌==◌, option_map}
 use Rattle.std.specs.List.{list_all}
 use Rattle.std.proofs.lemmas.Bool.{cases_Bool, cond-true, cond-false, and_parts, eqb-true, false≢true}
 use Rattle.std.proofs.lemmas.Option.{same_Some}
-use Rattle.login_setup.specs.declared.setup.ServerSetup.{ServerSetup}
+use Rattle.login_setup.specs.Setup.{ServerSetup}
 use Rattle.octet_lists.specs.Among.{psk_kind, gpsk_kind, is_among}
 use Rattle.eap_method.specs.BothServers.{is_one, are_both, IsOne, is_psk, is_gpsk, both_of}
 use Rattle.eap_method.specs.PskServer as psk_server

@@ -1,6 +1,6 @@
 -- The server's methods by kind: what an object is, its state, and its calls.
 use Rattle.std.specs.Prelude.{◌≡◌, ℕ, List, Bool, true, false, ◌==◌, if◌then◌else◌, Option, Some, None, map, find, option_map}
-use Rattle.login_setup.specs.declared.setup.ServerSetup.{ServerSetup}
+use Rattle.login_setup.specs.Setup.{ServerSetup}
 use Rattle.login_setup.specs.declared.users.User.{User}
 use Rattle.octet_lists.specs.Among.{psk_kind, gpsk_kind, identity_kind, is_among}
 use Rattle.eap_packet.specs.Packet.{response, spelled, IsPacket}

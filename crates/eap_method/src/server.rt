@@ -1,7 +1,8 @@
 //! A server's method: the trait that an object of EAP-PSK or EAP-GPSK meets.
 
-ghost use Rattle.std.specs.Prelude.{◌≡◌, true, IsTrue, All};
+ghost use Rattle.std.specs.Prelude.{◌≡◌, ◌≤◌, length, true, IsTrue, All};
 ghost use Rattle.login_setup.specs.Setup.{is_valid_for, are_suites};
+ghost use Rattle.login_setup.specs.Users.{AreDistinct, max_users};
 ghost use Rattle.eap_method.specs.Server.{server_kind, started_server, has_initiated, server_first_step, server_step, server_report, IsResponse};
 ghost use Rattle.eap_method.specs.Capacity.{HasCapacity, ServerTurnHasCapacity, requests};
 ghost use Rattle.eap_method.specs.ServerTurn.{server_turn_of, server_turn_with, server_tags};
@@ -10,7 +11,7 @@ use crate::records::NoRecords;
 use crate::tags::Tags;
 use crate::turn::{ServerAnswer, ServerTurn};
 use crate::values::{Report, ServerSide};
-use login_setup::Users;
+use login_setup::{User, Users};
 use octet_lists::{Nonce, Packet};
 
 /// A method at a server. Its ghost member says which method it is and its state. A *required* call is one that each method
@@ -57,25 +58,28 @@ pub trait ServerMethod: Drop {
             ≡ record { turn = server_turn_of result; after = server_shown self.new } }
         ensures capacity { ServerTurnHasCapacity result };
 
-    /// Provided, by [`handle`](ServerMethod::handle): the same in place. A Request that follows is written into `packet` in
-    /// place of what was there, the records of the turn's tags into `tags`. A discard leaves no record; without a Request
-    /// `packet` is unspecified.
+    /// Provided, by [`handle`](ServerMethod::handle), over a copy of the users: the same in place. The users are at most 16,
+    /// whose pairs of name and kind are distinct. A Request that follows is written into `packet` in place of what was there,
+    /// the records of the turn's tags into `tags`. A discard leaves no record; without a Request `packet` is unspecified.
     fn handle_into(
         &mut self,
         response: &[u8],
         next_id: u8,
-        users: &Users,
+        users: &[User],
         packet: &mut Packet,
         tags: &mut Tags,
     ) -> ServerAnswer
         requires response { IsResponse (server_kind (server_shown self.old)) response.now }
         requires keys { All (λ user. IsTrue (is_valid_for user.kind user.psk)) users.now }
+        requires distinct { AreDistinct users.now }
+        requires few { length users.now ≤ max_users }
         ensures turn { server_step users.now next_id (server_shown self.old) response.now
             ≡ record { turn = server_turn_with result packet.new tags.new; after = server_shown self.new } }
         ensures tags { tags.new ≡ server_tags (server_turn_with result packet.new tags.new) }
         ensures capacity { requests result ≡ true → HasCapacity packet.new }
     {
-        self.handle(response, next_id, users).put(packet, tags)
+        let known = Users::of(users);
+        self.handle(response, next_id, &known).put(packet, tags)
     }
 
     /// Provided, by [`handle_into`](ServerMethod::handle_into): the same, with no room for the records.
@@ -83,12 +87,14 @@ pub trait ServerMethod: Drop {
         &mut self,
         response: &[u8],
         next_id: u8,
-        users: &Users,
+        users: &[User],
         packet: &mut Packet,
         tags: &mut Tags<NoRecords>,
     ) -> ServerAnswer
         requires response { IsResponse (server_kind (server_shown self.old)) response.now }
         requires keys { All (λ user. IsTrue (is_valid_for user.kind user.psk)) users.now }
+        requires distinct { AreDistinct users.now }
+        requires few { length users.now ≤ max_users }
         ensures turn { server_step users.now next_id (server_shown self.old) response.now
             ≡ record { turn = server_turn_with result packet.new tags.new; after = server_shown self.new } }
         ensures tags { tags.new ≡ server_tags (server_turn_with result packet.new tags.new) }
@@ -132,7 +138,7 @@ impl ServerMethod for Box<dyn ServerMethod> {
         &mut self,
         response: &[u8],
         next_id: u8,
-        users: &Users,
+        users: &[User],
         packet: &mut Packet,
         tags: &mut Tags,
     ) -> ServerAnswer {
@@ -143,7 +149,7 @@ impl ServerMethod for Box<dyn ServerMethod> {
         &mut self,
         response: &[u8],
         next_id: u8,
-        users: &Users,
+        users: &[User],
         packet: &mut Packet,
         tags: &mut Tags<NoRecords>,
     ) -> ServerAnswer {

@@ -1,8 +1,9 @@
 //! The objects of a server: beginning them, finding the one of a method, and calling it.
 
-ghost use Rattle.std.specs.Prelude.{◌≡◌, ◌==◌, ℕ, List, true, map, find, option_copied, option_map, IsTrue, All, Some, None, if◌then◌else◌};
+ghost use Rattle.std.specs.Prelude.{◌≡◌, ◌≤◌, ◌==◌, length, ℕ, List, true, map, find, option_copied, option_map, IsTrue, All, Some, None, if◌then◌else◌};
 ghost use Rattle.octet_lists.specs.Among.{is_among};
 ghost use Rattle.login_setup.specs.Setup.{is_valid_for, are_suites};
+ghost use Rattle.login_setup.specs.Users.{AreDistinct, max_users};
 ghost use Rattle.eap_method.specs.Capacity.{HasCapacity, requests};
 ghost use Rattle.eap_method.specs.ServerTurn.{server_turn_with, server_tags};
 ghost use Rattle.eap_method.specs.Peer.{have_each};
@@ -15,11 +16,14 @@ use crate::turn::ServerAnswer;
 use crate::turns::Turns;
 use crate::values::{Report, ServerSide};
 use eap_packet::Cause;
-use login_setup::{ServerSetup, Users};
+use login_setup::{ServerSetup, User, UserList};
 use octet_lists::{Nonce, Packet, is_among};
 
 /// Begins each object whose method the settings propose, whatever its state before; the others stay as they are.
-pub fn start_servers<M: ServerMethod>(methods: &mut [M], setup: &ServerSetup)
+pub fn start_servers<M: ServerMethod, const N: usize>(
+    methods: &mut [M],
+    setup: &ServerSetup<UserList<N>>,
+)
     requires { IsTrue (are_suites setup.now.suites) }
     ensures views { server_views setup.now.methods (map M.server_shown methods.new)
         ≡ views_started setup.now (server_views setup.now.methods (map M.server_shown methods.old)) }
@@ -72,12 +76,14 @@ pub fn call_server_method<M: ServerMethod, R: Turns>(
     kind: u8,
     response: &[u8],
     next_id: u8,
-    users: &Users,
+    users: &[User],
     packet: &mut Packet,
     tags: &mut Tags<R>,
 ) -> ServerAnswer
     requires response { IsResponse kind response.now }
     requires keys { All (λ user. IsTrue (is_valid_for user.kind user.psk)) users.now }
+    requires distinct { AreDistinct users.now }
+    requires few { length users.now ≤ max_users }
     ensures turn { (order : List ℕ) → is_among order kind ≡ true
         → server_turn users.now next_id kind (server_views order (map M.server_shown methods.old)) response.now
         ≡ record { turn = server_turn_with result packet.new tags.new; after = server_views order (map M.server_shown methods.new) } }
@@ -137,7 +143,10 @@ fn has_server<M: ServerMethod>(methods: &[M], kind: u8) -> bool
     find_server(methods, kind).is_some()
 }
 
-fn start_each<M: ServerMethod>(methods: &mut [M], setup: &ServerSetup)
+fn start_each<M: ServerMethod, const N: usize>(
+    methods: &mut [M],
+    setup: &ServerSetup<UserList<N>>,
+)
     requires { IsTrue (are_suites setup.now.suites) }
     ensures { map M.server_shown methods.new ≡ map (server_started_in setup.now) (map M.server_shown methods.old) }
 {
@@ -147,7 +156,7 @@ fn start_each<M: ServerMethod>(methods: &mut [M], setup: &ServerSetup)
     }
 }
 
-fn start_one<M: ServerMethod>(method: &mut M, setup: &ServerSetup)
+fn start_one<M: ServerMethod, const N: usize>(method: &mut M, setup: &ServerSetup<UserList<N>>)
     requires { IsTrue (are_suites setup.now.suites) }
     ensures { M.server_shown method.new ≡ server_started_in setup.now (M.server_shown method.old) }
 {
@@ -157,7 +166,7 @@ fn start_one<M: ServerMethod>(method: &mut M, setup: &ServerSetup)
 }
 
 /// Whether the server proposes the method of this Type.
-fn proposes(setup: &ServerSetup, kind: u8) -> bool
+fn proposes<const N: usize>(setup: &ServerSetup<UserList<N>>, kind: u8) -> bool
     ensures { result ≡ is_among setup.now.methods kind }
 {
     is_among(setup.methods.as_slice(), kind)
@@ -165,7 +174,7 @@ fn proposes(setup: &ServerSetup, kind: u8) -> bool
 
 /// What the server brings into a method.
 #[tactic(auto, unfolding(crate::specs::Server::side_of))]
-pub fn side_of(setup: &ServerSetup) -> ServerSide
+pub fn side_of<const N: usize>(setup: &ServerSetup<UserList<N>>) -> ServerSide
     ensures same { result ≡ side_of setup.now }
     ensures suites { result.suites ≡ setup.now.suites }
 {

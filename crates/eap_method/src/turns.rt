@@ -1,7 +1,8 @@
 //! The call of an object of a method, with room for the records of its tags or none.
 
-ghost use Rattle.std.specs.Prelude.{◌≡◌, true, IsTrue, All};
+ghost use Rattle.std.specs.Prelude.{◌≡◌, ◌≤◌, length, true, IsTrue, All};
 ghost use Rattle.login_setup.specs.Setup.{is_valid_for};
+ghost use Rattle.login_setup.specs.Users.{AreDistinct, max_users};
 ghost use Rattle.eap_method.specs.Capacity.{HasCapacity, replies, requests};
 ghost use Rattle.eap_method.specs.Peer.{peer_kind, peer_step, IsRequest};
 ghost use Rattle.eap_method.specs.PeerTurn.{peer_turn_with, peer_tags};
@@ -13,7 +14,7 @@ use crate::records::{NoRecords, Records, TwoRecords};
 use crate::server::ServerMethod;
 use crate::tags::Tags;
 use crate::turn::{PeerAnswer, ServerAnswer};
-use login_setup::Users;
+use login_setup::User;
 use octet_lists::Packet;
 
 /// Room for the records of a turn's tags, or none: it chooses the call of the object, so that no turn makes room of its
@@ -39,7 +40,7 @@ pub trait Turns: Records {
         method: &mut M,
         response: &[u8],
         next_id: u8,
-        users: &Users,
+        users: &[User],
         packet: &mut Packet,
         tags: &mut Tags<Self>,
     ) -> ServerAnswer
@@ -47,6 +48,8 @@ pub trait Turns: Records {
         Self: Sized,
         requires response { IsResponse (server_kind (M.server_shown method.old)) response.now }
         requires keys { All (λ user. IsTrue (is_valid_for user.kind user.psk)) users.now }
+        requires distinct { AreDistinct users.now }
+        requires few { length users.now ≤ max_users }
         ensures turn { server_step users.now next_id (M.server_shown method.old) response.now
             ≡ record { turn = server_turn_with result packet.new tags.new; after = M.server_shown method.new } }
         ensures tags { tags.new ≡ server_tags (server_turn_with result packet.new tags.new) }
@@ -67,7 +70,7 @@ impl Turns for TwoRecords {
         method: &mut M,
         response: &[u8],
         next_id: u8,
-        users: &Users,
+        users: &[User],
         packet: &mut Packet,
         tags: &mut Tags,
     ) -> ServerAnswer {
@@ -89,7 +92,7 @@ impl Turns for NoRecords {
         method: &mut M,
         response: &[u8],
         next_id: u8,
-        users: &Users,
+        users: &[User],
         packet: &mut Packet,
         tags: &mut Tags<NoRecords>,
     ) -> ServerAnswer {

@@ -1,7 +1,7 @@
 -- The objects that an end had it still has.
 use Rattle.std.proofs.Common.{◌≡◌, List, ℕ, true, map, ap}
 use Rattle.login_setup.specs.declared.setup.PeerSetup.{PeerSetup}
-use Rattle.login_setup.specs.declared.setup.ServerSetup.{ServerSetup}
+use Rattle.login_setup.specs.Setup.{ServerSetup}
 use Rattle.eap_method.specs.Peer.{PeerShown, PeerViews, have_each, peer_kinds}
 use Rattle.eap_method.specs.Server.{ServerShown, ServerViews, server_kinds}
 use Rattle.eap_method.specs.Unnamed.{PreservesPeers, PreservesServers}

@@ -1,7 +1,7 @@
 -- An end whose objects are of EAP-PSK and EAP-GPSK alone, one at least of each method that it names, begins as over lines.
 use Rattle.std.proofs.Common.{◌≡◌, ℕ, List, true, false, ap, ◌∙◌}
 use Rattle.login_setup.specs.declared.setup.PeerSetup.{PeerSetup}
-use Rattle.login_setup.specs.declared.setup.ServerSetup.{ServerSetup}
+use Rattle.login_setup.specs.Setup.{ServerSetup}
 use Rattle.eap_method.specs.BothPeers as both_peers
 use Rattle.eap_method.specs.BothServers as both_servers
 use Rattle.eap_method.specs.Peer.{PeerShown, PeerViews, peer_views, peer_kinds, have_each}

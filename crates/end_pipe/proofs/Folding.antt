@@ -1,6 +1,6 @@
 -- One more input at the end of others: what is told of it comes last, and the end is where it leaves it.
 use Rattle.std.proofs.Common.{◌≡◌, ℕ, List, [], ◌∷◌, ◌++◌, refl, sym, ap, ◌∙◌}
-use Rattle.login_setup.specs.declared.setup.ServerSetup.{ServerSetup}
+use Rattle.login_setup.specs.Setup.{ServerSetup}
 use Rattle.eap_method.specs.Server.{ServerViews}
 use Rattle.server_machine.specs.ServerTable.{ServerNow}
 use Rattle.end_pipe.specs.EndRun.{EndNow, EndOutcome, EndTold, HasContinued, IsServerAfter, IsStateAfter, end_after, outcome, server_starts, server_unstarted, told_of}

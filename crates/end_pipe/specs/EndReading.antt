@@ -12,7 +12,7 @@ use Rattle.scenario_text.specs.Reading as scenario
 use Rattle.scenario_text.specs.Reading.{no_settings, has_setting, with_setting, peer_setup_of, server_setup_of}
 use Rattle.scenario_text.specs.Valid.{IsValidSetting, IsValidPeer, IsValidServer}
 use Rattle.login_setup.specs.declared.setup.PeerSetup.{PeerSetup}
-use Rattle.login_setup.specs.declared.setup.ServerSetup.{ServerSetup}
+use Rattle.login_setup.specs.Setup.{ServerSetup}
 use Rattle.scenario_text.specs.declared.entry.Entry as told
 use Rattle.scenario_text.specs.declared.scenario.ItemKind as answer
 use Rattle.scenario_text.specs.declared.settings.Settings.{Settings}

@@ -1,7 +1,7 @@
 -- One end over its inputs: what it does at each of them, and its state then.
 use Rattle.std.specs.Prelude.{◌≡◌, ℕ, List, [], ◌∷◌, ◌++◌, Bool, true, false, ◌||◌, if◌then◌else◌, Option, Some, None, is_some, unwrap_or, Result, Ok}
 use Rattle.login_setup.specs.declared.setup.PeerSetup.{PeerSetup}
-use Rattle.login_setup.specs.declared.setup.ServerSetup.{ServerSetup}
+use Rattle.login_setup.specs.Setup.{ServerSetup}
 use Rattle.eap_packet.specs.declared.state.State.{State}
 use Rattle.eap_method.specs.BothPeers as both_peers
 use Rattle.eap_method.specs.BothServers as both_servers

@@ -2,7 +2,7 @@
 
 ghost use Rattle.std.specs.Prelude.{◌≡◌, ◌≤◌, [], ℕ, map, true, false};
 ghost use Rattle.login_setup.specs.Setup.{IsSoundServer};
-ghost use Rattle.login_setup.specs.declared.setup.ServerSetup.{ServerSetup};
+ghost use Rattle.login_setup.specs.Setup.{ServerSetup};
 ghost use Rattle.eap_method.specs.Peer.{have_each};
 ghost use Rattle.eap_method.specs.Server.{server_kinds, server_views, ServerViews};
 ghost use Rattle.server_machine.specs.ServerTable.{is_started};

@@ -15,7 +15,7 @@ use crate::server::turns::{ask, handle_response};
 use eap_method::{
     NoRecords, Records, Report, ServerAnswer, ServerMethod, ServerSide, ServerTurn, Tags,
 };
-use login_setup::Users;
+use login_setup::{User, Users};
 use octet_lists::{GPSK_KIND, Nonce, Packet};
 use std::marker::Model;
 
@@ -104,7 +104,7 @@ impl GpskServer {
         &mut self,
         response: &[u8],
         next_id: u8,
-        users: &Users,
+        users: &[User],
         packet: &mut Packet,
         tags: &mut Tags<R>,
     ) -> ServerAnswer
@@ -154,7 +154,7 @@ impl ServerMethod for GpskServer {
     fn handle(&mut self, response: &[u8], next_id: u8, users: &Users) -> ServerTurn {
         let mut packet = Packet::new();
         let mut tags = Tags::new();
-        let answer = self.handle_into(response, next_id, users, &mut packet, &mut tags);
+        let answer = self.handle_into(response, next_id, users.as_slice(), &mut packet, &mut tags);
         answer.with(packet, tags)
     }
 
@@ -167,7 +167,7 @@ impl ServerMethod for GpskServer {
         &mut self,
         response: &[u8],
         next_id: u8,
-        users: &Users,
+        users: &[User],
         packet: &mut Packet,
         tags: &mut Tags,
     ) -> ServerAnswer {
@@ -178,7 +178,7 @@ impl ServerMethod for GpskServer {
         &mut self,
         response: &[u8],
         next_id: u8,
-        users: &Users,
+        users: &[User],
         packet: &mut Packet,
         tags: &mut Tags<NoRecords>,
     ) -> ServerAnswer {

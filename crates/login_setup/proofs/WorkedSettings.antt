@@ -6,7 +6,7 @@ use Rattle.octet_lists.specs.Among.{is_kind}
 use Rattle.login_setup.specs.Setup.{IsSoundPeer, HasKeys, IsSoundServer, is_valid_for}
 use Rattle.login_setup.specs.declared.setup.Accepts.TheVariants.{Any}
 use Rattle.login_setup.specs.declared.setup.PeerSetup.{PeerSetup}
-use Rattle.login_setup.specs.declared.setup.ServerSetup.{ServerSetup}
+use Rattle.login_setup.specs.Setup.{ServerSetup}
 use Rattle.login_setup.specs.declared.users.User.{User}
 use Rattle.login_setup.specs.Plain.{plain_peer, plain_server}
 

@@ -3,7 +3,7 @@ use Rattle.std.specs.Prelude.{[], ◌∷◌, false, None, codes, replicate}
 use Rattle.login_setup.specs.declared.setup.Accepts.TheVariants.{One}
 use Rattle.login_setup.specs.declared.setup.Mode.TheVariants.{Alone}
 use Rattle.login_setup.specs.declared.setup.PeerSetup.{PeerSetup}
-use Rattle.login_setup.specs.declared.setup.ServerSetup.{ServerSetup}
+use Rattle.login_setup.specs.Setup.{ServerSetup}
 use Rattle.login_setup.specs.declared.setup.Setup.{Setup}
 use Rattle.login_setup.specs.Setup.{no_later}
 

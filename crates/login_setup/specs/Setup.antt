@@ -7,7 +7,12 @@ use Rattle.login_setup.specs.declared.setup.Accepts.{Accepts}
 use Rattle.login_setup.specs.declared.setup.Accepts.TheVariants.{Any, One}
 use Rattle.login_setup.specs.declared.setup.Later.{Later}
 use Rattle.login_setup.specs.declared.setup.PeerSetup.{PeerSetup}
-use Rattle.login_setup.specs.declared.setup.ServerSetup.{ServerSetup}
+use Rattle.login_setup.specs.declared.setup.ServerSetup as declared
+use Rattle.login_setup.specs.declared.users.User.{User}
+
+-- the settings of a server, whatever the room for its users: contracts see their list
+abbrev pub ServerSetup : Type 0
+ServerSetup = declared.ServerSetup (List User)
 
 -- whether these are Types of the two methods, each at most once
 abbrev pub are_kinds : List ℕ → Bool

@@ -4,7 +4,7 @@ ghost use Rattle.std.specs.Prelude.{◌≡◌, option_copied};
 ghost use Rattle.login_setup.specs.Setup.{accepts_name, key_of, has_keys, no_later};
 
 use crate::nonces::Nonces;
-use crate::users::Users;
+use crate::users::{UserList, Users};
 use octet_lists::{GPSK_KIND, Identity, Kinds, Nonce, PSK_KIND, Secret, Suites};
 
 /// Whether the server answers by itself, or behind a pass-through authenticator.
@@ -125,9 +125,9 @@ impl PeerSetup {
     }
 }
 
-/// The settings of a server.
+/// The settings of a server. Its users are [`Users`], or a [`UserList`] with room for fewer.
 #[derive(Drop)]
-pub struct ServerSetup {
+pub struct ServerSetup<U = Users> {
     /// The server's name, of 1 to 253 octets.
     pub name: Identity,
     /// The methods that it proposes, in this order: 47 (EAP-PSK) or 51 (EAP-GPSK), each at most once.
@@ -135,16 +135,16 @@ pub struct ServerSetup {
     /// The EAP-GPSK suites that it offers, in this order: 1 or 2, each at most once.
     pub suites: Suites,
     /// The users that it knows.
-    pub users: Users,
+    pub users: U,
     /// The octets from which its nonce is taken.
     pub nonce: Nonce,
     /// Whether it reads Expanded Types (RFC 3748 section 5.7).
     pub expanded: bool,
 }
 
-impl ServerSetup {
+impl<const N: usize> ServerSetup<UserList<N>> {
     /// An equal value.
-    pub fn copy(&self) -> ServerSetup
+    pub fn copy(&self) -> ServerSetup<UserList<N>>
         ensures { result ≡ self.now }
     {
         ServerSetup {

@@ -8,7 +8,7 @@ ghost use Rattle.login_setup.specs.Setup.{IsSoundPeer, HasKeys, IsSoundServer};
 ghost use Rattle.login_setup.specs.Soundness.{is_suite, is_sound_key, is_sound_user};
 
 use crate::setup::{PeerSetup, ServerSetup};
-use crate::users::User;
+use crate::users::{User, UserList};
 use octet_lists::{GPSK_KIND, PSK_KIND, Secret, is_among};
 
 /// Whether a peer's machine and world accept these settings, as `PeerMachine::new` and `World::new` ask. Its methods
@@ -30,7 +30,7 @@ pub fn is_sound_peer(setup: &PeerSetup) -> bool
 /// suites of 1 and 2, at least one and each at most once; and each user is of one of these two methods, which the
 /// server needn't propose, and has a key of 16 octets for 47, or of 32 to 64 for 51.
 #[tactic(auto, using(crate::proofs::Sound::have_keys, crate::proofs::Sound::have_kinds, crate::proofs::Sound::passes))]
-pub fn is_sound_server(setup: &ServerSetup) -> bool
+pub fn is_sound_server<const N: usize>(setup: &ServerSetup<UserList<N>>) -> bool
     ensures { IsTrue result ↔ IsSoundServer setup.now }
 {
     are_kinds(setup.methods.as_slice())

@@ -1,6 +1,6 @@
 //! The users that a server knows.
 
-ghost use Rattle.std.specs.Prelude.{◌≡◌, ◌↔◌, ◌≤◌, [], ◌∷◌, ◌++◌, length, IsTrue, option_copied};
+ghost use Rattle.std.specs.Prelude.{◌≡◌, ◌↔◌, ◌≤◌, ◌<◌, [], ◌∷◌, ◌++◌, length, IsTrue, option_copied};
 ghost use Rattle.login_setup.specs.Users.{user_of, is_named, HasCapacity, AreDistinct, max_users};
 
 use arrayvec::ArrayVec;
@@ -44,56 +44,77 @@ impl User {
     }
 }
 
-/// At most 16 users whose pairs of name and kind are distinct. Contracts see the list of the users.
+/// At most 16 users whose pairs of name and kind are distinct.
+pub type Users = UserList<MAX_USERS>;
+
+/// At most `N` users, and at most 16, whose pairs of name and kind are distinct. Contracts see the list of the users.
 #[derive(Drop)]
-pub struct Users {
-    list: ArrayVec<User, MAX_USERS>,
+pub struct UserList<const N: usize> {
+    list: ArrayVec<User, N>,
 }
 
-impl Model for Users {
+impl<const N: usize> Model for UserList<N> {
     ghost use Rattle.std.specs.Prelude.{List};
     ghost use Rattle.login_setup.specs.declared.users.User.{User};
-    ghost use Rattle.login_setup.specs.Users.{AreDistinct};
+    ghost use Rattle.login_setup.specs.Users.{AreUsers};
 
     ghost Value = { List User };
 
     ghost view = { λ u. u.list.items };
 
-    ghost invariant = { λ u. AreDistinct u.list.items };
+    ghost invariant = { λ u. AreUsers u.list.items };
 }
 
-impl Users {
+impl<const N: usize> UserList<N> {
     /// No users.
-    pub fn new() -> Users
+    pub fn new() -> UserList<N>
         ensures { result ≡ [] }
     {
-        Users {
+        UserList {
             list: ArrayVec::new(),
         }
+    }
+
+    /// The list of users equal to these, of which there are at most `N`.
+    pub fn of(users: &[User]) -> UserList<N>
+        requires distinct { AreDistinct users.now }
+        requires few { length users.now ≤ max_users }
+        requires capacity { length users.now ≤ N }
+        ensures { result ≡ users.now }
+    {
+        let mut copied = ArrayVec::new();
+        for user in users {
+            copied.push(user.copy());
+        }
+        UserList { list: copied }
     }
 
     /// The user of this name and kind, or None if there is none.
     pub fn find(&self, name: &[u8], kind: u8) -> Option<&User>
         ensures { option_copied result ≡ user_of self.now name.now kind }
     {
-        self.list
-            .as_slice()
-            .iter()
-            .find(|user| user.is_named(name, kind))
+        find_user(self.list.as_slice(), name, kind)
     }
 
-    /// Appends the user and answers true. If 16 users are there, or one of them has the same name
-    /// and kind, it answers false and changes nothing.
+    /// Appends the user and answers true. If `N` or 16 users are there, or one of them has the same name and kind, it
+    /// answers false and changes nothing.
     pub fn add(&mut self, user: User) -> bool
-        ensures capacity { IsTrue result ↔ HasCapacity self.old user }
-        ensures added { HasCapacity self.old user → self.new ≡ self.old ++ user ∷ [] }
-        ensures unchanged { (HasCapacity self.old user → ⊥) → self.new ≡ self.old }
+        ensures capacity { IsTrue result ↔ HasCapacity N self.old user }
+        ensures added { HasCapacity N self.old user → self.new ≡ self.old ++ user ∷ [] }
+        ensures unchanged { (HasCapacity N self.old user → ⊥) → self.new ≡ self.old }
     {
-        if self.list.is_full() || self.find(user.name.as_slice(), user.kind).is_some() {
+        if !self.has_room() || self.find(user.name.as_slice(), user.kind).is_some() {
             return false;
         }
         self.list.push(user);
         true
+    }
+
+    /// Whether there is room for one user more.
+    fn has_room(&self) -> bool
+        ensures { IsTrue result ↔ ((length self.now < N) × (length self.now < max_users)) }
+    {
+        !self.list.is_full() && self.list.len() < MAX_USERS
     }
 
     /// The users in order.
@@ -106,13 +127,16 @@ impl Users {
     }
 
     /// An equal value.
-    pub fn copy(&self) -> Users
+    pub fn copy(&self) -> UserList<N>
         ensures { result ≡ self.now }
     {
-        let mut copied = ArrayVec::new();
-        for user in self.list.as_slice() {
-            copied.push(user.copy());
-        }
-        Users { list: copied }
+        UserList::of(self.list.as_slice())
     }
+}
+
+/// The user of this name and kind among these, or None if there is none.
+pub fn find_user<'a>(users: &'a [User], name: &[u8], kind: u8) -> Option<&'a User>
+    ensures { option_copied result ≡ user_of users.now name.now kind }
+{
+    users.iter().find(|user| user.is_named(name, kind))
 }

@@ -16,7 +16,7 @@ use crate::server::turns::{ask, handle_response};
 use eap_method::{
     NoRecords, Records, Report, ServerAnswer, ServerMethod, ServerSide, ServerTurn, Tags,
 };
-use login_setup::Users;
+use login_setup::{User, Users};
 use octet_lists::{Nonce, PSK_KIND, Packet};
 use std::marker::Model;
 
@@ -105,7 +105,7 @@ impl PskServer {
         &mut self,
         response: &[u8],
         next_id: u8,
-        users: &Users,
+        users: &[User],
         packet: &mut Packet,
         tags: &mut Tags<R>,
     ) -> ServerAnswer
@@ -155,7 +155,7 @@ impl ServerMethod for PskServer {
     fn handle(&mut self, response: &[u8], next_id: u8, users: &Users) -> ServerTurn {
         let mut packet = Packet::new();
         let mut tags = Tags::new();
-        let answer = self.handle_into(response, next_id, users, &mut packet, &mut tags);
+        let answer = self.handle_into(response, next_id, users.as_slice(), &mut packet, &mut tags);
         answer.with(packet, tags)
     }
 
@@ -168,7 +168,7 @@ impl ServerMethod for PskServer {
         &mut self,
         response: &[u8],
         next_id: u8,
-        users: &Users,
+        users: &[User],
         packet: &mut Packet,
         tags: &mut Tags,
     ) -> ServerAnswer {
@@ -179,7 +179,7 @@ impl ServerMethod for PskServer {
         &mut self,
         response: &[u8],
         next_id: u8,
-        users: &Users,
+        users: &[User],
         packet: &mut Packet,
         tags: &mut Tags<NoRecords>,
     ) -> ServerAnswer {

@@ -9,7 +9,7 @@ use Rattle.login_setup.specs.Users.{user_of, is_named, HasCapacity, AreDistinct}
 use Rattle.login_setup.specs.declared.users.User.{User}
 use Rattle.login_setup.specs.declared.setup.Later.{Later}
 use Rattle.login_setup.specs.declared.setup.PeerSetup.{PeerSetup}
-use Rattle.login_setup.specs.declared.setup.ServerSetup.{ServerSetup}
+use Rattle.login_setup.specs.Setup.{ServerSetup}
 use Rattle.login_setup.specs.declared.setup.Setup.{Setup}
 use Rattle.login_setup.proofs.UserLists.{AreDistinct-push}
 use Rattle.text_tables.specs.Fields.{◌>>=◌}

@@ -11,7 +11,7 @@ use Rattle.login_setup.specs.Setup.{are_kinds, are_suites, is_valid_for, no_late
 use Rattle.login_setup.specs.declared.event.Event.{Event}
 use Rattle.login_setup.specs.declared.setup.Accepts.TheVariants.{Any, One}
 use Rattle.login_setup.specs.declared.setup.PeerSetup.{PeerSetup}
-use Rattle.login_setup.specs.declared.setup.ServerSetup.{ServerSetup}
+use Rattle.login_setup.specs.Setup.{ServerSetup}
 use Rattle.login_setup.specs.declared.setup.Setup.{Setup}
 use Rattle.text_tables.specs.Words.{words}
 use Rattle.text_tables.specs.Fields.{word_in, is_dash, octets_of, spells_kind, kind_of, spells_suite, suite_of}

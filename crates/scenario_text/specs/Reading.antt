@@ -4,7 +4,7 @@ use Rattle.login_setup.specs.Setup.{has_keys}
 use Rattle.login_setup.specs.Users.{user_of, max_users}
 use Rattle.login_setup.specs.declared.setup.Later.{Later}
 use Rattle.login_setup.specs.declared.setup.PeerSetup.{PeerSetup}
-use Rattle.login_setup.specs.declared.setup.ServerSetup.{ServerSetup}
+use Rattle.login_setup.specs.Setup.{ServerSetup}
 use Rattle.login_setup.specs.declared.setup.Setup.{Setup}
 use Rattle.login_setup.specs.declared.event.Event.{Event}
 use Rattle.text_tables.specs.Fields.{◌>>=◌}

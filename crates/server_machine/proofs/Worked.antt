@@ -1,6 +1,6 @@
 -- The readiness and the timer of a server that was made, and of one that has started, from the definitions alone.
 use Rattle.std.proofs.Common.{◌≡◌, ℕ, true, false, refl, None}
-use Rattle.login_setup.specs.declared.setup.ServerSetup.{ServerSetup}
+use Rattle.login_setup.specs.Setup.{ServerSetup}
 use Rattle.server_machine.specs.ServerTable.{has_timer, is_ready, initial_server, server_start}
 use Rattle.server_machine.specs.declared.variables.Role.TheVariants.{Backend, StandAlone}
 

@@ -1,6 +1,6 @@
 -- Worked values of the definitions of a server that reads Expanded Types (RFC 3748 sections 5.3.2 and 5.7).
 use Rattle.std.proofs.Common.{◌≡◌, ℕ, List, [], ◌∷◌, ◌++◌, true, Some, None, refl}
-use Rattle.login_setup.specs.declared.setup.ServerSetup.{ServerSetup}
+use Rattle.login_setup.specs.Setup.{ServerSetup}
 use Rattle.eap_packet.specs.Fault.{fault, packet_of}
 use Rattle.eap_packet.specs.Expanded.{are_expanded}
 use Rattle.eap_packet.specs.Packet.{spelled}

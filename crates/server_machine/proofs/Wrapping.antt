@@ -1,6 +1,6 @@
 -- What is sent by a server that reads Expanded Types.
 use Rattle.std.proofs.Common.{◌≡◌, ◌≢◌, ℕ, List, [], not, IsTrue, false, ap, sym, ◌∙◌}
-use Rattle.login_setup.specs.declared.setup.ServerSetup.{ServerSetup}
+use Rattle.login_setup.specs.Setup.{ServerSetup}
 use Rattle.eap_packet.specs.Expanded.{is_bad_expanded}
 use Rattle.eap_packet.specs.Fault.{code_of}
 use Rattle.eap_packet.specs.Packet.{response, value_with, spelled, has_type}

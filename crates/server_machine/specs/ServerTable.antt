@@ -1,7 +1,7 @@
 -- The stand-alone server of RFC 4137 section 5 and the backend of section 6, over the views of their
 -- methods: each call as a function. The backend is the same table, entered by its first Response.
 use Rattle.std.specs.Prelude.{◌≡◌, ◌≤◌, ℕ, ◌+◌, ◌%◌, List, [], ◌∷◌, ◌++◌, Bool, true, false, ◌==◌, ◌&&◌, ◌||◌, not, nat_le, if◌then◌else◌, Option, Some, None, Result, Ok, Err, map}
-use Rattle.login_setup.specs.declared.setup.ServerSetup.{ServerSetup}
+use Rattle.login_setup.specs.Setup.{ServerSetup}
 use Rattle.login_setup.specs.declared.users.User.{User}
 use Rattle.octet_lists.specs.Among.{is_among, identity_kind, nak_kind}
 use Rattle.login_setup.specs.Setup.{are_kinds, IsSoundServer}

@@ -10,7 +10,7 @@ use Rattle.login_setup.specs.declared.event.Event.{Event}
 use Rattle.login_setup.specs.declared.setup.Mode.{Mode}
 use Rattle.login_setup.specs.declared.setup.Mode.TheVariants as mode
 use Rattle.login_setup.specs.declared.setup.Party.TheVariants as party
-use Rattle.login_setup.specs.declared.setup.ServerSetup.{ServerSetup}
+use Rattle.login_setup.specs.Setup.{ServerSetup}
 use Rattle.login_setup.specs.declared.setup.Setup.{Setup}
 use Rattle.octet_lists.specs.Among.{identity_kind, is_among}
 use Rattle.eap_method.specs.Server.{ServerShown, reported, server_report_of, server_started_in, views_started}

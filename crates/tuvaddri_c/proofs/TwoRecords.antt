@@ -1,7 +1,7 @@
 -- An end that has just been made has its objects, of EAP-PSK or of EAP-GPSK, and each call leaves it those that it had.
 use Rattle.std.proofs.Common.{◌≡◌, List, [], ◌∷◌, ℕ, true, map, refl, ap, sym, ◌∙◌}
 use Rattle.login_setup.specs.declared.setup.PeerSetup.{PeerSetup}
-use Rattle.login_setup.specs.declared.setup.ServerSetup.{ServerSetup}
+use Rattle.login_setup.specs.Setup.{ServerSetup}
 use Rattle.eap_method.specs.BothPeers as both_peers
 use Rattle.eap_method.specs.BothServers as both_servers
 use Rattle.eap_method.specs.Peer.{PeerViews, have_each, peer_kinds, peer_views}

@@ -1,7 +1,7 @@
 -- An end asks so of the other by either method; and an end in SUCCESS has accepted a tag.
 use Rattle.std.proofs.Common.{◌≡◌, ℕ, ◌≤◌, List, length, Option, Some, sym, ap, ◌∙◌, arith}
 use Rattle.login_setup.specs.declared.setup.PeerSetup.{PeerSetup}
-use Rattle.login_setup.specs.declared.setup.ServerSetup.{ServerSetup}
+use Rattle.login_setup.specs.Setup.{ServerSetup}
 use Rattle.eap_method.specs.declared.tags.TagRecord.{TagRecord}
 use Rattle.eap_method.specs.Server.{ServerViews}
 use Rattle.peer_machine.specs.PeerTable as peers

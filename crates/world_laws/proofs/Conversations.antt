@@ -3,7 +3,7 @@ use Rattle.std.proofs.Common.{◌≡◌, ℕ, Some, true, List, [], ◌∷◌, l
 use Rattle.login_setup.specs.declared.event.Event.{Event}
 use Rattle.octet_lists.specs.Among.{psk_kind}
 use Rattle.login_setup.specs.declared.setup.PeerSetup.{PeerSetup}
-use Rattle.login_setup.specs.declared.setup.ServerSetup.{ServerSetup}
+use Rattle.login_setup.specs.Setup.{ServerSetup}
 use Rattle.login_setup.specs.declared.setup.Setup.{Setup}
 use Rattle.peer_machine.specs.PeerTable as peers
 use Rattle.peer_machine.specs.PeerTable.{PeerNow}

@@ -10,7 +10,7 @@ use Rattle.login_setup.specs.declared.event.Event.{Event}
 use Rattle.login_setup.specs.declared.setup.Mode.{Mode}
 use Rattle.login_setup.specs.declared.setup.Mode.TheVariants as mode
 use Rattle.login_setup.specs.declared.setup.PeerSetup.{PeerSetup}
-use Rattle.login_setup.specs.declared.setup.ServerSetup.{ServerSetup}
+use Rattle.login_setup.specs.Setup.{ServerSetup}
 use Rattle.login_setup.specs.declared.setup.Setup.{Setup}
 use Rattle.eap_packet.specs.declared.state.State.TheVariants as state
 use Rattle.eap_method.specs.Steps.{enters}

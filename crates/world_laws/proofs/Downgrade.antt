@@ -11,7 +11,7 @@ use Rattle.login_setup.specs.declared.setup.Party.{Party}
 use Rattle.login_setup.specs.declared.setup.Mode.{Mode}
 use Rattle.login_setup.specs.declared.setup.Mode.TheVariants.{Alone, Through}
 use Rattle.login_setup.specs.declared.setup.Party.TheVariants as party
-use Rattle.login_setup.specs.declared.setup.ServerSetup.{ServerSetup}
+use Rattle.login_setup.specs.Setup.{ServerSetup}
 use Rattle.login_setup.specs.declared.setup.Setup.{Setup}
 use Rattle.octet_lists.specs.Among.{identity_kind, is_among, is_kind}
 use Rattle.eap_packet.specs.Fault.{code_of, packet_of}

@@ -1,7 +1,7 @@
 -- The login of an end that has succeeded by EAP-GPSK is that of the other end's conversation on whose tags it rests.
 use Rattle.std.proofs.Common.{◌≡◌, ℕ, true, false, List, [], ◌∷◌, ◌++◌, length, Option, Some, refl, sym, ap, subst, ◌∙◌, inl, inr}
 use Rattle.login_setup.specs.declared.setup.PeerSetup.{PeerSetup}
-use Rattle.login_setup.specs.declared.setup.ServerSetup.{ServerSetup}
+use Rattle.login_setup.specs.Setup.{ServerSetup}
 use Rattle.octet_lists.specs.Among.{gpsk_kind}
 use Rattle.login_setup.specs.Users.{user_of}
 use Rattle.eap_method.specs.BothServers.{gpsk_at}

@@ -1,7 +1,7 @@
 -- By EAP-GPSK two conversations of which one rests on the other hold the whole of each other's nonces.
 use Rattle.std.proofs.Common.{◌≡◌, ℕ, Bool, true, false, List, ◌∷◌, length, Some, refl, sym, ap, subst, ◌∙◌}
 use Rattle.login_setup.specs.declared.setup.PeerSetup.{PeerSetup}
-use Rattle.login_setup.specs.declared.setup.ServerSetup.{ServerSetup}
+use Rattle.login_setup.specs.Setup.{ServerSetup}
 use Rattle.eap_method.specs.declared.tags.TagRecord.{TagRecord}
 use Rattle.eap_method.specs.GpskPeer as peer
 use Rattle.eap_method.specs.GpskServer as server

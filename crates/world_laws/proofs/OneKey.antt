@@ -2,7 +2,7 @@
 -- under its user's.
 use Rattle.std.proofs.Common.{◌≡◌, ℕ, List, [], ◌∷◌, Option, Some, refl, sym, ap, subst, ◌∙◌, inl, inr}
 use Rattle.login_setup.specs.declared.setup.PeerSetup.{PeerSetup}
-use Rattle.login_setup.specs.declared.setup.ServerSetup.{ServerSetup}
+use Rattle.login_setup.specs.Setup.{ServerSetup}
 use Rattle.login_setup.specs.declared.setup.Setup.{Setup}
 use Rattle.login_setup.specs.declared.users.User.{User}
 use Rattle.login_setup.specs.Users.{user_of}

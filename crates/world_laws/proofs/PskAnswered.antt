@@ -1,7 +1,7 @@
 -- The PSK-4 that a server accepts tells, by RAND_S in its header, which conversation of the peer made it: that has accepted PSK-3.
 use Rattle.std.proofs.Common.{◌≡◌, ℕ, Bool, List, length, drop, Option, Some, refl, sym, ap, subst, ◌∙◌, arith, inl, inr}
 use Rattle.login_setup.specs.declared.setup.PeerSetup.{PeerSetup}
-use Rattle.login_setup.specs.declared.setup.ServerSetup.{ServerSetup}
+use Rattle.login_setup.specs.Setup.{ServerSetup}
 use Rattle.eap_method.specs.declared.tags.TagRecord.{TagRecord}
 use Rattle.eap_method.specs.Peer.{PeerViews}
 use Rattle.eap_method.specs.PskPeer as psk_peer

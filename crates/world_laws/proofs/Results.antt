@@ -1,7 +1,7 @@
 -- To what the login of a conversation leads, beside what the other end reports: names, user and key.
 use Rattle.std.proofs.Common.{◌≡◌, ℕ, List, Option, Some, ap, ◌∙◌}
 use Rattle.login_setup.specs.declared.setup.PeerSetup.{PeerSetup}
-use Rattle.login_setup.specs.declared.setup.ServerSetup.{ServerSetup}
+use Rattle.login_setup.specs.Setup.{ServerSetup}
 use Rattle.login_setup.specs.Users.{user_of}
 use Rattle.login_setup.specs.declared.users.User.{User}
 use Rattle.eap_method.specs.declared.values.Credential.{Credential}

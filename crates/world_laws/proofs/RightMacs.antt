@@ -3,7 +3,7 @@ use Rattle.std.proofs.Common.{◌≡◌, ℕ, Bool, true, false, List, [], ◌�
 use Rattle.std.specs.Prelude.{slice_index}
 use Rattle.std.proofs.lemmas.Slice.Eq.{bytes_eq-Decides}
 use Rattle.login_setup.specs.declared.setup.PeerSetup.{PeerSetup}
-use Rattle.login_setup.specs.declared.setup.ServerSetup.{ServerSetup}
+use Rattle.login_setup.specs.Setup.{ServerSetup}
 use Rattle.octet_lists.specs.Among.{gpsk_kind, psk_kind}
 use Rattle.octet_lists.specs.declared.suite.Suite.{Suite}
 use Rattle.gpsk_messages.specs.Message.{covered_of}

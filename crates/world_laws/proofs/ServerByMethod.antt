@@ -1,6 +1,6 @@
 -- The server by the method of a Type: what holds of the turns, the offer, the nonce and the tags of each method holds of a Type's.
 use Rattle.std.proofs.Common.{◌≡◌, ℕ, List, [], true, Option, Some, None, refl, ap, sym, subst, ◌∙◌, arith}
-use Rattle.login_setup.specs.declared.setup.ServerSetup.{ServerSetup}
+use Rattle.login_setup.specs.Setup.{ServerSetup}
 use Rattle.login_setup.specs.declared.users.User.{User}
 use Rattle.octet_lists.specs.Among.{psk_kind, gpsk_kind, is_among, identity_kind}
 use Rattle.eap_packet.specs.declared.cause.Cause.{Cause}

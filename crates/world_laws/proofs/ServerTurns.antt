@@ -1,6 +1,6 @@
 -- What is asked of a turn of a server's method: each Request has the next Identifier, and the view after it tells the tags.
 use Rattle.std.proofs.Common.{◌≡◌, ℕ, List, [], ◌++◌, Bool, true, Some, None, refl, subst}
-use Rattle.login_setup.specs.declared.setup.ServerSetup.{ServerSetup}
+use Rattle.login_setup.specs.Setup.{ServerSetup}
 use Rattle.eap_packet.specs.Fault.{code_of}
 use Rattle.eap_packet.specs.Packet.{request, spelled}
 use Rattle.eap_packet.specs.declared.cause.Cause.{Cause}

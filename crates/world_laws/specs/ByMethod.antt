@@ -2,7 +2,7 @@
 -- EAP-PSK has (RFC 4764 section 3.2), the report that its login leads to, its tags, and whether the method has succeeded.
 use Rattle.std.specs.Prelude.{◌≡◌, ℕ, List, [], Bool, true, false, ◌==◌, Option, None, Some}
 use Rattle.login_setup.specs.declared.setup.PeerSetup.{PeerSetup}
-use Rattle.login_setup.specs.declared.setup.ServerSetup.{ServerSetup}
+use Rattle.login_setup.specs.Setup.{ServerSetup}
 use Rattle.octet_lists.specs.Among.{psk_kind, gpsk_kind, identity_kind}
 use Rattle.eap_method.specs.BothServers.{gpsk_at, psk_at}
 use Rattle.eap_method.specs.declared.tags.TagRecord.{TagRecord}

@@ -1,7 +1,7 @@
 -- What holds of the server at every moment of a run, with the tags that it has accepted and made: the view
 -- of its current method determines them exactly, also if the login has failed.
 use Rattle.std.specs.Prelude.{◌≡◌, ℕ, List, true, false, None, option_map}
-use Rattle.login_setup.specs.declared.setup.ServerSetup.{ServerSetup}
+use Rattle.login_setup.specs.Setup.{ServerSetup}
 use Rattle.eap_method.specs.BothServers.{both_of}
 use Rattle.eap_method.specs.Server.{ServerViews, method_of}
 use Rattle.eap_method.specs.declared.tags.TagRecord.{TagRecord}

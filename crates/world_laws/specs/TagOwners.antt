@@ -1,7 +1,7 @@
 -- What a conversation's view says of its nonces and tags, and which conversations can have made a tag.
 use Rattle.std.specs.Prelude.{◌≡◌, ℕ, List, length, Option, Some}
 use Rattle.login_setup.specs.declared.setup.PeerSetup.{PeerSetup}
-use Rattle.login_setup.specs.declared.setup.ServerSetup.{ServerSetup}
+use Rattle.login_setup.specs.Setup.{ServerSetup}
 use Rattle.eap_method.specs.declared.tags.TagRecord.{TagRecord}
 use Rattle.eap_method.specs.Peer.{PeerViews}
 use Rattle.eap_method.specs.Server.{ServerViews}

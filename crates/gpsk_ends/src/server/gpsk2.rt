@@ -24,7 +24,7 @@ use eap_method::{Records, ServerAnswer, Tags};
 use eap_packet::{Cause, Code};
 use gpsk_messages::{Gpsk2, GpskMessage, write_gpsk_into};
 use login_keys::GpskKeys;
-use login_setup::{User, Users};
+use login_setup::User;
 use octet_lists::{GPSK_KIND, Packet};
 
 /// Failure-Code PSK Not Found (RFC 5433 section 9.3).
@@ -71,12 +71,12 @@ fn answer<R: Records>(
 
 /// The user of this name, with a key for EAP-GPSK.
 #[tactic(auto, using(crate::proofs::UserKeys::key_is_long))]
-fn find_user<'a>(users: &'a Users, id_p: &[u8]) -> Option<&'a User>
+fn find_user<'a>(users: &'a [User], id_p: &[u8]) -> Option<&'a User>
     requires { All (λ user. IsTrue (is_valid_for user.kind user.psk)) users.now }
     ensures found { option_copied result ≡ user_of users.now id_p.now gpsk_kind }
     ensures key { IfSome result (λ user. 32 ≤ length user.now.psk) }
 {
-    users.find(id_p, GPSK_KIND)
+    login_setup::find_user(users, id_p, GPSK_KIND)
 }
 
 /// GPSK-2 without a fault is answered, and the login begins. It is never inlined, so that no keys are derived above what the
@@ -172,7 +172,7 @@ fn asked_receives<R: Records>(
     next_id: u8,
     view: &GpskMessage,
     body: &[u8],
-    users: &Users,
+    users: &[User],
     packet: &mut Packet,
     tags: &mut Tags<R>,
 ) -> ServerAnswer
@@ -208,7 +208,7 @@ pub fn asked_reads<R: Records>(
     stage: &mut Stage,
     next_id: u8,
     body: &[u8],
-    users: &Users,
+    users: &[User],
     packet: &mut Packet,
     tags: &mut Tags<R>,
 ) -> ServerAnswer

@@ -25,7 +25,7 @@ use crate::server::stage::{Alone, Phase, Stage};
 use eap_method::{Records, ServerAnswer, Tags};
 use eap_packet::Cause;
 use gpsk_messages::GpskMessage;
-use login_setup::Users;
+use login_setup::User;
 use octet_lists::{Packet, Suite};
 
 /// The first Request of a server that has begun. Any other makes an empty packet, and stays as it is.
@@ -185,7 +185,7 @@ pub fn handle_response<R: Records>(
     stage: &mut Stage,
     response: &[u8],
     next_id: u8,
-    users: &Users,
+    users: &[User],
     packet: &mut Packet,
     tags: &mut Tags<R>,
 ) -> ServerAnswer

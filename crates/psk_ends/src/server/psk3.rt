@@ -22,7 +22,7 @@ use cmac_mac::CmacKey;
 use eap_method::{Records, TagList, Tags};
 use eap_packet::{Cause, Code};
 use login_keys::PskLong;
-use login_setup::{User, Users};
+use login_setup::{User, find_user};
 use octet_lists::{PSK_KIND, Packet, equal_in_full};
 use psk_messages::{Channel, Psk2, Psk3, PskMessage, write_psk_into};
 
@@ -97,14 +97,14 @@ fn check<'a>(own: &Initial, psk2: &Psk2<'a>, user: &'a User) -> Result<Option<Us
 }
 
 /// A PSK-2 with the server's RAND_S; None if there is no user of its name.
-fn find<'a>(own: &Initial, psk2: &Psk2<'a>, users: &'a Users) -> Result<Option<UserPsk2<'a>>, Cause>
+fn find<'a>(own: &Initial, psk2: &Psk2<'a>, users: &'a [User]) -> Result<Option<UserPsk2<'a>>, Cause>
     requires name { length psk2.now.id_p.now ≤ max_name }
     requires keys { All (λ user. IsTrue (is_valid_for user.kind user.psk)) users.now }
     ensures { (next_id : ℕ) → asked_with own.now next_id result
         ≡ finds own.now.side own.now.nonce next_id
         psk2.now.rand_p psk2.now.mac psk2.now.id_p.now (user_of users.now psk2.now.id_p.now psk_kind) }
 {
-    match users.find(psk2.id_p, PSK_KIND) {
+    match find_user(users, psk2.id_p, PSK_KIND) {
         None => Ok(None),
         Some(user) => check(own, psk2, user),
     }
@@ -115,7 +115,7 @@ fn find<'a>(own: &Initial, psk2: &Psk2<'a>, users: &'a Users) -> Result<Option<U
 pub fn asked_reads<'a>(
     own: &Initial,
     response: &'a [u8],
-    users: &'a Users,
+    users: &'a [User],
 ) -> Result<Option<UserPsk2<'a>>, Cause>
     requires size { 5 ≤ length response.now }
     requires keys { All (λ user. IsTrue (is_valid_for user.kind user.psk)) users.now }

@@ -19,7 +19,7 @@ use crate::server::psk4::handle_psk4;
 use crate::server::stage::{EarlyPhase, KnownPhase, Stage};
 use eap_method::{Records, ServerAnswer, Tags};
 use eap_packet::{Cause, Code};
-use login_setup::Users;
+use login_setup::User;
 use octet_lists::Packet;
 use psk_messages::{Psk1, PskMessage, write_psk_into};
 
@@ -128,7 +128,7 @@ pub fn handle_response<R: Records>(
     stage: &mut Stage,
     response: &[u8],
     next_id: u8,
-    users: &Users,
+    users: &[User],
     packet: &mut Packet,
     tags: &mut Tags<R>,
 ) -> ServerAnswer
