@@ -27,7 +27,7 @@ use Rattle.server_machine.specs.ServerTable as servers
 use Rattle.server_machine.specs.ServerTable.{ServerValue, ServerNow, initial_server, server_reports, is_ready, is_started}
 use Rattle.server_machine.specs.declared.variables.Role.{Role}
 use Rattle.server_machine.specs.declared.variables.Role.TheVariants as role
-use Rattle.server_machine.specs.declared.variables.ServerVariables.{ServerVariables}
+use Rattle.server_machine.specs.Variables.{ServerVariables}
 use Rattle.pass_through.specs.Inputs as pass_inputs
 use Rattle.pass_through.specs.Inputs.{PassInput, pass_accepts}
 use Rattle.pass_through.specs.PassTable as passes

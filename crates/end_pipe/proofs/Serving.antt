@@ -4,7 +4,7 @@ use Rattle.std.proofs.lemmas.Bool.{or_right}
 use Rattle.server_machine.specs.Inputs.{ServerInput, server_accepts, timeout}
 use Rattle.server_machine.specs.ServerTable.{ServerAnswer, ServerNow, answer, is_backend, is_ready, is_started, server_start, server_timeout}
 use Rattle.server_machine.specs.declared.variables.Role.TheVariants.{StandAlone}
-use Rattle.server_machine.specs.declared.variables.ServerVariables.{ServerVariables}
+use Rattle.server_machine.specs.Variables.{ServerVariables}
 use Rattle.server_machine.proofs.Starting.{stays_as_it_is}
 use Rattle.eap_method.specs.Steps.{Step, is_end}
 use Rattle.end_pipe.specs.EndRun.{IsServing, server_answers}

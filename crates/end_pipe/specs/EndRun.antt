@@ -17,7 +17,7 @@ use Rattle.server_machine.specs.Inputs.{ServerInput, server_accepts}
 use Rattle.server_machine.specs.ServerTable as servers
 use Rattle.server_machine.specs.ServerTable.{ServerValue, ServerNow, ServerAnswer, is_started, initial_server, server_reports, server_start}
 use Rattle.server_machine.specs.declared.variables.Role.TheVariants.{StandAlone}
-use Rattle.server_machine.specs.declared.variables.ServerVariables.{ServerVariables}
+use Rattle.server_machine.specs.Variables.{ServerVariables}
 use Rattle.text_tables.specs.Fields.{◌>>=◌}
 use Rattle.text_tables.specs.declared.fault.LineFault.{LineFault}
 use Rattle.scenario_text.specs.Reading.{peer_setup_of, server_setup_of}

@@ -134,12 +134,13 @@ pub struct ServerSetup<U = Users> {
     pub methods: Kinds,
     /// The EAP-GPSK suites that it offers, in this order: 1 or 2, each at most once.
     pub suites: Suites,
-    /// The users that it knows.
-    pub users: U,
     /// The octets from which its nonce is taken.
     pub nonce: Nonce,
     /// Whether it reads Expanded Types (RFC 3748 section 5.7).
     pub expanded: bool,
+    // (what has no fixed size is last: the places of the others are then numbers)
+    /// The users that it knows.
+    pub users: U,
 }
 
 impl<const N: usize> ServerSetup<UserList<N>> {

@@ -16,7 +16,7 @@ use Rattle.server_machine.specs.Inputs.{start, timeout, octets, restart}
 use Rattle.server_machine.specs.Rows.{outside, received, no_packet, no_response, other_id, other_method, by_method, Receives, Selects, after_identity, after_nak, first_identity, first_nak, first_other, Proposes, Turns, ServerRow, ended, rests, goes_on, drops, starts, begins, resends, times_out, proposes, proposes_without, proposes_none, requests, succeeds, method_fails, ServerAnswersAreRows}
 use Rattle.server_machine.specs.ServerTable as table
 use Rattle.server_machine.specs.ServerTable.{ServerNow, ServerAnswer, offers, select_action, method_answers, server_method, is_awaited, is_proposed, is_started, awaits_first, current_response, first_response, pick_up, server_row, server_start, server_deliver, server_timeout}
-use Rattle.server_machine.specs.declared.variables.ServerVariables.{ServerVariables}
+use Rattle.server_machine.specs.Variables.{ServerVariables}
 
 awaited : (held : Option ℕ) (number : ℕ) → is_awaited held number ≡ true → held ≡ Some number
 awaited None number is = cc

@@ -15,7 +15,7 @@ use Rattle.eap_method.specs.Server.{ServerShown, ServerViews, server_views, serv
 use Rattle.eap_method.proofs.ServerViews.{not_identity}
 use Rattle.eap_method.proofs.ServerObjects.{server_turn_preserves}
 use Rattle.server_machine.specs.ServerTable.{ServerNow, answer, method_answers, views_after, server_method, select_action, offers, ends_badly, next_id}
-use Rattle.server_machine.specs.declared.variables.ServerVariables.{ServerVariables}
+use Rattle.server_machine.specs.Variables.{ServerVariables}
 
 -- the Identity round has no report
 none_found : (shown : List ServerShown) → find (λ s. server_kind s == identity_kind) shown ≡ None

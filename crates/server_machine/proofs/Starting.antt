@@ -15,7 +15,7 @@ use Rattle.server_machine.specs.Rows.{goes_on, drops, starts, resends, times_out
 use Rattle.server_machine.specs.Rows.{succeeds, method_fails}
 use Rattle.server_machine.specs.ServerTable.{ServerNow, ServerAnswer, answer, awaits_first, has_timer, is_backend, is_ready, is_started, server_deliver, server_restart, server_start}
 use Rattle.server_machine.specs.declared.variables.Role.TheVariants.{Backend, StandAlone}
-use Rattle.server_machine.specs.declared.variables.ServerVariables.{ServerVariables}
+use Rattle.server_machine.specs.Variables.{ServerVariables}
 use Rattle.server_machine.proofs.Receiving.{ServerReceiving, as_it_is, bad, wrapping, server_receives_so}
 use Rattle.server_machine.proofs.ServerRows.{server_answers_are_rows}
 

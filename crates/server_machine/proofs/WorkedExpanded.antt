@@ -14,7 +14,7 @@ use Rattle.eap_method.specs.Tags.{no_tags}
 use Rattle.server_machine.specs.Expanded.{nak_octets, wraps, server_receives}
 use Rattle.server_machine.specs.ServerTable.{ServerNow, answer, initial_backend, before_proposal, receives_identity, picked_up, select_action, server_deliver, initial_server, server_start}
 use Rattle.server_machine.specs.declared.variables.Role.TheVariants.{StandAlone}
-use Rattle.server_machine.specs.declared.variables.ServerVariables.{ServerVariables}
+use Rattle.server_machine.specs.Variables.{ServerVariables}
 use Rattle.server_machine.specs.declared.variables.ProposalPath.TheVariants.{FirstNak}
 
 -- Vendor-Id 0 and Vendor-Type 3 before a list of entries, and the entry of a Type of the IETF

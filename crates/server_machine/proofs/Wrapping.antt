@@ -12,7 +12,7 @@ use Rattle.eap_method.specs.declared.step.Step as brief
 use Rattle.eap_method.specs.Tags.{Tags}
 use Rattle.server_machine.specs.Expanded.{response_octets, reads_response, wraps}
 use Rattle.server_machine.specs.ServerTable.{ServerNow, answer, server_deliver}
-use Rattle.server_machine.specs.declared.variables.ServerVariables.{ServerVariables}
+use Rattle.server_machine.specs.Variables.{ServerVariables}
 
 -- a Success and a Failure are no Request
 pub ends_request_nothing : (code : Code) (id : ℕ) → IsTrue (not (has_type code)) → code_of (spelled (value_with code id 0 [])) ≢ 1

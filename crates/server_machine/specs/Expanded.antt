@@ -13,7 +13,7 @@ use Rattle.eap_method.specs.Plain.{plain_octets}
 use Rattle.eap_method.specs.Capacity.{HasCapacity}
 use Rattle.eap_method.specs.Steps.{is_end}
 use Rattle.server_machine.specs.ServerTable.{ServerNow, ServerAnswer, answer, awaits_first, first_discard, server_discard, server_deliver}
-use Rattle.server_machine.specs.declared.variables.ServerVariables.{ServerVariables}
+use Rattle.server_machine.specs.Variables.{ServerVariables}
 
 -- an Expanded Nak is accepted as a backend's first Response, and if the Request that was sent last is of Type 254; the
 -- table requires the rest: that it has currentId, and that the method is proposed

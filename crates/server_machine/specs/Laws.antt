@@ -3,7 +3,7 @@ use Rattle.std.specs.Prelude.{◌≡◌, None, IsSome, true}
 use Rattle.eap_method.specs.Tags.{no_tags}
 use Rattle.server_machine.specs.Inputs.{ServerInput, server_accepts}
 use Rattle.server_machine.specs.ServerTable.{ServerNow, ServerAnswer, is_ready}
-use Rattle.server_machine.specs.declared.variables.ServerVariables.{ServerVariables}
+use Rattle.server_machine.specs.Variables.{ServerVariables}
 
 -- no variable and no view of a method changed, nothing was sent, and no tag was accepted or made
 pub record PreservesTheServer (before : ServerNow) (out : ServerAnswer) : Type 0 where

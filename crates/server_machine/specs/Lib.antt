@@ -1,3 +1,4 @@
+pub mod Variables
 pub mod ServerTable
 pub mod Expanded
 pub mod Inputs

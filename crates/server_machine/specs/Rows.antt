@@ -17,7 +17,7 @@ use Rattle.server_machine.specs.Inputs.{ServerInput, start, timeout, octets, res
 use Rattle.server_machine.specs.ServerTable.{ServerNow, ServerAnswer, answer, next_id, identity_request, success_packet, failure_packet, before_proposal, is_awaited, is_proposed, is_started, awaits_first, picked_up, server_restart}
 use Rattle.server_machine.specs.declared.variables.Progress.TheVariants as progress
 use Rattle.server_machine.specs.declared.variables.ProposalPath.TheVariants as way
-use Rattle.server_machine.specs.declared.variables.ServerVariables.{ServerVariables}
+use Rattle.server_machine.specs.Variables.{ServerVariables}
 
 -- this Response has come to a server that has not ended
 pub record Receives (now : ServerNow) (bytes : List ℕ) (id kind : ℕ) (body : List ℕ) : Type 0 where

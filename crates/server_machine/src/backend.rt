@@ -24,11 +24,11 @@ ghost use Rattle.server_machine.specs.ServerTable.{Preserves, answer, initial_ba
 ghost use Rattle.server_machine.specs.Expanded.{server_receives};
 ghost use Rattle.server_machine.specs.declared.variables.Role.TheVariants as role;
 
-use crate::machine::ServerMachine;
+use crate::machine::SizedServer;
 use crate::variables::Role;
 use eap_method::{Report, ServerMethod, Step, Tags, Turns};
 use eap_packet::State;
-use login_setup::{ServerSetup, User, Users};
+use login_setup::{MAX_USERS, ServerSetup, User, UserList};
 use octet_lists::{Nonce, Packet};
 use std::marker::Model;
 
@@ -36,12 +36,15 @@ use std::marker::Model;
 /// the identity and sends again in its place. It begins with the first Response; from then on its transitions are those
 /// of the stand-alone server. If its settings say `expanded`, it reads Expanded Types (RFC 3748 section
 /// 5.7) and asks in them. Contracts see it as that machine.
+pub type Backend<M = Box<dyn ServerMethod>> = SizedBackend<M, MAX_USERS>;
+
+/// A [`Backend`] with room for `N` users, in place of 16.
 #[derive(Drop)]
-pub struct Backend<M = Box<dyn ServerMethod>> {
-    machine: ServerMachine<M>,
+pub struct SizedBackend<M, const N: usize> {
+    machine: SizedServer<M, N>,
 }
 
-impl<M> Model for Backend<M> {
+impl<M, const N: usize> Model for SizedBackend<M, N> {
     ghost use Rattle.std.specs.Prelude.{◌≡◌};
     ghost use Rattle.server_machine.specs.ServerTable.{ServerValue};
     ghost use Rattle.server_machine.specs.declared.variables.Role.TheVariants.{Backend};
@@ -53,38 +56,38 @@ impl<M> Model for Backend<M> {
     ghost invariant = { λ b. b.machine.vars.role ≡ Backend };
 }
 
-impl<M: ServerMethod> Backend<M> {
+impl<M: ServerMethod, const N: usize> SizedBackend<M, N> {
     /// Whether [`new`](Backend::new) takes these settings with these objects.
-    pub fn takes(setup: &ServerSetup, methods: &[M]) -> bool
+    pub fn takes(setup: &ServerSetup<UserList<N>>, methods: &[M]) -> bool
         ensures { IsTrue result ↔ (IsSoundServer setup.now
             × (have_each (server_kinds (map M.server_shown methods.now)) setup.now.methods ≡ true)) }
     {
-        ServerMachine::takes(setup, 0, methods)
+        SizedServer::takes(setup, 0, methods)
     }
 
     /// A backend that waits for its first Response: begins the objects of the methods that the setup
     /// proposes. Each of these methods has an object.
-    pub fn new(setup: ServerSetup, methods: Vec<M>) -> Backend<M>
+    pub fn new(setup: ServerSetup<UserList<N>>, methods: Vec<M>) -> SizedBackend<M, N>
         requires sound { IsSoundServer setup }
         requires objects { have_each (server_kinds (map M.server_shown methods.items)) setup.methods ≡ true }
-        ensures initial { now_of M.server_shown result ≡ initial_backend setup (server_views setup.methods (map M.server_shown methods.items)) }
-        ensures preserves { PreservesServers setup.methods (map M.server_shown methods.items) (map M.server_shown result.methods) }
+        ensures initial { now_of M.server_shown result ≡ initial_backend setup.entry (server_views setup.entry.methods (map M.server_shown methods.items)) }
+        ensures preserves { PreservesServers setup.entry.methods (map M.server_shown methods.items) (map M.server_shown result.methods) }
     {
-        Backend {
-            machine: ServerMachine::in_role(Role::Backend, setup, 0, 0, methods),
+        SizedBackend {
+            machine: SizedServer::in_role(Role::Backend, setup, 0, 0, methods),
         }
     }
 
     /// The variables of a backend as INITIALIZE sets them, over objects that have not begun: for a caller that begins them by
     /// [`Backend::make_again`], where the backend stays.
     #[inline(always)]
-    pub fn unbegun(setup: ServerSetup, methods: Vec<M>) -> Backend<M>
+    pub fn unbegun(setup: ServerSetup<UserList<N>>, methods: Vec<M>) -> SizedBackend<M, N>
         requires sound { IsSoundServer setup }
-        ensures vars { result.vars ≡ initial_vars_of role.Backend setup 0 0 }
+        ensures vars { result.vars ≡ initial_vars_of role.Backend setup.entry 0 0 }
         ensures methods { result.methods ≡ methods.items }
     {
-        Backend {
-            machine: ServerMachine::unbegun(Role::Backend, setup, 0, 0, methods),
+        SizedBackend {
+            machine: SizedServer::unbegun(Role::Backend, setup, 0, 0, methods),
         }
     }
 
@@ -138,7 +141,7 @@ impl<M: ServerMethod> Backend<M> {
     }
 
     /// The backend's settings.
-    pub fn setup(&self) -> &ServerSetup
+    pub fn setup(&self) -> &ServerSetup<UserList<N>>
         ensures { result.now ≡ self.now.vars.setup }
     {
         self.machine.setup()
@@ -175,17 +178,17 @@ impl<M: ServerMethod> Backend<M> {
 
     /// The users that the backend knows are these from now on, in any state; nothing else changes. Each has a key
     /// for one of the two methods, of the size that the method requires.
-    pub fn set_users(&mut self, users: Users)
+    pub fn set_users(&mut self, users: UserList<N>)
         requires kinds { All (λ user. IsTrue (is_kind user.kind)) users }
         requires keys { All (λ user. IsTrue (is_valid_for user.kind user.psk)) users }
-        ensures { self.new ≡ with_users self.old users }
+        ensures { self.new ≡ with_users self.old users.entry }
     {
         self.machine.set_users(users)
     }
 
     /// The backend knows this user too from now on, as [`ServerMachine::add_user`].
     pub fn add_user(&mut self, user: User)
-        requires capacity { users.HasCapacity self.old.vars.setup.users user }
+        requires capacity { users.HasCapacity N self.old.vars.setup.users user }
         requires kind { is_kind user.kind ≡ true }
         requires key { is_valid_for user.kind user.psk ≡ true }
         ensures { self.new ≡ with_users self.old (self.old.vars.setup.users ++ user ∷ []) }

@@ -16,10 +16,11 @@ ghost use Rattle.server_machine.specs.ServerTable.{AreInOrder, answer, awaits_fi
 use crate::variables::{Role, ServerVariables};
 use eap_packet::{Code, PacketView, State, encode_into, wrap_in_place, write_plain};
 use login_policy::expanded_kinds;
+use login_setup::UserList;
 use octet_lists::{EXPANDED, IETF, NAK, Packet, VENDOR_SIZE};
 
 /// True for a backend that still waits for its first Response.
-pub fn awaits_first(vars: &ServerVariables) -> bool
+pub fn awaits_first<const N: usize>(vars: &ServerVariables<UserList<N>>) -> bool
     ensures { result ≡ awaits_first vars.now }
 {
     matches!(vars.role, Role::Backend) && matches!(vars.state, State::Initialize)
@@ -28,7 +29,7 @@ pub fn awaits_first(vars: &ServerVariables) -> bool
 /// Writes what a Response is handled as, in place of what `packet` had, and answers true: an Expanded Nak that
 /// is accepted as the Nak that it says, any other of Vendor-Id 0 in its plain form. Of any other Response it is
 /// the octets that came; the answer is then false, and what `packet` then has is unspecified.
-pub fn write_if_accepted(vars: &ServerVariables, view: &PacketView, packet: &mut Packet) -> bool
+pub fn write_if_accepted<const N: usize>(vars: &ServerVariables<UserList<N>>, view: &PacketView, packet: &mut Packet) -> bool
     requires response { view.now.code ≡ Code.Response }
     requires bounded { length view.now.body.now ≤ max_type_data }
     ensures { (octets : List ℕ) → response_octets vars.now octets view.now.id view.now.kind view.now.body.now
@@ -51,7 +52,7 @@ fn is_nak_body(body: &[u8]) -> bool
 
 /// Whether an Expanded Nak is accepted: as a backend's first Response, and if the Request that was sent last
 /// is of Type 254.
-fn accepts_nak(vars: &ServerVariables) -> bool
+fn accepts_nak<const N: usize>(vars: &ServerVariables<UserList<N>>) -> bool
     ensures { result ≡ accepts_nak vars.now }
 {
     awaits_first(vars) || octet_is(vars.last_request.as_slice(), 4, EXPANDED)
@@ -82,7 +83,7 @@ fn write_nak(packet: &mut Packet, id: u8, list: &[u8])
 /// Wraps a Request that is sent, in place, and stores it so for the timer. A Success and a Failure stay as they
 /// are. It isn't inlined, so that the copy of the packet isn't on the stack in a method's turn.
 #[inline(never)]
-pub fn wrap_sent(vars: &mut ServerVariables, sends: bool, packet: &mut Packet)
+pub fn wrap_sent<const N: usize>(vars: &mut ServerVariables<UserList<N>>, sends: bool, packet: &mut Packet)
     requires capacity { MayWrap sends packet.old }
     ensures step { (step : brief.Step) (tags : records.Tags) (views : ServerViews) → step.sends ≡ sends
         → wraps (answer (step_with step packet.old tags) (record { vars = vars.old; views = views }))

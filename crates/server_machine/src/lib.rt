@@ -10,9 +10,9 @@ mod outcome;
 mod plain;
 mod variables;
 
-pub use backend::Backend;
+pub use backend::{Backend, SizedBackend};
 pub use laws::{answers_are_rows, discards_change_nothing, stays_as_it_is};
-pub use machine::ServerMachine;
+pub use machine::{ServerMachine, SizedServer};
 pub use variables::{Progress, ProposalPath, Role, ServerVariables};
 
 /// What one call of the server does.

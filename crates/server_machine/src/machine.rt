@@ -45,7 +45,7 @@ use eap_method::{
 };
 use eap_packet::{Cause, Code, PacketView, State, decode, encode_into, is_bad_expanded};
 use login_policy::next_method;
-use login_setup::{ServerSetup, User, Users, is_sound_server};
+use login_setup::{MAX_USERS, ServerSetup, User, UserList, is_sound_server};
 use octet_lists::{IDENTITY, Kinds, NAK, Nonce, Packet};
 use std::marker::Model;
 
@@ -56,13 +56,16 @@ use std::marker::Model;
 /// [`add_user`](ServerMachine::add_user) their users, nor the view of an object whose method they don't name. If
 /// the settings say `expanded`, it reads Expanded Types (RFC 3748 section 5.7) and asks in them.
 /// [`Backend`](crate::Backend) is the backend by itself.
+pub type ServerMachine<M = Box<dyn ServerMethod>> = SizedServer<M, MAX_USERS>;
+
+/// A [`ServerMachine`] with room for `N` users, in place of 16.
 #[derive(Drop)]
-pub struct ServerMachine<M = Box<dyn ServerMethod>> {
-    vars: ServerVariables,
+pub struct SizedServer<M, const N: usize> {
     methods: Vec<M>,
+    vars: ServerVariables<UserList<N>>,
 }
 
-impl<M> Model for ServerMachine<M> {
+impl<M, const N: usize> Model for SizedServer<M, N> {
     ghost use Rattle.server_machine.specs.ServerTable.{ServerValue, AreInOrder};
 
     ghost Value = { ServerValue M };
@@ -72,7 +75,7 @@ impl<M> Model for ServerMachine<M> {
     ghost invariant = { λ m. AreInOrder m.vars };
 }
 
-impl<M: ServerMethod> ServerMachine<M> {
+impl<M: ServerMethod, const N: usize> SizedServer<M, N> {
     ghost use Rattle.eap_method.specs.Steps.{is_end};
     ghost use Rattle.server_machine.specs.ServerTable.{now_of, made_again, setup_with_nonce, initial_vars_of, initial_server, server_restart, server_start, server_deliver, server_timeout, server_reports, is_started, server_row, select_action, server_method, current_response};
     ghost use Rattle.server_machine.specs.ServerTable.{current_view, first_response, has_timer, is_backend, is_ready, pick_up, with_users};
@@ -80,7 +83,7 @@ impl<M: ServerMethod> ServerMachine<M> {
     ghost use Rattle.server_machine.specs.declared.variables.Role.TheVariants.{StandAlone};
 
     /// Whether [`new`](ServerMachine::new) takes these settings with these objects.
-    pub fn takes(setup: &ServerSetup, max_retrans: u8, methods: &[M]) -> bool
+    pub fn takes(setup: &ServerSetup<UserList<N>>, max_retrans: u8, methods: &[M]) -> bool
         ensures { IsTrue result ↔ (IsSoundServer setup.now × (max_retrans ≤ 10)
             × (have_each (server_kinds (map M.server_shown methods.now)) setup.now.methods ≡ true)) }
     {
@@ -92,40 +95,40 @@ impl<M: ServerMethod> ServerMachine<M> {
     /// A stand-alone server that has not started: begins the objects of the methods that the setup
     /// proposes. Each of these methods has an object; `max_retrans` is at most 10.
     pub fn new(
-        setup: ServerSetup,
+        setup: ServerSetup<UserList<N>>,
         first_id: u8,
         max_retrans: u8,
         methods: Vec<M>,
-    ) -> ServerMachine<M>
+    ) -> SizedServer<M, N>
         requires sound { IsSoundServer setup }
         requires few { max_retrans ≤ 10 }
         requires objects { have_each (server_kinds (map M.server_shown methods.items)) setup.methods ≡ true }
         ensures initial { now_of M.server_shown result
-            ≡ initial_server StandAlone setup (server_views setup.methods (map M.server_shown methods.items)) first_id max_retrans }
-        ensures preserves { PreservesServers setup.methods (map M.server_shown methods.items) (map M.server_shown result.methods) }
+            ≡ initial_server StandAlone setup.entry (server_views setup.entry.methods (map M.server_shown methods.items)) first_id max_retrans }
+        ensures preserves { PreservesServers setup.entry.methods (map M.server_shown methods.items) (map M.server_shown result.methods) }
     {
-        ServerMachine::in_role(Role::StandAlone, setup, first_id, max_retrans, methods)
+        SizedServer::in_role(Role::StandAlone, setup, first_id, max_retrans, methods)
     }
 
     /// A server in either role, before its start or, of a backend, its first Response: as
     /// [`ServerMachine::new`]. A backend uses neither `first_id` nor `max_retrans`.
     pub fn in_role(
         role: Role,
-        setup: ServerSetup,
+        setup: ServerSetup<UserList<N>>,
         first_id: u8,
         max_retrans: u8,
         methods: Vec<M>,
-    ) -> ServerMachine<M>
+    ) -> SizedServer<M, N>
         requires sound { IsSoundServer setup }
         requires few { max_retrans ≤ 10 }
         requires objects { have_each (server_kinds (map M.server_shown methods.items)) setup.methods ≡ true }
         ensures initial { now_of M.server_shown result
-            ≡ initial_server role setup (server_views setup.methods (map M.server_shown methods.items)) first_id max_retrans }
-        ensures preserves { PreservesServers setup.methods (map M.server_shown methods.items) (map M.server_shown result.methods) }
+            ≡ initial_server role setup.entry (server_views setup.entry.methods (map M.server_shown methods.items)) first_id max_retrans }
+        ensures preserves { PreservesServers setup.entry.methods (map M.server_shown methods.items) (map M.server_shown result.methods) }
     {
         let mut methods = methods;
         start_servers(methods.as_mut_slice(), &setup);
-        ServerMachine::unbegun(role, setup, first_id, max_retrans, methods)
+        SizedServer::unbegun(role, setup, first_id, max_retrans, methods)
     }
 
     /// The variables of a server in either role as INITIALIZE sets them, over objects that have not begun: for a caller that
@@ -133,17 +136,17 @@ impl<M: ServerMethod> ServerMachine<M> {
     #[inline(always)]
     pub fn unbegun(
         role: Role,
-        setup: ServerSetup,
+        setup: ServerSetup<UserList<N>>,
         first_id: u8,
         max_retrans: u8,
         methods: Vec<M>,
-    ) -> ServerMachine<M>
+    ) -> SizedServer<M, N>
         requires sound { IsSoundServer setup }
         requires few { max_retrans ≤ 10 }
-        ensures vars { result.vars ≡ initial_vars_of role setup first_id max_retrans }
+        ensures vars { result.vars ≡ initial_vars_of role setup.entry first_id max_retrans }
         ensures methods { result.methods ≡ methods.items }
     {
-        ServerMachine {
+        SizedServer {
             vars: ServerVariables {
                 role,
                 setup,
@@ -374,7 +377,7 @@ impl<M: ServerMethod> ServerMachine<M> {
     }
 
     /// The server's settings.
-    pub fn setup(&self) -> &ServerSetup
+    pub fn setup(&self) -> &ServerSetup<UserList<N>>
         ensures { result.now ≡ self.now.vars.setup }
     {
         &self.vars.setup
@@ -451,10 +454,10 @@ impl<M: ServerMethod> ServerMachine<M> {
     /// The users that the server knows are these from now on, in any state; nothing else changes. Each has a key for
     /// one of the two methods, of the size that the method requires.
     #[tactic(auto, using(crate::proofs::Restarting::sound_with_users))]
-    pub fn set_users(&mut self, users: Users)
+    pub fn set_users(&mut self, users: UserList<N>)
         requires kinds { All (λ user. IsTrue (is_kind user.kind)) users }
         requires keys { All (λ user. IsTrue (is_valid_for user.kind user.psk)) users }
-        ensures { self.new ≡ with_users self.old users }
+        ensures { self.new ≡ with_users self.old users.entry }
     {
         self.vars.setup.users = users;
     }
@@ -463,7 +466,7 @@ impl<M: ServerMethod> ServerMachine<M> {
     /// key for one of the two methods, of the size that the method requires.
     #[tactic(auto, using(crate::proofs::Restarting::sound_with_user))]
     pub fn add_user(&mut self, user: User)
-        requires capacity { users.HasCapacity self.old.vars.setup.users user }
+        requires capacity { users.HasCapacity N self.old.vars.setup.users user }
         requires kind { is_kind user.kind ≡ true }
         requires key { is_valid_for user.kind user.psk ≡ true }
         ensures { self.new ≡ with_users self.old (self.old.vars.setup.users ++ user ∷ []) }
@@ -640,9 +643,9 @@ fn write_identity(packet: &mut Packet, id: u8)
 
 /// The method of this Type begins and writes its first Request, with the next Identifier, into `packet`;
 /// false without an object of it.
-fn write_first<M: ServerMethod>(
+fn write_first<M: ServerMethod, const N: usize>(
     methods: &mut Vec<M>,
-    vars: &ServerVariables,
+    vars: &ServerVariables<UserList<N>>,
     kind: u8,
     packet: &mut Packet,
 ) -> bool
@@ -665,9 +668,9 @@ fn write_first<M: ServerMethod>(
 }
 
 /// The turn of the object of this Type.
-fn turn_of<M: ServerMethod, R: Turns>(
+fn turn_of<M: ServerMethod, R: Turns, const N: usize>(
     methods: &mut Vec<M>,
-    vars: &ServerVariables,
+    vars: &ServerVariables<UserList<N>>,
     kind: u8,
     response: &[u8],
     packet: &mut Packet,
@@ -688,7 +691,7 @@ fn turn_of<M: ServerMethod, R: Turns>(
         kind,
         response,
         next_id(vars),
-        &vars.setup.users,
+        vars.setup.users.as_slice(),
         packet,
         tags,
     )

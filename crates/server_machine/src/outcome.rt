@@ -18,6 +18,7 @@ ghost use Rattle.server_machine.specs.declared.variables.ProposalPath.TheVariant
 use crate::variables::{Progress, ProposalPath, ServerVariables};
 use eap_method::{ServerAnswer, Step};
 use eap_packet::{Code, State, encode_end_into};
+use login_setup::UserList;
 use octet_lists::Packet;
 
 /// The states before a proposal, or before the end in its place.
@@ -61,7 +62,7 @@ fn write_end(packet: &mut Packet, code: Code, id: u8)
 }
 
 /// The Identifier of the next Request: the first one, or one more modulo 256.
-pub fn next_id(vars: &ServerVariables) -> u8
+pub fn next_id<const N: usize>(vars: &ServerVariables<UserList<N>>) -> u8
     ensures { result ≡ next_id vars.now }
 {
     match vars.current_id {
@@ -71,7 +72,7 @@ pub fn next_id(vars: &ServerVariables) -> u8
 }
 
 /// FAILURE, if a method was to be proposed: a Failure with currentId.
-pub fn end_badly(vars: &mut ServerVariables, way: ProposalPath, id: u8, packet: &mut Packet) -> Step
+pub fn end_badly<const N: usize>(vars: &mut ServerVariables<UserList<N>>, way: ProposalPath, id: u8, packet: &mut Packet) -> Step
     ensures step { (views : ServerViews) → ends_badly (before_proposal way) vars.old views id no_tags
         ≡ answer (step_with result packet.new no_tags) (record { vars = vars.new; views = views }) }
     ensures capacity { MayWrap result.sends packet.new }
@@ -86,8 +87,8 @@ pub fn end_badly(vars: &mut ServerVariables, way: ProposalPath, id: u8, packet: 
 /// PROPOSE_METHOD, METHOD_REQUEST and SEND_REQUEST of a method that isn't yet proposed, whose first
 /// Request is `packet`; without one, FAILURE.
 #[tactic(auto, using(crate::proofs::Proposed::proposed_has_capacity, crate::proofs::Proposed::proposed_grows, crate::proofs::Proposed::order_is_kind))]
-pub fn settle_offer(
-    vars: &mut ServerVariables,
+pub fn settle_offer<const N: usize>(
+    vars: &mut ServerVariables<UserList<N>>,
     way: ProposalPath,
     id: u8,
     kind: u8,
@@ -129,7 +130,7 @@ fn proposing(way: ProposalPath) -> Step
 }
 
 /// SEND_REQUEST: a Request with the next Identifier, which is sent again from now on.
-fn send_request(vars: &mut ServerVariables, request: &Packet)
+fn send_request<const N: usize>(vars: &mut ServerVariables<UserList<N>>, request: &Packet)
     ensures { vars.new ≡ with_request vars.old request.now }
 {
     vars.current_id = Some(next_id(vars));
@@ -139,7 +140,7 @@ fn send_request(vars: &mut ServerVariables, request: &Packet)
 
 /// INTEGRITY_CHECK, of the turn of the method's object, whose Request is `packet`: a discard writes
 /// nothing, and after the method's end a Success or a Failure takes the place of what was there.
-pub fn settle(vars: &mut ServerVariables, id: u8, turn: ServerAnswer, packet: &mut Packet) -> Step
+pub fn settle<const N: usize>(vars: &mut ServerVariables<UserList<N>>, id: u8, turn: ServerAnswer, packet: &mut Packet) -> Step
     requires capacity { requests turn ≡ true → HasCapacity packet.old }
     ensures step { (before after : ServerViews) (tags : Tags) → let whole = server_turn_with turn packet.old tags in
         method_answers (record { vars = vars.old; views = before }) id after whole
@@ -179,7 +180,7 @@ pub fn settle(vars: &mut ServerVariables, id: u8, turn: ServerAnswer, packet: &m
 }
 
 /// SUCCESS or FAILURE after the current method: a Success or a Failure with currentId.
-fn end_method(vars: &mut ServerVariables, id: u8, success: bool, packet: &mut Packet) -> Step
+fn end_method<const N: usize>(vars: &mut ServerVariables<UserList<N>>, id: u8, success: bool, packet: &mut Packet) -> Step
     ensures step { (views : ServerViews) (tags : Tags)
         → (if success then ends_well (before_proposal AfterResponse) vars.old views id tags
         else ends_badly (before_proposal AfterResponse) vars.old views id tags)

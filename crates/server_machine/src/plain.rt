@@ -8,12 +8,12 @@ ghost use Rattle.server_machine.specs.Expanded.{server_receives};
 ghost use Rattle.server_machine.specs.ServerTable.{Preserves, answer, now_of, has_timer, is_backend, is_ready, is_started, server_restart, server_start, server_timeout, setup_with_nonce};
 
 use crate::ServerStep;
-use crate::backend::Backend;
-use crate::machine::ServerMachine;
+use crate::backend::SizedBackend;
+use crate::machine::SizedServer;
 use eap_method::{ServerMethod, Tags};
 use octet_lists::{Nonce, Packet};
 
-impl<M: ServerMethod> ServerMachine<M> {
+impl<M: ServerMethod, const N: usize> SizedServer<M, N> {
     /// [`start_step`](ServerMachine::start_step), with the packet in its answer.
     pub fn start(&mut self) -> ServerStep
         requires unstarted { is_started self.old.vars ≡ false }
@@ -61,7 +61,7 @@ impl<M: ServerMethod> ServerMachine<M> {
     }
 }
 
-impl<M: ServerMethod> Backend<M> {
+impl<M: ServerMethod, const N: usize> SizedBackend<M, N> {
     /// [`deliver_step`](Backend::deliver_step), with the packet and the records in its answer.
     pub fn deliver(&mut self, octets: &[u8]) -> ServerStep
         ensures step { server_receives (now_of M.server_shown self.old) octets.now ≡ answer result (now_of M.server_shown self.new) }

@@ -1,7 +1,7 @@
 //! The server's variables.
 
 use eap_packet::State;
-use login_setup::ServerSetup;
+use login_setup::{ServerSetup, Users};
 use octet_lists::{Kinds, Packet};
 
 /// methodState of the server (RFC 4137 section 5.3.1).
@@ -39,9 +39,7 @@ pub enum ProposalPath {
 
 /// The server's variables (RFC 4137 sections 5.3 and 6.3).
 #[derive(Drop)]
-pub struct ServerVariables {
-    /// The server's settings, its policy among them.
-    pub setup: ServerSetup,
+pub struct ServerVariables<U = Users> {
     /// Which server this is.
     pub role: Role,
     /// The Identifier of the first Request of a stand-alone server; a backend goes on from that of the first
@@ -65,4 +63,6 @@ pub struct ServerVariables {
     pub proposed: Kinds,
     /// lastReqData: the Request that was sent last, empty before the first.
     pub last_request: Packet,
+    /// The server's settings, its policy among them.
+    pub setup: ServerSetup<U>,
 }

@@ -23,7 +23,7 @@ use Rattle.server_machine.specs.declared.variables.Progress.{Progress}
 use Rattle.server_machine.specs.declared.variables.Progress.TheVariants as progress
 use Rattle.server_machine.specs.declared.variables.Role.{Role}
 use Rattle.server_machine.specs.declared.variables.Role.TheVariants as role
-use Rattle.server_machine.specs.declared.variables.ServerVariables.{ServerVariables}
+use Rattle.server_machine.specs.Variables.{ServerVariables}
 use Rattle.server_machine.specs.declared.variables.ProposalPath.TheVariants as way
 use Rattle.world_laws.specs.Runs.{initial_server, server_views_started}
 use Rattle.smooth_laws.proofs.Carried.{IsMethod, carried, answers_read, wrapped_plain, wrapped_accepted}

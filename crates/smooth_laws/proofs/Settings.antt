@@ -23,7 +23,7 @@ use Rattle.server_machine.specs.Rows.{Selects, after_identity, after_nak, first_
 use Rattle.server_machine.specs.Rows.{goes_on, drops, starts, resends, times_out, proposes, proposes_without, proposes_none, requests, begins}
 use Rattle.server_machine.specs.Rows.{succeeds, method_fails}
 use Rattle.server_machine.specs.ServerTable.{ServerNow, ServerAnswer, awaits_first, is_backend, server_deliver, server_restart, server_start}
-use Rattle.server_machine.specs.declared.variables.ServerVariables.{ServerVariables}
+use Rattle.server_machine.specs.Variables.{ServerVariables}
 use Rattle.server_machine.proofs.Receiving.{ServerReceiving, as_it_is, bad, wrapping, server_receives_so}
 use Rattle.server_machine.proofs.ServerRows.{server_answers_are_rows}
 use Rattle.pass_through.specs.Inputs.{PassInput}

@@ -22,7 +22,7 @@ use Rattle.server_machine.specs.Inputs as server_inputs
 use Rattle.server_machine.specs.ServerTable as server
 use Rattle.server_machine.specs.ServerTable.{ServerNow, ServerAnswer, ServerValue}
 use Rattle.server_machine.specs.Rows as server_rows
-use Rattle.server_machine.specs.declared.variables.ServerVariables.{ServerVariables}
+use Rattle.server_machine.specs.Variables.{ServerVariables}
 use Rattle.server_machine.proofs.ServerRows.{server_answers_are_rows}
 use Rattle.server_machine.proofs.Receiving as server_deliveries
 use Rattle.server_machine.proofs.Receiving.{server_receives_so}

@@ -14,7 +14,7 @@ use Rattle.peer_machine.specs.PeerTable.{PeerNow, PeerValue, initial_peer}
 use Rattle.server_machine.specs.ServerTable as servers
 use Rattle.server_machine.specs.ServerTable.{ServerNow, ServerValue, initial_vars_of, initial_server, made_again, setup_with_nonce, own_users, with_users}
 use Rattle.server_machine.specs.declared.variables.Role.{Role}
-use Rattle.server_machine.specs.declared.variables.ServerVariables.{ServerVariables}
+use Rattle.server_machine.specs.Variables.{ServerVariables}
 use Rattle.end_objects.specs.Objects.{peer_object_shown, server_object_shown}
 use Rattle.end_objects.specs.Settings.{SettingsValue, kinds_of, server_setup_of, users_of}
 use Rattle.end_objects.specs.declared.objects.PeerObject.{PeerObject}

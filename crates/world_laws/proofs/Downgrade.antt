@@ -28,7 +28,7 @@ use Rattle.server_machine.specs.Inputs.{ServerInput, octets, restart, server_acc
 use Rattle.server_machine.specs.Rows as rows
 use Rattle.server_machine.specs.Rows.{Selects, after_identity, after_nak, first_identity, first_nak, first_other}
 use Rattle.server_machine.specs.ServerTable.{ServerAnswer, ServerNow, awaits_first, is_backend, is_started, next_id, server_restart, server_start}
-use Rattle.server_machine.specs.declared.variables.ServerVariables.{ServerVariables}
+use Rattle.server_machine.specs.Variables.{ServerVariables}
 use Rattle.server_machine.proofs.Receiving.{ServerReceiving, as_it_is, bad, wrapping}
 use Rattle.server_machine.proofs.Proposed.{order_is_kind}
 use Rattle.server_machine.proofs.ServerRows.{server_answers_are_rows}

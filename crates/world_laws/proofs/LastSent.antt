@@ -13,7 +13,7 @@ use Rattle.eap_method.specs.Steps.{is_end}
 use Rattle.peer_machine.specs.Inputs.{PeerInput, peer_accepts}
 use Rattle.server_machine.specs.Inputs.{ServerInput, server_accepts}
 use Rattle.server_machine.specs.ServerTable.{is_started}
-use Rattle.server_machine.specs.declared.variables.ServerVariables.{ServerVariables}
+use Rattle.server_machine.specs.Variables.{ServerVariables}
 use Rattle.pass_through.specs.Inputs.{PassInput, start, restart, pass_accepts}
 use Rattle.pass_through.specs.PassTable as passes
 use Rattle.pass_through.specs.PassTable.{Side, PassAnswer}

@@ -33,7 +33,7 @@ use Rattle.peer_machine.proofs.PeerRows.{peer_answers_are_rows}
 use Rattle.eap_world.specs.Sent.{Sent}
 use Rattle.eap_world.specs.World.{WorldNow, WorldOutcome, to_pass, to_peer, to_server}
 use Rattle.server_machine.specs.Expanded.{accepts_nak, response_octets}
-use Rattle.server_machine.specs.declared.variables.ServerVariables.{ServerVariables}
+use Rattle.server_machine.specs.Variables.{ServerVariables}
 use Rattle.world_laws.specs.Downgrade.{IsRefused, NaksRefuse, asked_kind, asks_for, is_nak}
 use Rattle.world_laws.specs.SingleSteps.{Sends, delivered_in, is_again}
 use Rattle.world_laws.proofs.EndInvariants.{every_run_so_far}

@@ -16,7 +16,7 @@ use Rattle.server_machine.specs.Expanded.{response_octets, accepts_nak, wraps_se
 use Rattle.server_machine.specs.Inputs as inputs
 use Rattle.server_machine.specs.Inputs.{ServerInput, start, restart, server_accepts}
 use Rattle.server_machine.specs.ServerTable.{ServerNow, ServerAnswer, server_deliver, next_id, awaits_first, is_backend, is_started}
-use Rattle.server_machine.specs.declared.variables.ServerVariables.{ServerVariables}
+use Rattle.server_machine.specs.Variables.{ServerVariables}
 use Rattle.server_machine.specs.Rows as rows
 use Rattle.server_machine.specs.Rows.{Selects, after_identity, after_nak, first_identity, first_nak, first_other}
 use Rattle.server_machine.proofs.Receiving.{ServerReceiving, as_it_is, bad, wrapping, server_receives_so}

@@ -19,7 +19,7 @@ use Rattle.method_laws.proofs.GpskServerCases.{gpsk_server_steps_are_rows}
 use Rattle.method_laws.proofs.PskServerCases.{psk_server_steps_are_rows}
 use Rattle.server_machine.specs.Rows.{Proposes}
 use Rattle.server_machine.specs.ServerTable.{ServerNow, next_id}
-use Rattle.server_machine.specs.declared.variables.ServerVariables.{ServerVariables}
+use Rattle.server_machine.specs.Variables.{ServerVariables}
 use Rattle.world_laws.specs.ByMethod.{ServerHasSucceeded, ServerTags, gpsk_current, gpsk_server_succeeded, identity_current, none_current, psk_current, psk_server_succeeded, server_foreign, server_foreign_of}
 use Rattle.world_laws.specs.ServerInvariant.{ServerHasBoth}
 use Rattle.world_laws.proofs.ServerObjects.{both_offered, is_one}

@@ -28,7 +28,7 @@ use Rattle.server_machine.proofs.Receiving.{ServerReceiving, as_it_is, bad, wrap
 use Rattle.server_machine.proofs.ServerRows.{server_answers_are_rows}
 use Rattle.server_machine.specs.declared.variables.Progress.{Progress}
 use Rattle.server_machine.specs.declared.variables.Progress.TheVariants as progress
-use Rattle.server_machine.specs.declared.variables.ServerVariables.{ServerVariables}
+use Rattle.server_machine.specs.Variables.{ServerVariables}
 use Rattle.eap_world.specs.Judgement.{is_success}
 use Rattle.world_laws.specs.ByMethod.{ServerHasSucceeded, ServerTags, identity_current, none_current}
 use Rattle.world_laws.specs.Records.{AreFew, AreNone, untagged}

@@ -16,7 +16,7 @@ use Rattle.server_machine.specs.Inputs.{ServerInput, start, timeout, octets, res
 use Rattle.server_machine.specs.Rows as rows
 use Rattle.server_machine.specs.Rows.{Selects, after_identity, after_nak, first_identity, first_nak, first_other}
 use Rattle.server_machine.specs.ServerTable.{ServerNow, ServerAnswer, is_started, is_backend, awaits_first, next_id, next_id_after, server_restart, server_start}
-use Rattle.server_machine.specs.declared.variables.ServerVariables.{ServerVariables}
+use Rattle.server_machine.specs.Variables.{ServerVariables}
 use Rattle.server_machine.proofs.Receiving.{ServerReceiving, as_it_is, bad, wrapping}
 use Rattle.server_machine.proofs.ServerRows.{server_answers_are_rows}
 use Rattle.world_laws.specs.SingleSteps.{is_again}

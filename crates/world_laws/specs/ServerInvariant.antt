@@ -6,7 +6,7 @@ use Rattle.eap_method.specs.BothServers.{both_of}
 use Rattle.eap_method.specs.Server.{ServerViews, method_of}
 use Rattle.eap_method.specs.declared.tags.TagRecord.{TagRecord}
 use Rattle.server_machine.specs.ServerTable.{ServerNow, is_proposed, is_started}
-use Rattle.server_machine.specs.declared.variables.ServerVariables.{ServerVariables}
+use Rattle.server_machine.specs.Variables.{ServerVariables}
 use Rattle.eap_world.specs.Judgement.{is_success}
 use Rattle.world_laws.specs.ByMethod.{ServerHasSucceeded, ServerTags}
 use Rattle.world_laws.specs.Records.{AreNone}

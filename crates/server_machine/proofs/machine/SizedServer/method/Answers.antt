@@ -1,7 +1,7 @@
 use Rattle.std.proofs.Common.{map}
 use Rattle.server_machine.specs.ServerTable.{ServerValue, now_of}
 use Rattle.server_machine.proofs.Settling.{turn_settles}
-use Rattle.server_machine.proofs.machine.ServerMachine.method.Goals as goal
+use Rattle.server_machine.proofs.machine.SizedServer.method.Goals as goal
 
 pub returns-clause-step : goal.returns-clause-step
 returns-clause-step g c =

@@ -3,7 +3,7 @@ use Rattle.eap_method.specs.Steps.{step_with}
 use Rattle.eap_method.specs.Tags.{no_tags}
 use Rattle.server_machine.specs.ServerTable.{before_proposal}
 use Rattle.server_machine.proofs.Settling.{none_settles, offer_settles}
-use Rattle.server_machine.proofs.machine.ServerMachine.propose.Goals as goal
+use Rattle.server_machine.proofs.machine.SizedServer.propose.Goals as goal
 
 pub returns-in-None-clause-step : goal.returns-in-None-clause-step
 returns-in-None-clause-step g c =

@@ -4,8 +4,8 @@ use Rattle.eap_packet.specs.Packet.{value_with}
 use Rattle.eap_packet.specs.declared.packet.Code.{Code}
 use Rattle.server_machine.specs.ServerTable.{ServerValue, now_of}
 use Rattle.server_machine.proofs.Wrapping.{response_is_read}
-use Rattle.server_machine.proofs.machine.ServerMachine.read_response.Goals as goal
-use Rattle.server_machine.proofs.machine.ServerMachine.read_response.Goals.{then-has_form, else-has_form}
+use Rattle.server_machine.proofs.machine.SizedServer.read_response.Goals as goal
+use Rattle.server_machine.proofs.machine.SizedServer.read_response.Goals.{then-has_form, else-has_form}
 
 pub returns-after-has_form-clause-step : goal.returns-after-has_form-clause-step
 returns-after-has_form-clause-step g c =
