@@ -10,7 +10,7 @@ use Rattle.login_setup.specs.declared.setup.Mode.TheVariants.{Alone}
 use Rattle.login_setup.specs.declared.users.User.{User}
 use Rattle.login_setup.specs.Plain.{plain_server}
 use Rattle.login_setup.specs.Setup.{no_later}
-use Rattle.login_setup.specs.Users.{HasCapacity}
+use Rattle.login_setup.specs.Users.{HasCapacity, max_users}
 use Rattle.bulk_run.specs.Conversation.{login_methods, alice, srv, known_with, setup_at, setup_with, deliveries, chosen, with_event, chances}
 use Rattle.bulk_run.specs.Draws.{octet_at, octets_after}
 use Rattle.bulk_run.specs.Summing.{IsAtMost, events_of, summary_of, plus, counts_of, ended_at, drawn_each, nothing_counted}
@@ -67,9 +67,9 @@ setup_is number place peer server later peer_nonce server_nonce key is_peer is_s
 -- the server's settings are made of what was drawn
 pub server_is : (name methods suites nonce key : List ℕ) (users before : List User) (user : User)
     → name ≡ codes "srv" → methods ≡ login_methods → suites ≡ 1 ∷ 2 ∷ [] → before ≡ [] → user ≡ known_with key
-    → (HasCapacity before user → users ≡ before ++ user ∷ []) → server_of name methods suites users nonce ≡ srv nonce key
+    → (HasCapacity max_users before user → users ≡ before ++ user ∷ []) → server_of name methods suites users nonce ≡ srv nonce key
 server_is name methods suites nonce key users before user is_name are_methods are_suites none is_user added =
-    let room : HasCapacity before user = subst (λ (b : List User). HasCapacity b user) (sym none) (record { few = omega arith; absent = refl }) in
+    let room : HasCapacity max_users before user = subst (λ (b : List User). HasCapacity max_users b user) (sym none) (record { few = omega arith; bounded = omega arith; absent = refl }) in
     let known : users ≡ known_with key ∷ [] = added room ∙ ap (λ (b : List User). b ++ user ∷ []) none ∙ ap (λ (u : User). u ∷ []) is_user in
     ap (λ (n : List ℕ). server_of n methods suites users nonce) is_name ∙ ap (λ (m : List ℕ). server_of (codes "srv") m suites users nonce) are_methods
     ∙ ap (λ (s : List ℕ). server_of (codes "srv") login_methods s users nonce) are_suites

@@ -143,10 +143,7 @@ fn has_server<M: ServerMethod>(methods: &[M], kind: u8) -> bool
     find_server(methods, kind).is_some()
 }
 
-fn start_each<M: ServerMethod, const N: usize>(
-    methods: &mut [M],
-    setup: &ServerSetup<UserList<N>>,
-)
+fn start_each<M: ServerMethod, const N: usize>(methods: &mut [M], setup: &ServerSetup<UserList<N>>)
     requires { IsTrue (are_suites setup.now.suites) }
     ensures { map M.server_shown methods.new ≡ map (server_started_in setup.now) (map M.server_shown methods.old) }
 {

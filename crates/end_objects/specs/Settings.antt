@@ -109,6 +109,10 @@ peer_setup_of told nonce = record {
 abbrev pub user_with : SettingsValue → ℕ → User
 user_with told kind = record { name = told.other; kind = kind; psk = key_for told kind; barred = is_set told.barred }
 
+-- the most users that settings give a server
+abbrev pub max_others : ℕ
+max_others = 2
+
 -- the users of a server: for each method for which there is a key the one user, if there is one
 unfoldable pub users_of : SettingsValue → List User
 users_of told = if is_filled told.other then map (user_with told) (keyed_kinds told) else []

@@ -13,6 +13,6 @@ pub use refusals::{
     Refusal, peer_refusal, retry_refusal, server_refusal, stand_alone_refusal, user_refusal,
 };
 pub use settings::{
-    SETTINGS_SIZE, Settings, add_users, credential, first_kind, key_for, keyed_kinds, kinds_of,
-    peer_setup, server_alone, server_side, suites_of, user_of,
+    MAX_OTHERS, OtherUsers, SETTINGS_SIZE, Settings, add_users, credential, first_kind, key_for,
+    keyed_kinds, kinds_of, peer_setup, server_alone, server_side, suites_of, user_of,
 };

@@ -13,7 +13,7 @@ use eap_method::{
     ServerSide, ServerTurn, Tags,
 };
 use gpsk_ends::{GpskPeer, GpskServer};
-use login_setup::Users;
+use login_setup::{User, Users};
 use octet_lists::{Nonce, Octets, PSK_KIND, Packet};
 use psk_ends::{PskPeer, PskServer};
 
@@ -226,7 +226,7 @@ impl ServerMethod for ServerObject {
     fn handle(&mut self, response: &[u8], next_id: u8, users: &Users) -> ServerTurn {
         let mut packet = Packet::new();
         let mut tags = Tags::new();
-        let answer = self.handle_into(response, next_id, users, &mut packet, &mut tags);
+        let answer = self.handle_into(response, next_id, users.as_slice(), &mut packet, &mut tags);
         answer.with(packet, tags)
     }
 
@@ -241,7 +241,7 @@ impl ServerMethod for ServerObject {
         &mut self,
         response: &[u8],
         next_id: u8,
-        users: &Users,
+        users: &[User],
         packet: &mut Packet,
         tags: &mut Tags,
     ) -> ServerAnswer {
@@ -257,7 +257,7 @@ impl ServerMethod for ServerObject {
         &mut self,
         response: &[u8],
         next_id: u8,
-        users: &Users,
+        users: &[User],
         packet: &mut Packet,
         tags: &mut Tags<NoRecords>,
     ) -> ServerAnswer {

@@ -8,11 +8,17 @@ ghost use Rattle.end_objects.specs.Settings.{settings_of, or_else, numbers_of, k
 ghost use Rattle.end_objects.specs.Refusals.{peer_refusal, server_refusal, IsSoundOther};
 
 use eap_method::{Credential, ServerSide};
-use login_setup::{Accepts, PeerSetup, ServerSetup, User, Users};
+use login_setup::{Accepts, PeerSetup, ServerSetup, User, UserList};
 use octet_lists::{GPSK_KIND, Identity, Kinds, Nonce, Octets, PSK_KIND, Secret, Suites};
 
 /// The octets of [`Settings`] on 64 bits.
 pub const SETTINGS_SIZE: usize = 80;
+
+/// The most users that settings give a server: its other end, once for each of the two methods.
+pub const MAX_OTHERS: usize = 2;
+
+/// The users that settings give a server.
+pub type OtherUsers = UserList<MAX_OTHERS>;
 
 /// The methods that there are: those of an end whose settings name none and have no key.
 const ALL_KINDS: [u8; 2] = [GPSK_KIND, PSK_KIND];
@@ -204,7 +210,7 @@ pub fn user_of(settings: &Settings, kind: u8) -> User
 
 /// Adds the other end as a user of each method for which there is a key, if there are no users.
 #[tactic(auto, unfolding(crate::specs::Settings::keyed_kinds))]
-fn add_keyed(users: &mut Users, settings: &Settings)
+fn add_keyed(users: &mut OtherUsers, settings: &Settings)
     requires none { users.old ≡ [] }
     requires other { IsSoundOther (settings_of settings.now) }
     ensures { users.new ≡ map (user_with (settings_of settings.now)) (keyed_kinds (settings_of settings.now)) }
@@ -226,7 +232,7 @@ fn add_keyed(users: &mut Users, settings: &Settings)
 
 /// Adds the users that the settings give, if there are none.
 #[tactic(auto, unfolding(crate::specs::Settings::users_of))]
-fn add_other(users: &mut Users, settings: &Settings)
+fn add_other(users: &mut OtherUsers, settings: &Settings)
     requires none { users.old ≡ [] }
     requires other { IsSoundOther (settings_of settings.now) }
     ensures { users.new ≡ users_of (settings_of settings.now) }
@@ -240,7 +246,7 @@ fn add_other(users: &mut Users, settings: &Settings)
 /// Adds the users of a server to none: the other end, once for each method for which there is a key, that of EAP-GPSK
 /// first; none if the settings name no other end.
 #[tactic(auto, using(crate::proofs::Taken::users_have_kinds, crate::proofs::Taken::users_have_keys))]
-pub fn add_users(users: &mut Users, settings: &Settings)
+pub fn add_users(users: &mut OtherUsers, settings: &Settings)
     requires none { users.old ≡ [] }
     requires other { IsSoundOther (settings_of settings.now) }
     ensures computed { users.new ≡ users_of (settings_of settings.now) }
@@ -252,7 +258,7 @@ pub fn add_users(users: &mut Users, settings: &Settings)
 
 /// The settings of a server, but for its users: none.
 #[inline(always)]
-pub fn server_alone(settings: &Settings, nonce: &Nonce) -> ServerSetup
+pub fn server_alone(settings: &Settings, nonce: &Nonce) -> ServerSetup<OtherUsers>
     requires accepted { server_refusal (settings_of settings.now) ≡ None }
     ensures computed { result ≡ record (server_setup_of (settings_of settings.now) nonce.now) { users = [] } }
     ensures sound { IsSoundServer result }
@@ -261,7 +267,7 @@ pub fn server_alone(settings: &Settings, nonce: &Nonce) -> ServerSetup
         name: Identity::of(settings.name),
         methods: kinds_of(settings),
         suites: suites_of(settings),
-        users: Users::new(),
+        users: UserList::new(),
         nonce: *nonce,
         expanded: settings.expanded != 0,
     }

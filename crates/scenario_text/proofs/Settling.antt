@@ -5,7 +5,7 @@ use Rattle.std.proofs.lemmas.Bool.{cond_both, leb-false, lt-leb, lt-ltb, ltb-tru
 use Rattle.std.proofs.lemmas.List.{get_or_append_left}
 use Rattle.std.proofs.Math.Seq.{get_or-append_seam}
 use Rattle.login_setup.specs.Setup.{no_later, has_keys}
-use Rattle.login_setup.specs.Users.{user_of, is_named, HasCapacity, AreDistinct}
+use Rattle.login_setup.specs.Users.{user_of, is_named, HasCapacity, AreDistinct, max_users}
 use Rattle.login_setup.specs.declared.users.User.{User}
 use Rattle.login_setup.specs.declared.setup.Later.{Later}
 use Rattle.login_setup.specs.declared.setup.PeerSetup.{PeerSetup}
@@ -113,13 +113,13 @@ fresh : {A : Type 0} (slot : Option A) (a : A) (xs : List A) → is_some slot �
 fresh None a xs e = refl
 fresh (Some b) a xs e = absurd cc
 
-room : (users : List User) (user : User) → nat_le 16 (length users) ≡ false → is_some (user_of users user.name user.kind) ≡ false → HasCapacity users user
-room users user f n = record { few = leb-false 16 (length users) f; absent = empty (user_of users user.name user.kind) n }
+room : (users : List User) (user : User) → nat_le 16 (length users) ≡ false → is_some (user_of users user.name user.kind) ≡ false → HasCapacity max_users users user
+room users user f n = record { few = leb-false 16 (length users) f; bounded = leb-false 16 (length users) f; absent = empty (user_of users user.name user.kind) n }
 
-pushed : (users : List User) (user : User) → HasCapacity users user → users ++ user ∷ [] ≡ with_user users user
+pushed : (users : List User) (user : User) → HasCapacity max_users users user → users ++ user ∷ [] ≡ with_user users user
 pushed users user h = with_user_is users (users ++ user ∷ []) user (λ k. refl) (λ no. absurd (no h))
 
-added : (users : List User) (user : User) (rest : List User) → HasCapacity users user → users ++ user ∷ rest ≡ with_user users user ++ rest
+added : (users : List User) (user : User) (rest : List User) → HasCapacity max_users users user → users ++ user ∷ rest ≡ with_user users user ++ rest
 added users user rest h = sym (append_assoc users (user ∷ []) rest) ∙ ap (λ l. l ++ rest) (pushed users user h)
 
 -- so does a nonce for which there is room

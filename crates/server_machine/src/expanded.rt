@@ -29,7 +29,11 @@ pub fn awaits_first<const N: usize>(vars: &ServerVariables<UserList<N>>) -> bool
 /// Writes what a Response is handled as, in place of what `packet` had, and answers true: an Expanded Nak that
 /// is accepted as the Nak that it says, any other of Vendor-Id 0 in its plain form. Of any other Response it is
 /// the octets that came; the answer is then false, and what `packet` then has is unspecified.
-pub fn write_if_accepted<const N: usize>(vars: &ServerVariables<UserList<N>>, view: &PacketView, packet: &mut Packet) -> bool
+pub fn write_if_accepted<const N: usize>(
+    vars: &ServerVariables<UserList<N>>,
+    view: &PacketView,
+    packet: &mut Packet,
+) -> bool
     requires response { view.now.code ≡ Code.Response }
     requires bounded { length view.now.body.now ≤ max_type_data }
     ensures { (octets : List ℕ) → response_octets vars.now octets view.now.id view.now.kind view.now.body.now
@@ -83,7 +87,11 @@ fn write_nak(packet: &mut Packet, id: u8, list: &[u8])
 /// Wraps a Request that is sent, in place, and stores it so for the timer. A Success and a Failure stay as they
 /// are. It isn't inlined, so that the copy of the packet isn't on the stack in a method's turn.
 #[inline(never)]
-pub fn wrap_sent<const N: usize>(vars: &mut ServerVariables<UserList<N>>, sends: bool, packet: &mut Packet)
+pub fn wrap_sent<const N: usize>(
+    vars: &mut ServerVariables<UserList<N>>,
+    sends: bool,
+    packet: &mut Packet,
+)
     requires capacity { MayWrap sends packet.old }
     ensures step { (step : brief.Step) (tags : records.Tags) (views : ServerViews) → step.sends ≡ sends
         → wraps (answer (step_with step packet.old tags) (record { vars = vars.old; views = views }))

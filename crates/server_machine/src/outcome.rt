@@ -72,7 +72,12 @@ pub fn next_id<const N: usize>(vars: &ServerVariables<UserList<N>>) -> u8
 }
 
 /// FAILURE, if a method was to be proposed: a Failure with currentId.
-pub fn end_badly<const N: usize>(vars: &mut ServerVariables<UserList<N>>, way: ProposalPath, id: u8, packet: &mut Packet) -> Step
+pub fn end_badly<const N: usize>(
+    vars: &mut ServerVariables<UserList<N>>,
+    way: ProposalPath,
+    id: u8,
+    packet: &mut Packet,
+) -> Step
     ensures step { (views : ServerViews) → ends_badly (before_proposal way) vars.old views id no_tags
         ≡ answer (step_with result packet.new no_tags) (record { vars = vars.new; views = views }) }
     ensures capacity { MayWrap result.sends packet.new }
@@ -140,7 +145,12 @@ fn send_request<const N: usize>(vars: &mut ServerVariables<UserList<N>>, request
 
 /// INTEGRITY_CHECK, of the turn of the method's object, whose Request is `packet`: a discard writes
 /// nothing, and after the method's end a Success or a Failure takes the place of what was there.
-pub fn settle<const N: usize>(vars: &mut ServerVariables<UserList<N>>, id: u8, turn: ServerAnswer, packet: &mut Packet) -> Step
+pub fn settle<const N: usize>(
+    vars: &mut ServerVariables<UserList<N>>,
+    id: u8,
+    turn: ServerAnswer,
+    packet: &mut Packet,
+) -> Step
     requires capacity { requests turn ≡ true → HasCapacity packet.old }
     ensures step { (before after : ServerViews) (tags : Tags) → let whole = server_turn_with turn packet.old tags in
         method_answers (record { vars = vars.old; views = before }) id after whole
@@ -180,7 +190,12 @@ pub fn settle<const N: usize>(vars: &mut ServerVariables<UserList<N>>, id: u8, t
 }
 
 /// SUCCESS or FAILURE after the current method: a Success or a Failure with currentId.
-fn end_method<const N: usize>(vars: &mut ServerVariables<UserList<N>>, id: u8, success: bool, packet: &mut Packet) -> Step
+fn end_method<const N: usize>(
+    vars: &mut ServerVariables<UserList<N>>,
+    id: u8,
+    success: bool,
+    packet: &mut Packet,
+) -> Step
     ensures step { (views : ServerViews) (tags : Tags)
         → (if success then ends_well (before_proposal AfterResponse) vars.old views id tags
         else ends_badly (before_proposal AfterResponse) vars.old views id tags)

@@ -10,10 +10,9 @@ ghost use Rattle.tuvaddri_c.specs.Gpsk.{gpsk_name, known_code, repeated_code, ke
 use crate::session::End;
 use crate::session_id::SessionId;
 use eap_method::Report;
-use end_objects::Nonces;
+use end_objects::{Nonces, OtherUsers};
 use gpsk_messages::{GpskMessage, read_gpsk_message};
 use login_keys::gkdf;
-use login_setup::Users;
 use octet_lists::{GPSK_KIND, Secret, Suite};
 
 /// ID_Peer of GPSK-2.
@@ -56,7 +55,7 @@ pub fn repeated_code(body: &[u8]) -> u8
 }
 
 /// The key of the user of this name.
-fn key_in(users: &Users, name: &[u8]) -> Option<Secret>
+fn key_in(users: &OtherUsers, name: &[u8]) -> Option<Secret>
     ensures { result ≡ key_in users.now name.now }
 {
     users.find(name, GPSK_KIND).map(|user| user.psk.copy())

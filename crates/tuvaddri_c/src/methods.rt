@@ -24,7 +24,7 @@ use end_objects::{
     PeerObject, ServerObject, Settings, credential, first_kind, peer_object, peer_refusal,
     server_object, server_refusal, server_side,
 };
-use login_setup::Users;
+use login_setup::UserList;
 use octet_lists::{Nonce, Packet, Secret};
 
 /// Makes the end this peer's method. (By itself, since the compiler then builds it where it stays.)
@@ -112,7 +112,7 @@ fn store_server(end: &mut End, object: ServerObject, settings: &Settings)
     requires { IsSoundOther (settings_of settings.now) }
     ensures { AsServerMethod end.new (λ n known. (n ≡ object) × (known.users ≡ users_of (settings_of settings.now))) }
 {
-    let users = Users::new();
+    let users = UserList::new();
     *end = End::ServerMethod(object, CheckedUsers { users });
     match end {
         End::ServerMethod(_, known) => put(known, settings),
@@ -194,7 +194,7 @@ pub extern "C" fn tuv_server_method_handle(
                 let turn = object.handle_unrecorded(
                     whole,
                     next_id,
-                    &known.users,
+                    known.users.as_slice(),
                     &mut packet,
                     &mut tags,
                 );

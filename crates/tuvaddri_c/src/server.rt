@@ -20,14 +20,14 @@ ghost use Rattle.tuvaddri_c.specs.Turns.{ServerDoes, IsMisplaced};
 use crate::answers::{NO_MEMORY, STARTED, number_of_refusal};
 use crate::by_method::add_users;
 use crate::handle::TuvEnd;
-use crate::session::End;
+use crate::session::{Backend, End, Server};
 use crate::turn::TuvTurn;
 use end_objects::{
     ServerObject, Settings, kinds_of, server_alone, server_objects, server_refusal,
     stand_alone_refusal,
 };
 use octet_lists::{Nonce, Packet};
-use server_machine::{Backend, Role, ServerMachine};
+use server_machine::Role;
 use std::alloc::Global;
 
 /// Makes the end a stand-alone server with these settings. (It is built where it stays, and nothing of it is copied.)
@@ -51,7 +51,7 @@ fn store_machine(
     ensures settled { is_settled end.new ≡ true }
 {
     let role = Role::StandAlone;
-    *end = End::Server(ServerMachine::unbegun(
+    *end = End::Server(Server::unbegun(
         role,
         server_alone(settings, nonce),
         first_id,

@@ -3,12 +3,17 @@
 ghost use Rattle.std.specs.Prelude.{All, IsTrue};
 ghost use Rattle.login_setup.specs.Setup.{is_valid_for};
 
-use end_objects::{PeerObject, ServerObject};
-use login_setup::Users;
+use end_objects::{MAX_OTHERS, OtherUsers, PeerObject, ServerObject};
 use octet_lists::{Packet, Secret};
 use pass_through::PassThrough;
 use peer_machine::PeerMachine;
-use server_machine::{Backend, ServerMachine};
+use server_machine::{SizedBackend, SizedServer};
+
+/// A stand-alone server with room for the users that settings give.
+pub type Server = SizedServer<ServerObject, MAX_OTHERS>;
+
+/// A backend with room for the users that settings give.
+pub type Backend = SizedBackend<ServerObject, MAX_OTHERS>;
 
 /// Which end a session is.
 #[derive(Drop)]
@@ -22,9 +27,9 @@ pub enum End {
     /// A peer.
     Peer(PeerMachine<PeerObject>),
     /// A stand-alone server.
-    Server(ServerMachine<ServerObject>),
+    Server(Server),
     /// A backend behind a pass-through.
-    Backend(Backend<ServerObject>),
+    Backend(Backend),
     /// A pass-through.
     Pass(PassThrough),
 }
@@ -57,7 +62,7 @@ impl End {
 /// Users whose keys fit their methods.
 #[derive(Drop)]
 pub struct CheckedUsers {
-    pub users: Users,
+    pub users: OtherUsers,
     pub ghost fit: { All (λ user. IsTrue (is_valid_for user.kind user.psk)) users },
 }
 

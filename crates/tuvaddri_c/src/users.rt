@@ -6,7 +6,7 @@ ghost use Rattle.login_setup.specs.Setup.{is_valid_for};
 ghost use Rattle.login_setup.specs.Users.{HasCapacity};
 ghost use Rattle.server_machine.specs.ServerTable.{with_users};
 ghost use Rattle.end_objects.specs.Refusals.{IsSoundOther, user_refusal};
-ghost use Rattle.end_objects.specs.Settings.{settings_of, users_of};
+ghost use Rattle.end_objects.specs.Settings.{max_others, settings_of, users_of};
 ghost use Rattle.tuvaddri_c.specs.Answers.{begun, no_place, refusal_number};
 ghost use Rattle.tuvaddri_c.specs.Ends.{IfServer, AsServer, IfBackend, AsBackend, can_restart};
 ghost use Rattle.tuvaddri_c.specs.Methods.{IfServerMethod, is_server_method};
@@ -16,12 +16,11 @@ ghost use Rattle.tuvaddri_c.specs.Users.{has_users, AcceptsUser};
 use crate::answers::{BAD_KEY, NO_PLACE, STARTED, number_of_refusal};
 use crate::by_method::add_users;
 use crate::handle::TuvEnd;
-use crate::session::{CheckedUsers, End};
+use crate::session::{Backend, CheckedUsers, End, Server};
 use eap_method::ServerMethod;
 use end_objects::{ServerObject, Settings, keyed_kinds, user_refusal};
-use login_setup::{User, Users};
+use login_setup::{User, UserList};
 use octet_lists::is_among;
-use server_machine::{Backend, ServerMachine};
 
 /// A machine that has users: a stand-alone server or a backend.
 pub trait HasUsers {
@@ -33,7 +32,7 @@ pub trait HasUsers {
 
     /// It knows this user too.
     fn add(&mut self, user: User)
-        requires capacity { HasCapacity (seen self.old).vars.setup.users user }
+        requires capacity { HasCapacity max_others (seen self.old).vars.setup.users user }
         requires kind { is_kind user.kind ≡ true }
         requires key { is_valid_for user.kind user.psk ≡ true }
         ensures { seen self.new ≡ with_users (seen self.old) ((seen self.old).vars.setup.users ++ user ∷ []) };
@@ -43,7 +42,7 @@ pub trait HasUsers {
         ensures { seen self.new ≡ with_users (seen self.old) [] };
 }
 
-impl HasUsers for ServerMachine<ServerObject> {
+impl HasUsers for Server {
     ghost seen = { λ m. m };
 
     #[inline(always)]
@@ -52,11 +51,11 @@ impl HasUsers for ServerMachine<ServerObject> {
     }
 
     fn clear(&mut self) {
-        self.set_users(Users::new())
+        self.set_users(UserList::new())
     }
 }
 
-impl HasUsers for Backend<ServerObject> {
+impl HasUsers for Backend {
     ghost seen = { λ m. m };
 
     #[inline(always)]
@@ -65,11 +64,11 @@ impl HasUsers for Backend<ServerObject> {
     }
 
     fn clear(&mut self) {
-        self.set_users(Users::new())
+        self.set_users(UserList::new())
     }
 }
 
-/// The user of the settings takes the place of those before. (They are added where they stay: a list of them is 5 KB.)
+/// The user of the settings takes the place of those before. (They are added where they stay.)
 fn change_users<M: HasUsers>(machine: &mut M, settings: &Settings)
     requires { IsSoundOther (settings_of settings.now) }
     ensures { M.seen machine.new ≡ with_users (M.seen machine.old) (users_of (settings_of settings.now)) }
@@ -115,7 +114,7 @@ pub fn put(known: &mut CheckedUsers, settings: &Settings)
     requires { IsSoundOther (settings_of settings.now) }
     ensures { known.new.users ≡ users_of (settings_of settings.now) }
 {
-    known.users = Users::new();
+    known.users = UserList::new();
     end_objects::add_users(&mut known.users, settings);
 }
 

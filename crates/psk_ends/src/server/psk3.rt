@@ -97,7 +97,11 @@ fn check<'a>(own: &Initial, psk2: &Psk2<'a>, user: &'a User) -> Result<Option<Us
 }
 
 /// A PSK-2 with the server's RAND_S; None if there is no user of its name.
-fn find<'a>(own: &Initial, psk2: &Psk2<'a>, users: &'a [User]) -> Result<Option<UserPsk2<'a>>, Cause>
+fn find<'a>(
+    own: &Initial,
+    psk2: &Psk2<'a>,
+    users: &'a [User],
+) -> Result<Option<UserPsk2<'a>>, Cause>
     requires name { length psk2.now.id_p.now ≤ max_name }
     requires keys { All (λ user. IsTrue (is_valid_for user.kind user.psk)) users.now }
     ensures { (next_id : ℕ) → asked_with own.now next_id result
