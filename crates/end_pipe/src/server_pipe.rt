@@ -2,7 +2,7 @@
 
 ghost use Rattle.std.specs.Prelude.{◌≡◌, ◌≤◌, [], ℕ, map, true, false};
 ghost use Rattle.login_setup.specs.Setup.{IsSoundServer};
-ghost use Rattle.login_setup.specs.Setup.{ServerSetup};
+ghost use Rattle.login_setup.specs.Setup as settings;
 ghost use Rattle.eap_method.specs.Peer.{have_each};
 ghost use Rattle.eap_method.specs.Server.{server_kinds, server_views, ServerViews};
 ghost use Rattle.server_machine.specs.ServerTable.{is_started};
@@ -63,7 +63,7 @@ impl<M: ServerMethod> ServerPipe<M> {
         ensures start { server_starts (server_end M.server_shown self.old)
             ≡ outcome (result_with result packet.new tags.new) (server_end M.server_shown self.new) }
         ensures started { is_started self.new.machine.vars ≡ true }
-        ensures state { (setup : ServerSetup) (views : ServerViews) (first_id max_retrans : ℕ)
+        ensures state { (setup : settings.ServerSetup) (views : ServerViews) (first_id max_retrans : ℕ)
             → server_end M.server_shown self.old ≡ server_unstarted setup views first_id max_retrans
             → IsServerAfter setup views first_id max_retrans [] (server_end M.server_shown self.new) }
     {
@@ -75,7 +75,7 @@ impl<M: ServerMethod> ServerPipe<M> {
         requires { is_started self.old.machine.vars ≡ false }
         ensures start { server_starts (server_end M.server_shown self.old) ≡ outcome result (server_end M.server_shown self.new) }
         ensures started { is_started self.new.machine.vars ≡ true }
-        ensures state { (setup : ServerSetup) (views : ServerViews) (first_id max_retrans : ℕ)
+        ensures state { (setup : settings.ServerSetup) (views : ServerViews) (first_id max_retrans : ℕ)
             → server_end M.server_shown self.old ≡ server_unstarted setup views first_id max_retrans
             → IsServerAfter setup views first_id max_retrans [] (server_end M.server_shown self.new) }
     {
