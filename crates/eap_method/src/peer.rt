@@ -20,7 +20,7 @@ pub trait PeerMethod: Drop {
     /// The method, and its state.
     ghost peer_shown: { Self → PeerShown };
 
-    /// Required. The Type of the method, 47 or 51, the same for the object's whole life.
+    /// Required. The Type of the method, the same for the object's whole life.
     fn kind(&self) -> u8
         ensures { result ≡ peer_kind (peer_shown self.now) };
 

@@ -22,7 +22,7 @@ pub trait ServerMethod: Drop {
     /// The method, and its state.
     ghost server_shown: { Self → ServerShown };
 
-    /// Required. The Type of the method, 47 or 51, the same for the object's whole life.
+    /// Required. The Type of the method, the same for the object's whole life.
     fn kind(&self) -> u8
         ensures { result ≡ server_kind (server_shown self.now) };
 
