@@ -30,8 +30,10 @@ fn fill(octets: &[u8]) -> [u8; BLOCK_LEN]
     block
 }
 
-/// The key as one block (RFC 2104, sections 2 and 3): a key that is longer than a block is hashed.
+/// The key as one block (RFC 2104, sections 2 and 3): a key that is longer than a block is hashed. It is never inlined, so that
+/// no hash of a key lies above those that begin with the block.
 #[tactic(auto, unfolding(crate::specs::Hmac::block_key_of))]
+#[inline(never)]
 fn key_block(key: &[u8]) -> [u8; BLOCK_LEN]
     ensures { result ≡ block_key key.now }
 {
