@@ -10,6 +10,8 @@ pub mod Lists
 pub mod PeerKeys
 -- The first object of a method in a peer's list of objects decides what the views of the list do.
 pub mod PeerObjects
+-- The one server name that a peer accepts is its server's.
+pub mod PeerSides
 -- The views of a peer by method: each is put and found by its Type, and decides the turn and the report.
 pub mod PeerViews
 -- A discard leaves the view of EAP-PSK as it is.

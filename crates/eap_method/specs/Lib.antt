@@ -5,6 +5,7 @@ pub mod GpskServer
 pub mod GpskTags
 pub mod Outcomes
 pub mod Peer
+pub mod PeerSide
 pub mod PeerTurn
 pub mod Plain
 pub mod PskPeer

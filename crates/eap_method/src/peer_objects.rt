@@ -112,6 +112,8 @@ fn start_each<M: PeerMethod>(methods: &mut [M], setup: &PeerSetup)
     }
 }
 
+/// Begins one object. It is never inlined, nor is what makes its credential, so that these lie in no frame of a caller.
+#[inline(never)]
 fn start_one<M: PeerMethod>(method: &mut M, setup: &PeerSetup)
     requires sound { IsSoundPeer setup.now }
     requires keys { HasKeys setup.now }
@@ -124,6 +126,7 @@ fn start_one<M: PeerMethod>(method: &mut M, setup: &PeerSetup)
 }
 
 #[tactic(auto, unfolding(crate::specs::Peer::credential_for))]
+#[inline(never)]
 fn credential_for(setup: &PeerSetup, kind: u8) -> Credential
     ensures { result ≡ credential_for setup.now kind }
 {
