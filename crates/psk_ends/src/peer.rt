@@ -9,8 +9,7 @@ mod stage;
 mod turns;
 
 use crate::nonces::Nonces;
-use crate::peer::login::Initial;
-use crate::peer::stage::{Phase, Stage};
+use crate::peer::stage::{Phase, Progress, Stage};
 use crate::peer::turns::handle_request;
 use eap_method::{Credential, NoRecords, PeerAnswer, PeerMethod, PeerTurn, Records, Report, Tags};
 use octet_lists::{Nonce, PSK_KIND, Packet};
@@ -27,9 +26,7 @@ impl Model for PskPeer {
 
     ghost Value = { View };
 
-    ghost use Rattle.psk_ends.specs.PeerStage.{view_of};
-
-    ghost view = { λ p. view_of p.stage };
+    ghost view = { λ p. p.stage };
 }
 
 impl PskPeer {
@@ -41,7 +38,7 @@ impl PskPeer {
         ensures { result ≡ unset }
     {
         PskPeer {
-            stage: Stage::Unset,
+            stage: Stage::new(),
         }
     }
 
@@ -49,13 +46,7 @@ impl PskPeer {
     pub fn nonces(&self) -> Option<Nonces>
         ensures { result ≡ peer_nonces self.now }
     {
-        match &self.stage {
-            Stage::Known {
-                login,
-                phase: Phase::Over { good: true },
-            } => Some(login.nonces()),
-            _ => None,
-        }
+        Some(self.stage.successful()?.nonces())
     }
 
     /// Whether the login has failed: PSK-3 carried DONE_FAILURE (RFC 4764 section 5.3).
@@ -63,8 +54,8 @@ impl PskPeer {
         ensures { result ≡ peer_has_failed self.now }
     {
         matches!(
-            &self.stage,
-            Stage::Known {
+            &self.stage.progress,
+            Progress::Known {
                 phase: Phase::Over { good: false },
                 ..
             }
@@ -114,12 +105,7 @@ impl PeerMethod for PskPeer {
     }
 
     fn begin(&mut self, cred: &Credential, nonce: &Nonce) {
-        self.stage = Stage::Fresh {
-            own: Initial {
-                cred: cred.copy(),
-                nonce: *nonce,
-            },
-        };
+        self.stage.start(cred, nonce);
     }
 
     fn handle(&mut self, request: &[u8]) -> PeerTurn {
@@ -144,13 +130,6 @@ impl PeerMethod for PskPeer {
 
     #[tactic(auto, unfolding(eap_method::specs::Peer::peer_report))]
     fn report(&self) -> Option<Report> {
-        let Stage::Known {
-            login,
-            phase: Phase::Over { good: true },
-        } = &self.stage
-        else {
-            return None;
-        };
-        Some(login.report())
+        Some(self.stage.successful()?.report())
     }
 }

@@ -1,27 +1,17 @@
 //! What a peer keeps of a login.
 
-ghost use Rattle.std.specs.Prelude.{◌≡◌, ◌≤◌, ◌<◌, [], ◌∷◌, ◌++◌, length};
-ghost use Rattle.octet_lists.specs.Sizes.{max_name};
+ghost use Rattle.std.specs.Prelude.{◌≡◌, ◌<◌, [], ◌∷◌, ◌++◌, length};
 
 use crate::keys::long_keys;
 use crate::nonces::Nonces;
 use crate::octets::rand_of;
+use crate::peer::stage::Added;
 use crate::records::{add_mac_p, add_mac_s};
 use cmac_mac::CmacKey;
-use eap_method::{Credential, Records, Report, TagList, mac_p, mac_s};
+use eap_method::{PeerSide, Records, Report, TagList, mac_p, mac_s};
 use login_keys::{PskKeys, PskLong, psk_session};
-use octet_lists::{Identity, Nonce, Octets, PSK_KIND, Secret};
-use psk_messages::Psk1;
+use octet_lists::{Identity, Nonce, PSK_KIND, Secret};
 use std::marker::Model;
-
-/// What a peer brings into a login.
-#[derive(Drop)]
-pub struct Initial {
-    pub cred: Credential,
-    /// Its first 16 octets are RAND_P.
-    pub nonce: Nonce,
-    ghost sixteen: { length cred.psk ≡ 16 },
-}
 
 /// The keys of a login, which are derived once.
 #[derive(Drop)]
@@ -34,28 +24,18 @@ pub struct Keys {
     pub tek: CmacKey,
 }
 
-impl Initial {
+impl Keys {
     ghost use Rattle.psk_ends.specs.PeerKeys.{AreKeysOf};
 
-    /// An equal value.
-    pub fn copy(&self) -> Initial
-        ensures cred { result.cred ≡ self.now.cred }
-        ensures nonce { result.nonce ≡ self.now.nonce }
-    {
-        Initial {
-            cred: self.cred.copy(),
-            nonce: self.nonce,
-        }
-    }
-
-    /// The keys of the login: they are derived here alone (RFC 4764 section 3.2). It is never inlined, so that they are not
-    /// derived above the octets of the login on the stack.
+    /// Those of this shared key and this nonce: they are derived here alone (RFC 4764 section 3.2). It is never inlined, so that
+    /// they are not derived above the octets of the login on the stack.
     #[inline(never)]
-    pub fn keys(&self) -> Keys
-        ensures { AreKeysOf self.now.cred.psk self.now.nonce result }
+    pub fn of(psk: &Secret, nonce: &Nonce) -> Keys
+        requires { length psk.now ≡ 16 }
+        ensures { AreKeysOf psk.now nonce.now result }
     {
-        let PskLong { ak, kdk } = long_keys(&self.cred.psk);
-        let keys = psk_session(&kdk, &rand_of(&self.nonce));
+        let PskLong { ak, kdk } = long_keys(psk);
+        let keys = psk_session(&kdk, &rand_of(nonce));
         Keys {
             ak: CmacKey::new(&ak),
             tek: CmacKey::new(&keys.tek),
@@ -64,62 +44,45 @@ impl Initial {
     }
 }
 
-/// A login after PSK-1, with its keys, which are derived once. Contracts see what they come from.
+/// A login after PSK-1, in the parts of the peer's state. Contracts see what its keys come from.
 #[derive(Drop)]
-pub struct Login {
-    own: Initial,
-    /// ID_S.
-    id_s: Identity,
-    /// RAND_S.
-    rand_s: [u8; 16],
-    keys: Keys,
+pub struct Login<'a> {
+    pub(crate) side: &'a PeerSide,
+    /// Its first 16 octets are RAND_P.
+    pub(crate) nonce: &'a Nonce,
+    pub(crate) added: &'a Added,
 }
 
-impl Model for Login {
+impl<'a> Model for Login<'a> {
     ghost use Rattle.std.specs.Prelude.{◌≡◌, length};
     ghost use Rattle.eap_method.specs.PskPeer as peer;
     ghost use Rattle.psk_ends.specs.PeerKeys.{AreKeysOf};
+    ghost use Rattle.psk_ends.specs.PeerStage.{login_of};
 
     ghost Value = { peer.Login };
 
-    ghost view = { λ l. record { cred = l.own.cred; nonce = l.own.nonce; id_s = l.id_s; rand_s = l.rand_s } };
+    ghost view = { λ l. login_of l.side.now l.nonce.now l.added.now.rand_s };
 
-    ghost invariant = { λ l. AreKeysOf l.own.cred.psk l.own.nonce l.keys × (length l.rand_s ≡ 16) };
+    ghost invariant = { λ l. AreKeysOf l.side.now.cred.psk l.nonce.now l.added.now.keys × (length l.added.now.rand_s ≡ 16) };
 }
 
-impl Login {
+impl Login<'_> {
     ghost use Rattle.eap_method.specs.PskTags.{ak_record};
     ghost use Rattle.eap_method.specs.PskPeer.{rand_p_of, ak_of, keys_of, mac_p_covers, mac_p_of, mac_s_covers, mac_s_of, report_of};
     ghost use Rattle.psk_ends.specs.Nonces.{peer_nonces_of};
-    ghost use Rattle.psk_ends.specs.PeerKeys.{AreKeysOf};
-    ghost use Rattle.psk_ends.specs.PeerStage.{login_with};
-
-    /// The login of a peer that has accepted PSK-1.
-    pub fn new(own: Initial, psk1: &Psk1, keys: Keys) -> Login
-        requires name { length psk1.now.id_s.now ≤ max_name }
-        requires keys { AreKeysOf own.cred.psk own.nonce keys }
-        ensures { result ≡ login_with own psk1.now }
-    {
-        Login {
-            own,
-            id_s: Octets::of(psk1.id_s),
-            rand_s: psk1.rand_s,
-            keys,
-        }
-    }
 
     /// ID_P.
     pub fn id_p(&self) -> &Identity
         ensures { result.now ≡ self.now.cred.id_p }
     {
-        &self.own.cred.id_p
+        self.side.id_p()
     }
 
     /// The shared key.
     pub fn psk(&self) -> &Secret
         ensures { result.now ≡ self.now.cred.psk }
     {
-        &self.own.cred.psk
+        self.side.psk()
     }
 
     /// RAND_S.
@@ -127,14 +90,14 @@ impl Login {
         ensures same { result.now ≡ self.now.rand_s }
         ensures size { length result.now ≡ 16 }
     {
-        &self.rand_s
+        &self.added.rand_s
     }
 
     /// RAND_P.
     pub fn rand_p(&self) -> [u8; 16]
         ensures { result ≡ rand_p_of self.now }
     {
-        rand_of(&self.own.nonce)
+        rand_of(self.nonce)
     }
 
     /// TEK (RFC 4764 section 3.2).
@@ -142,7 +105,7 @@ impl Login {
     pub fn tek(&self) -> &CmacKey
         ensures { result.now ≡ (keys_of self.now).tek }
     {
-        &self.keys.tek
+        &self.added.keys.tek
     }
 
     /// MAC_P (RFC 4764 section 5.2).
@@ -152,10 +115,10 @@ impl Login {
     {
         let rand_p = self.rand_p();
         mac_p(
-            &self.keys.ak,
-            self.own.cred.id_p.as_slice(),
-            self.id_s.as_slice(),
-            &self.rand_s,
+            &self.added.keys.ak,
+            self.id_p().as_slice(),
+            self.side.id_s().as_slice(),
+            &self.added.rand_s,
             &rand_p,
         )
     }
@@ -165,7 +128,11 @@ impl Login {
     pub fn mac_s(&self) -> [u8; 16]
         ensures { result ≡ mac_s_of self.now }
     {
-        mac_s(&self.keys.ak, self.id_s.as_slice(), &self.rand_p())
+        mac_s(
+            &self.added.keys.ak,
+            self.side.id_s().as_slice(),
+            &self.rand_p(),
+        )
     }
 
     /// Adds the record of this MAC_P.
@@ -178,9 +145,9 @@ impl Login {
         add_mac_p(
             made,
             self.psk(),
-            self.own.cred.id_p.as_slice(),
-            self.id_s.as_slice(),
-            &self.rand_s,
+            self.id_p().as_slice(),
+            self.side.id_s().as_slice(),
+            &self.added.rand_s,
             &rand_p,
             mac,
         );
@@ -193,7 +160,13 @@ impl Login {
         ensures { accepted.new ≡ accepted.old ++ ak_record self.now.cred.psk (mac_s_covers self.now) mac.now ∷ [] }
     {
         let rand_p = self.rand_p();
-        add_mac_s(accepted, self.psk(), self.id_s.as_slice(), &rand_p, mac);
+        add_mac_s(
+            accepted,
+            self.psk(),
+            self.side.id_s().as_slice(),
+            &rand_p,
+            mac,
+        );
     }
 
     /// Both nonces.
@@ -202,7 +175,7 @@ impl Login {
     {
         Nonces {
             rand_p: self.rand_p(),
-            rand_s: self.rand_s,
+            rand_s: self.added.rand_s,
         }
     }
 
@@ -213,11 +186,11 @@ impl Login {
     {
         Report {
             method: PSK_KIND,
-            id_p: self.own.cred.id_p.copy(),
-            id_s: self.id_s.copy(),
+            id_p: self.id_p().copy(),
+            id_s: self.side.id_s().copy(),
             suite: 0,
-            msk: self.keys.keys.msk,
-            emsk: self.keys.keys.emsk,
+            msk: self.added.keys.keys.msk,
+            emsk: self.added.keys.keys.emsk,
         }
     }
 }

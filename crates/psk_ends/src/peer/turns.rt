@@ -5,39 +5,39 @@ ghost use Rattle.octet_lists.specs.Sizes.{max_name};
 ghost use Rattle.psk_messages.specs.Message.{psk2};
 ghost use Rattle.psk_messages.specs.Reading.{read_of};
 ghost use Rattle.eap_method.specs.Capacity.{HasCapacity, replies};
-ghost use Rattle.eap_method.specs.declared.values.Credential.{Credential};
+ghost use Rattle.login_setup.specs.Setup.{accepts_name};
 ghost use Rattle.eap_method.specs.declared.turn.PeerAnswer.TheVariants.{Reply};
 ghost use Rattle.eap_method.specs.declared.values.MethodState.TheVariants.{Cont};
 ghost use Rattle.eap_method.specs.declared.values.Decision.TheVariants.{Fail};
 ghost use Rattle.eap_method.specs.Turns.{id_of, body_of};
 ghost use Rattle.eap_method.specs.PskTags.{psk_response, header_of};
-ghost use Rattle.eap_method.specs.PskPeer.{wait, fresh, rand_p_of, answers, fresh_reads, wait_reads, step};
-ghost use Rattle.psk_ends.specs.PeerStage.{in_phase, view_of, outcome_with, fresh_with, login_with};
+ghost use Rattle.eap_method.specs.PskPeer.{wait, rand_p_of, answers, fresh_reads, wait_reads, step};
+ghost use Rattle.psk_ends.specs.PeerStage.{in_phase, view_in, outcome_with, fresh_with, login_of, login_with, IsReady};
 ghost use Rattle.psk_ends.specs.PeerKeys.{AreKeysOf};
-ghost use Rattle.psk_ends.specs.declared.peer.login.Initial.{Initial};
 ghost use Rattle.psk_ends.specs.declared.peer.stage.Phase.TheVariants.{Wait};
 
 use crate::octets::{header_of, idle_cause, message_in};
-use crate::peer::login::{Initial, Keys, Login};
+use crate::peer::login::{Keys, Login};
 use crate::peer::psk4::handle_psk3;
-use crate::peer::stage::{Phase, Stage};
-use eap_method::{Decision, MethodState, PeerAnswer, Records, Tags};
+use crate::peer::stage::{Added, Phase, Progress, Stage};
+use eap_method::{Decision, MethodState, PeerAnswer, PeerSide, Records, Tags};
 use eap_packet::{Cause, Code};
-use octet_lists::Packet;
+use octet_lists::{Nonce, Packet};
 use psk_messages::{Psk1, Psk2, PskMessage, write_psk_into};
 
 /// A Request at a peer that has begun: PSK-1 of a server that it accepts. `UnknownServer`: it doesn't
 /// accept the server's name.
-fn fresh_reads<'a>(own: &Initial, request: &'a [u8]) -> Result<Psk1<'a>, Cause>
+fn fresh_reads<'a>(side: &PeerSide, request: &'a [u8]) -> Result<Psk1<'a>, Cause>
     requires { 5 ≤ length request.now }
-    ensures reads { fresh_with own.now (id_of request.now) result
-        ≡ fresh_reads own.now.cred own.now.nonce (id_of request.now) (read_of (body_of request.now)) }
+    ensures reads { (nonce : List ℕ) → fresh_with side.now.cred nonce (id_of request.now) result
+        ≡ fresh_reads side.now.cred nonce (id_of request.now) (read_of (body_of request.now)) }
+    ensures accepted { IfOk result (λ psk1. accepts_name side.now.cred.accepts psk1.id_s.now ≡ true) }
     ensures name { IfOk result (λ psk1. length psk1.id_s.now ≤ max_name) }
 {
     match message_in(request) {
         Err(cause) => Err(cause),
         Ok(PskMessage::P1(psk1)) => {
-            if own.cred.accepts.allows(psk1.id_s) {
+            if side.allows(psk1.id_s) {
                 Ok(psk1)
             } else {
                 Err(Cause::UnknownServer)
@@ -78,47 +78,39 @@ fn answer<R: Records>(login: &Login, id: u8, packet: &mut Packet, tags: &mut Tag
 }
 
 /// The PSK-1 that a peer accepts is answered by PSK-2, and the login begins.
+#[inline(never)]
 fn log_in<R: Records>(
-    stage: &mut Stage,
+    side: &mut PeerSide,
+    nonce: &Nonce,
+    progress: &mut Progress,
     psk1: &Psk1,
-    keys: Keys,
     id: u8,
     packet: &mut Packet,
     tags: &mut Tags<R>,
 ) -> PeerAnswer
     requires name { length psk1.now.id_s.now ≤ max_name }
-    requires keys { (cred : Credential) (nonce : List ℕ) → view_of stage.old ≡ fresh cred nonce → AreKeysOf cred.psk nonce keys }
-    ensures turn { (own : Initial) → view_of stage.old ≡ fresh own.cred own.nonce
-        → outcome_with result packet.new tags.new (view_of stage.new) ≡ answers (login_with own psk1.now) id }
-    ensures capacity { replies result ≡ true → HasCapacity packet.new }
+    requires accepted { accepts_name side.old.cred.accepts psk1.now.id_s.now ≡ true }
+    requires key { length side.old.cred.psk ≡ 16 }
+    ensures turn { outcome_with result packet.new tags.new (view_in side.new nonce.now progress.new)
+        ≡ answers (login_with side.old.cred nonce.now psk1.now) id }
+    ensures ready { IsReady side.new nonce.now progress.new }
+    ensures capacity { HasCapacity packet.new }
 {
-    let Stage::Fresh { own } = stage else {
-        return PeerAnswer::Discard(Cause::WrongOp);
+    let keys = Keys::of(side.psk(), nonce);
+    side.set_server(psk1.id_s);
+    let added = Added {
+        rand_s: psk1.rand_s,
+        keys,
     };
-    let own = own.copy();
-    settle(stage, own, psk1, keys);
-    let Stage::Known { login, .. } = stage else {
-        return PeerAnswer::Discard(Cause::WrongOp);
+    let login = Login {
+        side,
+        nonce,
+        added: &added,
     };
-    answer(login, id, packet, tags)
-}
-
-/// The login begins. It is never inlined, so that what the answer needs does not lie above a second login on the stack.
-#[inline(never)]
-fn settle(stage: &mut Stage, own: Initial, psk1: &Psk1, keys: Keys)
-    requires name { length psk1.now.id_s.now ≤ max_name }
-    requires keys { AreKeysOf own.cred.psk own.nonce keys }
-    ensures { view_of stage.new ≡ wait (login_with own psk1.now) }
-{
-    store(stage, Login::new(own, psk1, keys));
-}
-
-/// The peer awaits PSK-3. (By itself, since the compiler then builds the state where it stays.)
-fn store(stage: &mut Stage, login: Login)
-    ensures { view_of stage.new ≡ wait login }
-{
+    let turn = answer(&login, id, packet, tags);
     let phase = Phase::Wait;
-    *stage = Stage::Known { login, phase };
+    *progress = Progress::Known { added, phase };
+    turn
 }
 
 /// A Request at a peer that has sent PSK-2.
@@ -145,6 +137,31 @@ fn wait_reads<R: Records>(
     }
 }
 
+/// A Request at a peer that has a login.
+#[tactic(auto, unfolding(eap_method::specs::PskPeer::step))]
+fn known_reads<R: Records>(
+    side: &PeerSide,
+    nonce: &Nonce,
+    added: &Added,
+    phase: &mut Phase,
+    request: &[u8],
+    packet: &mut Packet,
+    tags: &mut Tags<R>,
+) -> PeerAnswer
+    requires size { 5 ≤ length request.now }
+    requires keys { AreKeysOf side.now.cred.psk nonce.now added.now.keys }
+    requires rand_s { length added.now.rand_s ≡ 16 }
+    ensures turn { let login = login_of side.now nonce.now added.now.rand_s in
+        outcome_with result packet.new tags.new (in_phase phase.new login) ≡ step (in_phase phase.old login) request.now }
+    ensures capacity { replies result ≡ true → HasCapacity packet.new }
+{
+    let login = Login { side, nonce, added };
+    match phase {
+        Phase::Wait => wait_reads(&login, phase, request, packet, tags),
+        Phase::Over { .. } => PeerAnswer::Discard(idle_cause(request)),
+    }
+}
+
 /// The turn for the octets of a Request of Type 47. After a discard `packet` and `tags` are unspecified.
 #[tactic(auto, unfolding(eap_method::specs::PskPeer::step))]
 pub fn handle_request<R: Records>(
@@ -154,21 +171,26 @@ pub fn handle_request<R: Records>(
     tags: &mut Tags<R>,
 ) -> PeerAnswer
     requires { 5 ≤ length request.now }
-    ensures turn { outcome_with result packet.new tags.new (view_of stage.new) ≡ step (view_of stage.old) request.now }
+    ensures turn { outcome_with result packet.new tags.new stage.new ≡ step stage.old request.now }
     ensures capacity { replies result ≡ true → HasCapacity packet.new }
 {
-    match stage {
-        Stage::Unset => PeerAnswer::Discard(Cause::WrongOp),
-        Stage::Fresh { own } => match fresh_reads(own, request) {
+    match &mut stage.progress {
+        Progress::Unset => PeerAnswer::Discard(Cause::WrongOp),
+        Progress::Fresh => match fresh_reads(&stage.side, request) {
             Err(cause) => PeerAnswer::Discard(cause),
-            Ok(psk1) => {
-                let keys = own.keys();
-                log_in(stage, &psk1, keys, request[1], packet, tags)
-            }
+            Ok(psk1) => log_in(
+                &mut stage.side,
+                &stage.nonce,
+                &mut stage.progress,
+                &psk1,
+                request[1],
+                packet,
+                tags,
+            ),
         },
-        Stage::Known { login, phase } => match phase {
-            Phase::Wait => wait_reads(login, phase, request, packet, tags),
-            Phase::Over { .. } => PeerAnswer::Discard(idle_cause(request)),
-        },
+        Progress::Known { added, phase } => {
+            let (side, nonce) = (&stage.side, &stage.nonce);
+            known_reads(side, nonce, added, phase, request, packet, tags)
+        }
     }
 }

@@ -1,6 +1,6 @@
 use Rattle.eap_method.specs.PskPeer.{step}
 use Rattle.psk_ends.proofs.peer.turns.handle_request.Goals as goal
 
-pub returns-in-Over-clause-turn : goal.returns-in-Over-clause-turn
+pub returns-in-Err-clause-turn : goal.returns-in-Err-clause-turn
 unfolding step
-returns-in-Over-clause-turn g c = rw (c.in-Known.is, c.in-Over.is) (c.idle_cause.ensures.peer c.in-Known.login c.in-Over.good)
+returns-in-Err-clause-turn g c = rw (← c.stage.view_is, c.in-Fresh.is) (c.in-Err.ensures.reads c.stage.inside.nonce)
