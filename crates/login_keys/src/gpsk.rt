@@ -1,10 +1,11 @@
 //! The key schedule and the MAC of EAP-GPSK.
 
-ghost use Rattle.std.specs.Prelude.{◌≡◌, ℕ, ◌+◌, List, ◌++◌, ◌≤◌, length, take};
+ghost use Rattle.std.specs.Prelude.{◌≡◌, ℕ, ◌+◌, List, ◌++◌, ◌≤◌, length, take, drop};
 ghost use Rattle.octet_lists.specs.Suite.{ks_of, suite_octets};
 ghost use Rattle.octet_lists.specs.Sizes.{max_name};
 ghost use Rattle.login_keys.specs.Gpsk.{gpsk_keys_of, gpsk_tag_of, input_string, keys_from, pk_size};
 ghost use Rattle.login_keys.specs.Gpsk as spec;
+ghost use Rattle.login_keys.specs.GpskMacKey.{IsMacKey};
 
 mod derivation;
 mod mac_key;
@@ -60,7 +61,22 @@ pub fn gpsk_keys(
     let input = put_front(&mut room, suite, psk);
     let end = put_input(&mut room, input, rand_p, id_p, rand_s, id_s);
     let mk = master_key(suite, psk, &room[..end]);
-    let derived = derive(suite, 160, mk.as_slice(), &mut room[input - 2..end], &[]);
+    let mac = MacKey::new(suite, mk.as_slice());
+    derive_keys(suite, mk, &mac, &mut room[input - 2..end])
+}
+
+// The keys that are derived by the master key from inputString, behind the place of a block's number. It is never inlined, so
+// that the master key isn't expanded above them on the stack.
+#[inline(never)]
+fn derive_keys(suite: Suite, mk: Octets<32>, mac: &MacKey, front: &mut [u8]) -> GpskKeys
+    requires mac { IsMacKey mac.now suite mk }
+    requires number { 2 ≤ length front.old }
+    ensures keys { (input : List ℕ) → drop 2 front.old ≡ input → result ≡ keys_from suite mk (spec.gkdf suite 160 mk input) }
+    ensures mk { result.mk ≡ mk }
+    ensures sk_size { length result.sk ≡ ks_of suite }
+    ensures pk_size { length result.pk ≡ pk_size suite }
+{
+    let derived = derive(suite, 160, mac, mk.as_slice(), front, &[]);
     cut_keys(suite, mk, derived.as_slice())
 }
 
@@ -123,7 +139,6 @@ fn master_key(suite: Suite, psk: &[u8], text: &[u8]) -> Octets<32>
 }
 
 // The keys that are cut from the octets derived from the master key.
-#[inline(never)]
 fn cut_keys(suite: Suite, mk: Octets<32>, derived: &[u8]) -> GpskKeys
     requires { length derived.now ≡ 160 }
     ensures keys { result ≡ keys_from suite mk derived.now }

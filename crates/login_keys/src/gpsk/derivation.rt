@@ -4,6 +4,7 @@ ghost use Rattle.std.specs.Prelude.{◌≡◌, ℕ, ◌≤◌, List, ◌++◌, l
 ghost use Rattle.std.specs.List.{concat};
 ghost use Rattle.octet_lists.specs.Suite.{ks_of};
 ghost use Rattle.login_keys.specs.Gpsk as spec;
+ghost use Rattle.login_keys.specs.GpskMacKey.{IsMacKey};
 
 use crate::gpsk::mac_key::MacKey;
 use byteorder::{BigEndian, ByteOrder};
@@ -18,23 +19,23 @@ pub fn two_octets(number: u16) -> [u8; 2]
     octets
 }
 
-// GKDF, as below, where Z is what stands behind the first two octets of `front`, the place of a block's
-// number, and then the pieces.
+// GKDF, as below, by its key `mac`, which contracts see by the octets that it was made of. Z is what stands behind the first two
+// octets of `front`, the place of a block's number, and then the pieces.
 pub fn derive(
     suite: Suite,
     size: usize,
-    key: &[u8],
+    mac: &MacKey,
+    _key: &[u8],
     front: &mut [u8],
     pieces: &[&[u8]],
 ) -> Octets<192>
     requires limit { size ≤ 160 }
-    requires key { length key.now ≡ ks_of suite }
+    requires key { IsMacKey mac.now suite _key.now }
     requires number { 2 ≤ length front.old }
-    ensures derived { (z : List ℕ) → z ≡ drop 2 front.old ++ concat (map (λ p. p.now) pieces.now) → result ≡ spec.gkdf suite size key.now z }
+    ensures derived { (z : List ℕ) → z ≡ drop 2 front.old ++ concat (map (λ p. p.now) pieces.now) → result ≡ spec.gkdf suite size _key.now z }
     ensures size { length result ≡ size }
 {
     let mut out = Octets::new();
-    let mac = MacKey::new(suite, key);
     'numbers: for done in 0..size.div_ceil(suite.ks()) {
         BigEndian::write_u16(front, done as u16 + 1);
         let block = mac.tag(front, pieces);
@@ -52,5 +53,6 @@ pub fn gkdf(suite: Suite, size: usize, key: &[u8], pieces: &[&[u8]]) -> Octets<1
     ensures derived { (z : List ℕ) → z ≡ concat (map (λ p. p.now) pieces.now) → result ≡ spec.gkdf suite size key.now z }
     ensures size { length result ≡ size }
 {
-    derive(suite, size, key, &mut [0; 2], pieces)
+    let mac = MacKey::new(suite, key);
+    derive(suite, size, &mac, key, &mut [0; 2], pieces)
 }

@@ -1,4 +1,4 @@
-use Rattle.std.proofs.Common.{◌≡◌, ℕ, ◌+◌, ◌-◌, ◌≤◌, List, [], ◌++◌, length, take, drop, ap, sym, ◌∙◌, append-nil, length-append, arith}
+use Rattle.std.proofs.Common.{◌≡◌, ℕ, ◌+◌, ◌-◌, ◌≤◌, List, ◌++◌, length, take, drop, ap, sym, ◌∙◌, length-append, arith}
 use Rattle.std.specs.Prelude.{slice_range}
 use Rattle.std.proofs.Math.Seq.{drop-append_seam}
 use Rattle.std.proofs.lemmas.List.{drop-drop, drop-take}
@@ -40,10 +40,5 @@ returns-clause-keys c =
     let size : length front ≡ (start - 2) + 2 = front_size c.args.suite c.args.psk.now start starts in
     let is_input : drop 2 (slice_range room (start - 2) end) ≡ input = behind room front input (start - 2) end is_text size (omega arith) in
     let is_mk : mk ≡ master_key c.args.suite c.args.psk.now input = c.master_key-mk.ensures.key input is_text in
-    let derived : c.as_slice-2.result.now ≡ gkdf c.args.suite 160 mk input =
-    c.as_slice-2.ensures.same
-    ∙ c.derive-derived.ensures.derived input (sym (append-nil input) ∙ ap (λ (l : List ℕ). l ++ []) (sym is_input))
-    ∙ ap (λ (key : List ℕ). gkdf c.args.suite 160 key input) c.as_slice.ensures.same in
-    c.cut_keys.ensures.keys
-    ∙ ap (keys_from c.args.suite mk) derived
+    c.derive_keys.ensures.keys input is_input
     ∙ ap (λ (key : List ℕ). keys_from c.args.suite key (gkdf c.args.suite 160 key input)) is_mk

@@ -21,7 +21,7 @@ pub numbers-preserved : goal.numbers-preserved
 unfolding gkdf_block
 numbers-preserved c =
     let z : List ℕ = drop 2 c.args.front.now ++ joined c.args.pieces.now in
-    let f : ℕ → List ℕ = gkdf_block c.args.suite c.args.key.now z in
+    let f : ℕ → List ℕ = gkdf_block c.args.suite c.args._key.now z in
     let few : c.numbers.done * ks_of c.args.suite < c.args.size =
     before_last _ _ _ _ _ c.ks.ensures c.div_ceil-done-end.ensures c.numbers-test.true in
     let small : ks_of c.args.suite ≤ 32 = ks-le c.args.suite in
@@ -30,10 +30,10 @@ numbers-preserved c =
     let text = numbered c.numbers.front c.write_u16.new.buf _ z (c.numbers.done + 1) c.numbers.invariant.behind c.write_u16.ensures in
     let same : c.as_slice.result.now ≡ f (1 + c.numbers.done) =
     c.as_slice.ensures.same
-    ∙ c.tag-block.ensures c.args.suite c.args.key.now c.new-mac.ensures
-    ∙ ap (gpsk_tag_of c.args.suite c.args.key.now) text.1
+    ∙ c.tag-block.ensures c.args.suite c.args._key.now c.requires.key
+    ∙ ap (gpsk_tag_of c.args.suite c.args._key.now) text.1
     ∙ ap f (omega arith) in
-    let size : length c.as_slice.result.now ≡ ks_of c.args.suite = ap length same ∙ length_gpsk_tag_of c.args.suite c.args.key.now _ in
+    let size : length c.as_slice.result.now ≡ ks_of c.args.suite = ap length same ∙ length_gpsk_tag_of c.args.suite c.args._key.now _ in
     record { behind = text.0; so_far = joined_push f 1 _ _ _ _ _ so_far same size c.put.ensures }
 
 pub returns-clause-derived : goal.returns-clause-derived
@@ -42,7 +42,7 @@ returns-clause-derived c = λ z e.
     let count : c.numbers.done ≡ div_ceil c.args.size (ks_of c.args.suite) =
     let reached : c.numbers.done ≡ c.div_ceil-done-end.result = omega arith in
     reached ∙ c.div_ceil-done-end.ensures ∙ ap (div_ceil c.args.size) c.ks.ensures in
-    let blocks : List ℕ → ℕ → List ℕ = λ t n. take c.args.size (flat_map (gkdf_block c.args.suite c.args.key.now t) (range_with_len 1 n)) in
+    let blocks : List ℕ → ℕ → List ℕ = λ t n. take c.args.size (flat_map (gkdf_block c.args.suite c.args._key.now t) (range_with_len 1 n)) in
     c.truncate.ensures
     ∙ ap (take c.args.size) c.numbers.invariant.so_far.same
     ∙ ap (blocks (drop 2 c.args.front.now ++ joined c.args.pieces.now)) count
