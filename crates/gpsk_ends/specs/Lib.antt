@@ -2,7 +2,6 @@ pub mod Failures
 pub mod Classified
 pub mod Keys
 pub mod Nonces
-pub mod PeerLogin
 pub mod PeerStage
 pub mod Sealed
 pub mod ServerLogin

@@ -7,6 +7,7 @@ ghost use Rattle.eap_packet.specs.Expanded.{max_wrapped};
 ghost use Rattle.gpsk_messages.specs.Message.{message_of, mac_of, size_of, spelled, without_mac};
 ghost use Rattle.eap_method.specs.Capacity.{HasCapacity};
 ghost use Rattle.gpsk_ends.specs.Sealed.{packet_of, record_of};
+ghost use Rattle.login_keys.specs.GpskMacKey.{IsMacKey};
 
 use crate::records::set_alone;
 use crate::sealing::{BEFORE_COVERED, write_front};
@@ -48,6 +49,14 @@ impl Keys {
         ensures { result ≡ record { suite = suite; keys = keys } }
     {
         let mac = MacKey::new(suite, keys.sk.as_slice());
+        Keys::of(suite, keys, mac)
+    }
+
+    /// The same, of SK that is expanded.
+    pub(crate) fn of(suite: Suite, keys: GpskKeys, mac: MacKey) -> Keys
+        requires { IsMacKey mac suite keys.sk }
+        ensures { result ≡ record { suite = suite; keys = keys } }
+    {
         Keys { suite, keys, mac }
     }
 

@@ -10,8 +10,7 @@ mod stage;
 mod turns;
 
 use crate::nonces::Nonces;
-use crate::peer::login::Initial;
-use crate::peer::stage::{Phase, Stage};
+use crate::peer::stage::{Phase, Progress, Stage};
 use crate::peer::turns::handle_request;
 use eap_method::{Credential, NoRecords, PeerAnswer, PeerMethod, PeerTurn, Records, Report, Tags};
 use octet_lists::{GPSK_KIND, Nonce, Packet};
@@ -29,9 +28,7 @@ impl Model for GpskPeer {
 
     ghost Value = { View };
 
-    ghost use Rattle.gpsk_ends.specs.PeerStage.{view_of};
-
-    ghost view = { λ p. view_of p.stage };
+    ghost view = { λ p. p.stage };
 }
 
 impl GpskPeer {
@@ -43,7 +40,7 @@ impl GpskPeer {
         ensures { result ≡ unset }
     {
         GpskPeer {
-            stage: Stage::Unset,
+            stage: Stage::new(),
         }
     }
 
@@ -51,13 +48,7 @@ impl GpskPeer {
     pub fn nonces(&self) -> Option<Nonces>
         ensures { result ≡ peer_nonces self.now }
     {
-        match &self.stage {
-            Stage::Login {
-                login,
-                phase: Phase::Over { good: true },
-            } => Some(login.nonces()),
-            _ => None,
-        }
+        Some(self.stage.successful()?.nonces())
     }
 
     /// Whether the login has failed: GPSK-Fail or GPSK-Protected-Fail came (RFC 5433 section 10).
@@ -65,8 +56,8 @@ impl GpskPeer {
         ensures { result ≡ peer_has_failed self.now }
     {
         matches!(
-            &self.stage,
-            Stage::Login {
+            &self.stage.progress,
+            Progress::Known {
                 phase: Phase::Over { good: false },
                 ..
             }
@@ -116,12 +107,7 @@ impl PeerMethod for GpskPeer {
     }
 
     fn begin(&mut self, cred: &Credential, nonce: &Nonce) {
-        self.stage = Stage::Fresh {
-            own: Initial {
-                cred: cred.copy(),
-                nonce: *nonce,
-            },
-        };
+        self.stage.start(cred, nonce);
     }
 
     fn handle(&mut self, request: &[u8]) -> PeerTurn {
@@ -146,13 +132,6 @@ impl PeerMethod for GpskPeer {
 
     #[tactic(auto, unfolding(eap_method::specs::Peer::peer_report))]
     fn report(&self) -> Option<Report> {
-        let Stage::Login {
-            login,
-            phase: Phase::Over { good: true },
-        } = &self.stage
-        else {
-            return None;
-        };
-        Some(login.report())
+        Some(self.stage.successful()?.report())
     }
 }

@@ -8,104 +8,65 @@ ghost use Rattle.gpsk_messages.specs.Message.{max_list, message_of, mac_of, size
 ghost use Rattle.eap_method.specs.GpskTags.{gpsk_response, sk_record};
 ghost use Rattle.eap_method.specs.Capacity.{HasCapacity};
 ghost use Rattle.gpsk_ends.specs.Classified.{IsReceived};
+ghost use Rattle.gpsk_ends.specs.PeerStage.{keys_with};
 ghost use Rattle.gpsk_ends.specs.Sealed.{packet_of, record_of};
 
 use crate::keys::Keys;
 use crate::nonces::Nonces;
 use crate::peer::offer::Offer;
+use crate::peer::stage::Added;
 use crate::records::record;
 use crate::sealing::mac_place;
-use eap_method::{Credential, Records, Report, TagList};
+use eap_method::{PeerSide, Records, Report, TagList};
 use eap_packet::Code;
 use gpsk_messages::{Gpsk2, Gpsk3, Gpsk4, GpskMessage};
 use login_keys::{GpskKeys, gpsk_keys};
-use octet_lists::{GPSK_KIND, Identity, Nonce, Octets, Packet, Suite};
+use octet_lists::{GPSK_KIND, Nonce, Packet, Suite};
 use std::marker::Model;
 
-/// What a peer brings into a login.
+/// A login after GPSK-1, with its keys, in the parts of the peer's state. Contracts see the login alone: its keys are those
+/// that it has by its definition.
 #[derive(Drop)]
-pub struct Initial {
-    pub cred: Credential,
+pub struct Login<'a> {
+    pub(crate) side: &'a PeerSide,
     /// RAND_Peer.
-    pub nonce: Nonce,
-    ghost long_enough: { 32 ≤ length cred.psk },
+    pub(crate) nonce: &'a Nonce,
+    pub(crate) added: &'a Added,
 }
 
-impl Initial {
-    ghost use Rattle.std.specs.Prelude.{◌≡◌};
-    ghost use Rattle.gpsk_ends.specs.PeerStage.{keys_with};
-
-    /// An equal value.
-    pub fn copy(&self) -> Initial
-        ensures cred { result.cred ≡ self.now.cred }
-        ensures nonce { result.nonce ≡ self.now.nonce }
-    {
-        Initial {
-            cred: self.cred.copy(),
-            nonce: self.nonce,
-        }
-    }
-
-    /// The keys of the login that begins with an offer: they are derived here alone (RFC 5433 section 4).
-    #[tactic(auto, unfolding(eap_method::specs::GpskPeer::keys_of))]
-    pub fn keys(&self, offer: &Offer) -> GpskKeys
-        ensures keys { result ≡ (keys_with self.now.cred self.now.nonce offer.now).keys }
-        ensures size { length result.sk ≡ ks_of offer.now.suite }
-    {
-        let psk = self.cred.psk.as_slice();
-        let id_p = self.cred.id_p.as_slice();
-        let rand_s = &offer.rand_s;
-        gpsk_keys(offer.suite, psk, &self.nonce, id_p, rand_s, offer.id_s)
-    }
-}
-
-/// A login after GPSK-1, with its keys. Contracts see the login alone: its keys are those that it has
-/// by its definition.
-#[derive(Drop)]
-pub struct Login {
-    own: Initial,
-    /// ID_Server.
-    id_s: Identity,
-    /// RAND_Server.
-    rand_s: Nonce,
-    keys: Keys,
-}
-
-impl Model for Login {
+impl<'a> Model for Login<'a> {
     ghost use Rattle.eap_method.specs.GpskPeer as definition;
+    ghost use Rattle.gpsk_ends.specs.PeerStage.{login_of, AreReady};
 
     ghost Value = { definition.Login };
 
-    ghost use Rattle.gpsk_ends.specs.PeerLogin.{login_of, IsConsistent};
+    ghost view = { λ l. login_of l.side.now l.nonce.now l.added.now.rand_s l.added.now.keys };
 
-    ghost view = { login_of };
-
-    ghost invariant = { IsConsistent };
+    ghost invariant = { λ l. AreReady l.side.now l.nonce.now l.added.now.rand_s l.added.now.keys };
 }
 
-impl Login {
+/// The keys of the login that begins with an offer: they are derived here alone (RFC 5433 section 4).
+#[tactic(auto, unfolding(eap_method::specs::GpskPeer::keys_of))]
+pub(crate) fn keys_for(side: &PeerSide, nonce: &Nonce, offer: &Offer) -> GpskKeys
+    requires { 32 ≤ length side.now.cred.psk }
+    ensures keys { result ≡ (keys_with side.now.cred nonce.now offer.now).keys }
+    ensures size { length result.sk ≡ ks_of offer.now.suite }
+{
+    let psk = side.psk().as_slice();
+    let id_p = side.id_p().as_slice();
+    let rand_s = &offer.rand_s;
+    gpsk_keys(offer.suite, psk, nonce, id_p, rand_s, offer.id_s)
+}
+
+impl Login<'_> {
     ghost use Rattle.eap_method.specs.GpskPeer.{keys_of, gpsk2_of, gpsk4_of, protected_fail_of, is_tagged_by, repeats, report_of};
     ghost use Rattle.gpsk_ends.specs.Nonces.{peer_nonces_of};
-    ghost use Rattle.gpsk_ends.specs.PeerStage.{keys_with, login_with};
-
-    /// The login that begins with an offer, with its keys.
-    pub fn new(own: Initial, offer: &Offer, keys: Keys) -> Login
-        requires { keys ≡ keys_with own.cred own.nonce offer.now }
-        ensures { result ≡ login_with own.cred own.nonce offer.now }
-    {
-        Login {
-            own,
-            id_s: Octets::of(offer.id_s),
-            rand_s: offer.rand_s,
-            keys,
-        }
-    }
 
     /// CSuite_Sel.
     pub fn suite(&self) -> Suite
         ensures { result ≡ self.now.suite }
     {
-        self.keys.suite()
+        self.added.keys.suite()
     }
 
     /// Whether GPSK-3 repeats the fields of the login.
@@ -113,10 +74,10 @@ impl Login {
         ensures { result ≡ repeats self.now gpsk3.now.rand_p gpsk3.now.rand_s gpsk3.now.id_s.now
             gpsk3.now.suite }
     {
-        gpsk3.rand_p == self.own.nonce
-            && gpsk3.rand_s == self.rand_s
-            && gpsk3.id_s == self.id_s.as_slice()
-            && gpsk3.suite.number() == self.keys.suite().number()
+        gpsk3.rand_p == *self.nonce
+            && gpsk3.rand_s == self.added.rand_s
+            && gpsk3.id_s == self.side.id_s().as_slice()
+            && gpsk3.suite.number() == self.added.keys.suite().number()
     }
 
     /// Whether a message, which the Type-Data encodes, has the MAC of the login.
@@ -124,7 +85,7 @@ impl Login {
         requires { IsReceived (message_of view.now) body.now }
         ensures { result ≡ is_tagged_by self.now (message_of view.now) }
     {
-        self.keys.is_tagged(view, body)
+        self.added.keys.is_tagged(view, body)
     }
 
     /// Leaves the record of the MAC of a message, which the Type-Data encodes, alone in `accepted`.
@@ -132,7 +93,7 @@ impl Login {
         requires { IsReceived (message_of view.now) body.now }
         ensures { accepted.new ≡ sk_record self.now.cred.psk (message_of view.now) ∷ [] }
     {
-        record(accepted, view, body, &self.own.cred.psk);
+        record(accepted, view, body, self.side.psk());
     }
 
     /// Writes the Response with a message whose MAC is yet to come, with the MAC of the login.
@@ -149,8 +110,10 @@ impl Login {
         ensures record { made.new ≡ record_of self.now.suite (keys_of self.now).sk self.now.cred.psk (without_mac (message_of view.now)) ∷ [] }
         ensures capacity { HasCapacity packet.new }
     {
-        let psk = &self.own.cred.psk;
-        self.keys.seal(view, Code::Response, id, psk, packet, made);
+        let psk = self.side.psk();
+        self.added
+            .keys
+            .seal(view, Code::Response, id, psk, packet, made);
     }
 
     /// Writes GPSK-2 with its MAC, whose record is then alone in `made`. `list` is the CSuite_List of
@@ -161,12 +124,12 @@ impl Login {
         ensures record { made.new ≡ sk_record self.now.cred.psk (gpsk2_of self.now list.now) ∷ [] }
         ensures capacity { HasCapacity packet.new }
     {
-        let suite = self.keys.suite();
+        let suite = self.added.keys.suite();
         let open = GpskMessage::M2(Gpsk2 {
-            id_p: self.own.cred.id_p.as_slice(),
-            id_s: self.id_s.as_slice(),
-            rand_p: self.own.nonce,
-            rand_s: self.rand_s,
+            id_p: self.side.id_p().as_slice(),
+            id_s: self.side.id_s().as_slice(),
+            rand_p: *self.nonce,
+            rand_s: self.added.rand_s,
             list,
             suite,
             pd: &[],
@@ -183,7 +146,7 @@ impl Login {
     {
         let open = GpskMessage::M4(Gpsk4 {
             pd: &[],
-            mac: mac_place(self.keys.suite()),
+            mac: mac_place(self.added.keys.suite()),
         });
         self.seal(&open, id, packet, made);
     }
@@ -202,7 +165,7 @@ impl Login {
     {
         let open = GpskMessage::ProtectedFail {
             code,
-            mac: mac_place(self.keys.suite()),
+            mac: mac_place(self.added.keys.suite()),
         };
         self.seal(&open, id, packet, made);
     }
@@ -212,8 +175,8 @@ impl Login {
         ensures { result ≡ peer_nonces_of self.now }
     {
         Nonces {
-            rand_p: self.own.nonce,
-            rand_s: self.rand_s,
+            rand_p: *self.nonce,
+            rand_s: self.added.rand_s,
         }
     }
 
@@ -224,11 +187,11 @@ impl Login {
     {
         Report {
             method: GPSK_KIND,
-            id_p: self.own.cred.id_p.copy(),
-            id_s: self.id_s.copy(),
-            suite: self.keys.suite().number(),
-            msk: self.keys.msk(),
-            emsk: self.keys.emsk(),
+            id_p: self.side.id_p().copy(),
+            id_s: self.side.id_s().copy(),
+            suite: self.added.keys.suite().number(),
+            msk: self.added.keys.msk(),
+            emsk: self.added.keys.emsk(),
         }
     }
 }

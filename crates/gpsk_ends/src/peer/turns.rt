@@ -1,6 +1,7 @@
 //! A peer's turn for each Request (RFC 5433 section 10).
 
-ghost use Rattle.std.specs.Prelude.{◌≡◌, ◌≤◌, ℕ, List, length, true, not, None, Some};
+ghost use Rattle.std.specs.Prelude.{◌≡◌, ◌≤◌, length, true, not, None, Some};
+ghost use Rattle.login_setup.specs.Setup.{accepts_name};
 ghost use Rattle.octet_lists.specs.Suite.{ks_of};
 ghost use Rattle.octet_lists.specs.Sizes.{max_packet};
 ghost use Rattle.eap_packet.specs.declared.cause.Cause.TheVariants.{BadTag};
@@ -8,28 +9,29 @@ ghost use Rattle.eap_packet.specs.Packet.{max_type_data};
 ghost use Rattle.gpsk_messages.specs.Message.{max_list, message_of};
 ghost use Rattle.gpsk_messages.specs.Reading.{read_of};
 ghost use Rattle.eap_method.specs.Turns.{fault_if, discarded};
-ghost use Rattle.eap_method.specs.GpskPeer.{answers, fresh, fresh_reads, over, over_reads, step, wait};
+ghost use Rattle.eap_method.specs.GpskPeer.{answers, fresh_reads, over, over_reads, step};
 ghost use Rattle.eap_method.specs.GpskPeer.{confirms, repeats_fail, repeats_protected, is_tagged_by, wait_reads};
 ghost use Rattle.eap_method.specs.Capacity.{HasCapacity, replies};
+ghost use Rattle.login_keys.specs.GpskMacKey.{IsMacKey};
 ghost use Rattle.gpsk_ends.specs.Classified.{IsReceived};
-ghost use Rattle.gpsk_ends.specs.PeerStage.{view_in, view_of, outcome_with, keys_with, login_with};
+ghost use Rattle.gpsk_ends.specs.PeerStage.{view_in, view_of, outcome_with, keys_with, login_of, login_with, AreReady, IsReady};
 ghost use Rattle.gpsk_ends.specs.declared.peer.stage.Phase.TheVariants.{Wait};
+ghost use Rattle.gpsk_ends.specs.declared.peer.stage.Progress.TheVariants.{Fresh};
 ghost use Rattle.eap_method.specs.declared.turn.PeerAnswer.TheVariants.{Reply};
-ghost use Rattle.eap_method.specs.declared.values.Credential.{Credential};
 ghost use Rattle.eap_method.specs.declared.values.MethodState.TheVariants.{Cont};
 ghost use Rattle.eap_method.specs.declared.values.Decision.TheVariants.{Fail};
 
 use crate::keys::Keys;
 use crate::peer::gpsk1::fresh_reads;
-use crate::peer::login::{Initial, Login};
+use crate::peer::login::{Login, keys_for};
 use crate::peer::offer::Offer;
-use crate::peer::stage::{Phase, Stage};
+use crate::peer::stage::{Added, Phase, Progress, Stage};
 use crate::receiving::receive;
-use eap_method::{Decision, MethodState, PeerAnswer, Records, Tags};
+use eap_method::{Decision, MethodState, PeerAnswer, PeerSide, Records, Tags};
 use eap_packet::{Cause, Code};
 use gpsk_messages::{GpskMessage, write_gpsk_into};
-use login_keys::GpskKeys;
-use octet_lists::Packet;
+use login_keys::{GpskKeys, MacKey};
+use octet_lists::{Nonce, Packet};
 
 /// The login's GPSK-1 is answered by GPSK-2. `list` is the CSuite_List of GPSK-1.
 #[tactic(auto, unfolding(eap_method::specs::GpskPeer::answers))]
@@ -52,91 +54,90 @@ fn answer<R: Records>(
     }
 }
 
-/// The offer that a peer accepts is answered by GPSK-2, and the login begins.
+/// The offer that a peer accepts is answered by GPSK-2, and the login begins. It is never inlined, so that no SK is expanded above
+/// the keys' place.
+#[inline(never)]
 fn log_in<R: Records>(
-    stage: &mut Stage,
+    side: &mut PeerSide,
+    nonce: &Nonce,
+    progress: &mut Progress,
     offer: &Offer,
-    keys: Keys,
+    keys: GpskKeys,
+    mac: MacKey,
     id: u8,
     packet: &mut Packet,
     tags: &mut Tags<R>,
 ) -> PeerAnswer
-    requires keys { (cred : Credential) (nonce : List ℕ) → view_of stage.old ≡ fresh cred nonce → keys ≡ keys_with cred nonce offer.now }
-    ensures turn { (cred : Credential) (nonce : List ℕ) → view_of stage.old ≡ fresh cred nonce
-        → outcome_with result packet.new tags.new (view_of stage.new) ≡ answers (login_with cred nonce offer.now) id offer.now.list.now }
-    ensures capacity { replies result ≡ true → HasCapacity packet.new }
+    requires accepted { accepts_name side.old.cred.accepts offer.now.id_s.now ≡ true }
+    requires keys { keys ≡ (keys_with side.old.cred nonce.now offer.now).keys }
+    requires mac { IsMacKey mac offer.now.suite keys.sk }
+    ensures turn { outcome_with result packet.new tags.new (view_of side.new nonce.now progress.new)
+        ≡ answers (login_with side.old.cred nonce.now offer.now) id offer.now.list.now }
+    ensures ready { IsReady side.new nonce.now progress.new }
+    ensures capacity { HasCapacity packet.new }
 {
-    let Stage::Fresh { own } = stage else {
-        return PeerAnswer::Discard(Cause::WrongOp);
+    side.set_server(offer.id_s);
+    let added = Added {
+        rand_s: offer.rand_s,
+        keys: Keys::of(offer.suite, keys, mac),
     };
-    let own = own.copy();
-    settle(stage, own, offer, keys);
-    let Stage::Login { login, .. } = stage else {
-        return PeerAnswer::Discard(Cause::WrongOp);
+    let login = Login {
+        side,
+        nonce,
+        added: &added,
     };
-    answer(login, id, offer.list, packet, tags)
-}
-
-/// The login begins. It is never inlined, so that what the answer needs does not lie above a second login on the stack.
-#[inline(never)]
-fn settle(stage: &mut Stage, own: Initial, offer: &Offer, keys: Keys)
-    requires { keys ≡ keys_with own.cred own.nonce offer.now }
-    ensures { view_of stage.new ≡ wait (login_with own.cred own.nonce offer.now) }
-{
-    store(stage, Login::new(own, offer, keys));
-}
-
-/// The peer awaits GPSK-3. (By itself, since the compiler then builds the state where it stays.)
-fn store(stage: &mut Stage, login: Login)
-    ensures { view_of stage.new ≡ wait login }
-{
+    let turn = answer(&login, id, offer.list, packet, tags);
     let phase = Phase::Wait;
-    *stage = Stage::Login { login, phase };
+    *progress = Progress::Known { added, phase };
+    turn
 }
 
-/// The login begins with these keys, SK expanded. It is never inlined, so that no keys are derived above those that are expanded
-/// on the stack.
+/// The login begins with these keys. It is never inlined, so that no keys are derived above SK that is expanded on the stack.
 #[inline(never)]
 fn expand<R: Records>(
-    stage: &mut Stage,
+    side: &mut PeerSide,
+    nonce: &Nonce,
+    progress: &mut Progress,
     offer: &Offer,
     keys: GpskKeys,
     id: u8,
     packet: &mut Packet,
     tags: &mut Tags<R>,
 ) -> PeerAnswer
-    requires keys { (cred : Credential) (nonce : List ℕ) → view_of stage.old ≡ fresh cred nonce
-        → keys ≡ (keys_with cred nonce offer.now).keys }
+    requires accepted { accepts_name side.old.cred.accepts offer.now.id_s.now ≡ true }
+    requires keys { keys ≡ (keys_with side.old.cred nonce.now offer.now).keys }
     requires size { length keys.sk ≡ ks_of offer.now.suite }
-    ensures turn { (cred : Credential) (nonce : List ℕ) → view_of stage.old ≡ fresh cred nonce
-        → outcome_with result packet.new tags.new (view_of stage.new) ≡ answers (login_with cred nonce offer.now) id offer.now.list.now }
-    ensures capacity { replies result ≡ true → HasCapacity packet.new }
+    ensures turn { outcome_with result packet.new tags.new (view_of side.new nonce.now progress.new)
+        ≡ answers (login_with side.old.cred nonce.now offer.now) id offer.now.list.now }
+    ensures ready { IsReady side.new nonce.now progress.new }
+    ensures capacity { HasCapacity packet.new }
 {
-    let keys = Keys::new(offer.suite, keys);
-    log_in(stage, offer, keys, id, packet, tags)
+    let mac = MacKey::new(offer.suite, keys.sk.as_slice());
+    log_in(side, nonce, progress, offer, keys, mac, id, packet, tags)
 }
 
 /// The Type-Data at a peer that has begun.
 fn answer_first<R: Records>(
-    stage: &mut Stage,
+    side: &mut PeerSide,
+    nonce: &Nonce,
+    progress: &mut Progress,
     id: u8,
     body: &[u8],
     packet: &mut Packet,
     tags: &mut Tags<R>,
 ) -> PeerAnswer
-    requires { length body.now ≤ max_type_data }
-    ensures turn { (cred : Credential) (nonce : List ℕ) → view_of stage.old ≡ fresh cred nonce
-        → outcome_with result packet.new tags.new (view_of stage.new) ≡ fresh_reads cred nonce id (read_of None body.now) }
+    requires size { length body.now ≤ max_type_data }
+    requires fresh { progress.old ≡ Fresh }
+    requires key { 32 ≤ length side.old.cred.psk }
+    ensures turn { outcome_with result packet.new tags.new (view_of side.new nonce.now progress.new) ≡ fresh_reads side.old.cred nonce.now id (read_of None body.now) }
+    ensures ready { IsReady side.new nonce.now progress.new }
     ensures capacity { replies result ≡ true → HasCapacity packet.new }
 {
-    let Stage::Fresh { own } = stage else {
-        return PeerAnswer::Discard(Cause::WrongOp);
-    };
-    match fresh_reads(own, body) {
+    match fresh_reads(side, body) {
         Err(cause) => PeerAnswer::Discard(cause),
         Ok(offer) => {
-            let keys = own.keys(&offer);
-            expand(stage, &offer, keys, id, packet, tags)
+            let keys = keys_for(side, nonce, &offer);
+            expand(side, nonce, progress, &offer, keys, id, packet, tags)
         }
     }
 }
@@ -270,6 +271,33 @@ fn over_cause(login: &Login, good: bool, body: &[u8]) -> Cause
     }
 }
 
+/// A Request at a peer that has a login.
+#[tactic(auto, unfolding(eap_method::specs::GpskPeer::step))]
+fn known_reads<R: Records>(
+    side: &PeerSide,
+    nonce: &Nonce,
+    added: &Added,
+    phase: &mut Phase,
+    request: &[u8],
+    packet: &mut Packet,
+    tags: &mut Tags<R>,
+) -> PeerAnswer
+    requires header { 5 ≤ length request.now }
+    requires size { length request.now ≤ max_packet }
+    requires ready { AreReady side.now nonce.now added.now.rand_s added.now.keys }
+    ensures turn { let login = login_of side.now nonce.now added.now.rand_s added.now.keys in
+        outcome_with result packet.new tags.new (view_in login phase.new) ≡ step (view_in login phase.old) request.now }
+    ensures capacity { replies result ≡ true → HasCapacity packet.new }
+{
+    let id = request[1];
+    let body = &request[5..];
+    let login = Login { side, nonce, added };
+    match phase {
+        Phase::Wait => wait_reads(&login, phase, id, body, packet, tags),
+        Phase::Over { good } => PeerAnswer::Discard(over_cause(&login, *good, body)),
+    }
+}
+
 /// The turn for the octets of a Request of Type 51. After a discard `packet` and `tags` are unspecified.
 #[tactic(auto, unfolding(eap_method::specs::GpskPeer::step))]
 pub fn handle_request<R: Records>(
@@ -280,17 +308,25 @@ pub fn handle_request<R: Records>(
 ) -> PeerAnswer
     requires header { 5 ≤ length request.now }
     requires size { length request.now ≤ max_packet }
-    ensures turn { outcome_with result packet.new tags.new (view_of stage.new) ≡ step (view_of stage.old) request.now }
+    ensures turn { outcome_with result packet.new tags.new stage.new ≡ step stage.old request.now }
     ensures capacity { replies result ≡ true → HasCapacity packet.new }
 {
     let id = request[1];
     let body = &request[5..];
-    match stage {
-        Stage::Unset => PeerAnswer::Discard(Cause::WrongOp),
-        Stage::Fresh { .. } => answer_first(stage, id, body, packet, tags),
-        Stage::Login { login, phase } => match phase {
-            Phase::Wait => wait_reads(login, phase, id, body, packet, tags),
-            Phase::Over { good } => PeerAnswer::Discard(over_cause(login, *good, body)),
-        },
+    match &mut stage.progress {
+        Progress::Unset => PeerAnswer::Discard(Cause::WrongOp),
+        Progress::Fresh => answer_first(
+            &mut stage.side,
+            &stage.nonce,
+            &mut stage.progress,
+            id,
+            body,
+            packet,
+            tags,
+        ),
+        Progress::Known { added, phase } => {
+            let (side, nonce) = (&stage.side, &stage.nonce);
+            known_reads(side, nonce, added, phase, request, packet, tags)
+        }
     }
 }
