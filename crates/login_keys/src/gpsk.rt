@@ -76,7 +76,8 @@ fn derive_keys(suite: Suite, mk: Octets<32>, mac: &MacKey, front: &mut [u8]) -> 
     ensures sk_size { length result.sk ≡ ks_of suite }
     ensures pk_size { length result.pk ≡ pk_size suite }
 {
-    let derived = derive(suite, 160, mac, mk.as_slice(), front, &[]);
+    let mut derived = Octets::new();
+    derive(suite, 160, mac, mk.as_slice(), front, &[], &mut derived);
     cut_keys(suite, mk, derived.as_slice())
 }
 
@@ -139,6 +140,7 @@ fn master_key(suite: Suite, psk: &[u8], text: &[u8]) -> Octets<32>
 }
 
 // The keys that are cut from the octets derived from the master key.
+#[inline(never)]
 fn cut_keys(suite: Suite, mk: Octets<32>, derived: &[u8]) -> GpskKeys
     requires { length derived.now ≡ 160 }
     ensures keys { result ≡ keys_from suite mk derived.now }

@@ -7,5 +7,5 @@ returns-clause-keys c = λ input e.
     c.cut_keys.ensures.keys
     ∙ ap (keys_from c.args.suite c.args.mk)
     (c.as_slice-2.ensures.same
-    ∙ c.derive-derived.ensures.derived input (sym (append-nil input) ∙ ap (λ (l : List ℕ). l ++ []) (sym e))
+    ∙ c.derive.ensures.derived input (sym (append-nil input) ∙ ap (λ (l : List ℕ). l ++ []) (sym e))
     ∙ ap (λ (key : List ℕ). gkdf c.args.suite 160 key input) c.as_slice.ensures.same)

@@ -15,7 +15,7 @@ numbered : (before text rest z : List ℕ) (n : ℕ) → drop 2 before ++ rest �
 numbered before text rest z n behind is_text = (rw is_text behind, rw (is_text, ← behind) (append_assoc (two_octets n) (drop 2 before) rest))
 
 pub numbers-init : goal.numbers-init
-numbers-init c = record { behind = refl; so_far = joined_none _ _ _ _ c.new-out.ensures }
+numbers-init c = record { behind = refl; so_far = joined_none _ _ _ _ c.requires.none }
 
 pub numbers-preserved : goal.numbers-preserved
 unfolding gkdf_block
