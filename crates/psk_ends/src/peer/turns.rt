@@ -77,26 +77,27 @@ fn answer<R: Records>(login: &Login, id: u8, packet: &mut Packet, tags: &mut Tag
     }
 }
 
-/// The PSK-1 that a peer accepts is answered by PSK-2, and the login begins.
+/// The PSK-1 that a peer accepts is answered by PSK-2, and the login begins. It is never inlined, so that no keys are derived above
+/// their place on the stack.
 #[inline(never)]
 fn log_in<R: Records>(
     side: &mut PeerSide,
     nonce: &Nonce,
     progress: &mut Progress,
     psk1: &Psk1,
+    keys: Keys,
     id: u8,
     packet: &mut Packet,
     tags: &mut Tags<R>,
 ) -> PeerAnswer
     requires name { length psk1.now.id_s.now ≤ max_name }
     requires accepted { accepts_name side.old.cred.accepts psk1.now.id_s.now ≡ true }
-    requires key { length side.old.cred.psk ≡ 16 }
+    requires keys { AreKeysOf side.old.cred.psk nonce.now keys }
     ensures turn { outcome_with result packet.new tags.new (view_in side.new nonce.now progress.new)
         ≡ answers (login_with side.old.cred nonce.now psk1.now) id }
     ensures ready { IsReady side.new nonce.now progress.new }
     ensures capacity { HasCapacity packet.new }
 {
-    let keys = Keys::of(side.psk(), nonce);
     side.set_server(psk1.id_s);
     let added = Added {
         rand_s: psk1.rand_s,
@@ -178,15 +179,12 @@ pub fn handle_request<R: Records>(
         Progress::Unset => PeerAnswer::Discard(Cause::WrongOp),
         Progress::Fresh => match fresh_reads(&stage.side, request) {
             Err(cause) => PeerAnswer::Discard(cause),
-            Ok(psk1) => log_in(
-                &mut stage.side,
-                &stage.nonce,
-                &mut stage.progress,
-                &psk1,
-                request[1],
-                packet,
-                tags,
-            ),
+            Ok(psk1) => {
+                let keys = Keys::of(stage.side.psk(), &stage.nonce);
+                let (side, progress) = (&mut stage.side, &mut stage.progress);
+                let id = request[1];
+                log_in(side, &stage.nonce, progress, &psk1, keys, id, packet, tags)
+            }
         },
         Progress::Known { added, phase } => {
             let (side, nonce) = (&stage.side, &stage.nonce);
