@@ -271,8 +271,9 @@ fn over_cause(login: &Login, good: bool, body: &[u8]) -> Cause
     }
 }
 
-/// A Request at a peer that has a login.
+/// A Request at a peer that has a login. It is never inlined, so that its message does not lie above keys that are derived.
 #[tactic(auto, unfolding(eap_method::specs::GpskPeer::step))]
+#[inline(never)]
 fn known_reads<R: Records>(
     side: &PeerSide,
     nonce: &Nonce,
