@@ -115,7 +115,9 @@ fn find<'a>(
 }
 
 /// A Response at a server that has sent PSK-1: PSK-2 with its MAC_P; None if its user isn't known.
-/// `FieldMismatch`: its RAND_S is not the server's.
+/// `FieldMismatch`: its RAND_S is not the server's. It is never inlined, so that the keys are not derived above what it needs on
+/// the stack.
+#[inline(never)]
 pub fn asked_reads<'a>(
     own: &Initial,
     response: &'a [u8],

@@ -74,7 +74,9 @@ fn checked_reads<R: Records>(
     }
 }
 
-/// The PSK-2 of a user that a server knows is answered by PSK-3, and the login begins.
+/// The PSK-2 of a user that a server knows is answered by PSK-3, and the login begins. It is never inlined, so that the keys are not
+/// derived above what it needs on the stack.
+#[inline(never)]
 fn log_in<R: Records>(
     stage: &mut Stage,
     found: UserPsk2,
