@@ -103,7 +103,7 @@ impl<const N: usize> UserList<N> {
         ensures added { HasCapacity N self.old user → self.new ≡ self.old ++ user ∷ [] }
         ensures unchanged { (HasCapacity N self.old user → ⊥) → self.new ≡ self.old }
     {
-        if !self.has_room() || self.find(user.name.as_slice(), user.kind).is_some() {
+        if !self.has_capacity() || self.find(user.name.as_slice(), user.kind).is_some() {
             return false;
         }
         self.list.push(user);
@@ -111,7 +111,7 @@ impl<const N: usize> UserList<N> {
     }
 
     /// Whether there is room for one user more.
-    fn has_room(&self) -> bool
+    fn has_capacity(&self) -> bool
         ensures { IsTrue result ↔ ((length self.now < N) × (length self.now < max_users)) }
     {
         !self.list.is_full() && self.list.len() < MAX_USERS
