@@ -4,5 +4,4 @@ pub mod Keys
 pub mod Nonces
 pub mod PeerStage
 pub mod Sealed
-pub mod ServerLogin
 pub mod ServerStage

@@ -1,11 +1,13 @@
 //! The keys of a login, ready for its MACs.
 
-ghost use Rattle.std.specs.Prelude.{◌≡◌, ◌≤◌, ◌+◌, ◌∷◌, [], length, IsTrue};
+ghost use Rattle.std.specs.Prelude.{◌≡◌, ◌≤◌, ◌+◌, ℕ, List, ◌∷◌, [], length, IsTrue};
 ghost use Rattle.octet_lists.specs.Suite.{ks_of};
+ghost use Rattle.octet_lists.specs.declared.suite.Suite.{Suite};
 ghost use Rattle.eap_packet.specs.Packet.{has_type};
 ghost use Rattle.eap_packet.specs.Expanded.{max_wrapped};
 ghost use Rattle.gpsk_messages.specs.Message.{message_of, mac_of, size_of, spelled, without_mac};
 ghost use Rattle.eap_method.specs.Capacity.{HasCapacity};
+ghost use Rattle.eap_method.specs.GpskTags.{is_tagged};
 ghost use Rattle.gpsk_ends.specs.Sealed.{packet_of, record_of};
 ghost use Rattle.login_keys.specs.GpskMacKey.{IsMacKey};
 
@@ -38,21 +40,18 @@ impl Model for Keys {
     ghost invariant = { IsReady };
 }
 
+/// Whether the message, which the Type-Data encodes, has the MAC of its covered octets under SK that is expanded (RFC
+/// 5433, sections 8.1.2 and 8.2.2). All octets of the MAC are compared. MACs are compared here alone.
+pub(crate) fn is_tagged(mac: &MacKey, view: &GpskMessage, body: &[u8]) -> bool
+    requires { body.now ≡ spelled (message_of view.now) }
+    ensures { (suite : Suite) (sk : List ℕ) → IsMacKey mac.now suite sk → result ≡ is_tagged suite sk (message_of view.now) }
+{
+    let tag = mac.tag_whole(covered_part(view, body));
+    equal_in_full(tag.as_slice(), mac_part(view))
+}
+
 impl Keys {
-    ghost use Rattle.eap_method.specs.GpskTags.{is_tagged};
-
-    /// The keys of a login under this suite, SK expanded. It is never inlined, so that no keys are derived above them on the
-    /// stack.
-    #[inline(never)]
-    pub(crate) fn new(suite: Suite, keys: GpskKeys) -> Keys
-        requires { length keys.sk ≡ ks_of suite }
-        ensures { result ≡ record { suite = suite; keys = keys } }
-    {
-        let mac = MacKey::new(suite, keys.sk.as_slice());
-        Keys::of(suite, keys, mac)
-    }
-
-    /// The same, of SK that is expanded.
+    /// The keys of a login under this suite, with SK expanded.
     pub(crate) fn of(suite: Suite, keys: GpskKeys, mac: MacKey) -> Keys
         requires { IsMacKey mac suite keys.sk }
         ensures { result ≡ record { suite = suite; keys = keys } }
@@ -81,14 +80,12 @@ impl Keys {
         self.keys.emsk
     }
 
-    /// Whether the message, which the Type-Data encodes, has the MAC of its covered octets under SK (RFC
-    /// 5433, sections 8.1.2 and 8.2.2). All octets of the MAC are compared. MACs are compared here alone.
+    /// Whether the message, which the Type-Data encodes, has the MAC of its covered octets under SK.
     pub(crate) fn is_tagged(&self, view: &GpskMessage, body: &[u8]) -> bool
         requires { body.now ≡ spelled (message_of view.now) }
         ensures { result ≡ is_tagged self.now.suite self.now.keys.sk (message_of view.now) }
     {
-        let tag = self.mac.tag_whole(covered_part(view, body));
-        equal_in_full(tag.as_slice(), mac_part(view))
+        is_tagged(&self.mac, view, body)
     }
 
     /// Writes the packet of a message whose MAC is yet to come, with the MAC of its covered octets under

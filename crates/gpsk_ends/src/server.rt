@@ -9,8 +9,7 @@ mod stage;
 mod turns;
 
 use crate::nonces::Nonces;
-use crate::server::login::Initial;
-use crate::server::stage::{Alone, Phase, Stage};
+use crate::server::stage::{Alone, Phase, Progress, Stage};
 use crate::server::turns::{ask, handle_response};
 use eap_method::{
     NoRecords, Records, Report, ServerAnswer, ServerMethod, ServerSide, ServerTurn, Tags,
@@ -31,9 +30,7 @@ impl Model for GpskServer {
 
     ghost Value = { View };
 
-    ghost use Rattle.gpsk_ends.specs.ServerStage.{view_of};
-
-    ghost view = { λ s. view_of s.stage };
+    ghost view = { λ s. s.stage };
 }
 
 impl GpskServer {
@@ -45,7 +42,7 @@ impl GpskServer {
         ensures { result ≡ unset }
     {
         GpskServer {
-            stage: Stage::Unset,
+            stage: Stage::new(),
         }
     }
 
@@ -53,13 +50,7 @@ impl GpskServer {
     pub fn nonces(&self) -> Option<Nonces>
         ensures { result ≡ server_nonces self.now }
     {
-        match &self.stage {
-            Stage::Login {
-                login,
-                phase: Phase::Over { good: true },
-            } => Some(login.nonces()),
-            _ => None,
-        }
+        Some(self.stage.successful()?.nonces())
     }
 
     /// Whether it has sent GPSK-Fail to a user that it doesn't know (RFC 5433 section 10).
@@ -67,10 +58,9 @@ impl GpskServer {
         ensures { result ≡ is_unknown self.now }
     {
         matches!(
-            &self.stage,
-            Stage::Alone {
+            &self.stage.progress,
+            Progress::Alone {
                 phase: Alone::Refusing | Alone::Refused,
-                ..
             }
         )
     }
@@ -80,8 +70,8 @@ impl GpskServer {
         ensures { result ≡ server_has_failed self.now }
     {
         matches!(
-            &self.stage,
-            Stage::Login {
+            &self.stage.progress,
+            Progress::Login {
                 phase: Phase::Barring | Phase::Over { good: false },
                 ..
             }
@@ -136,13 +126,7 @@ impl ServerMethod for GpskServer {
     }
 
     fn begin(&mut self, own: &ServerSide, nonce: &Nonce) {
-        self.stage = Stage::Alone {
-            own: Initial {
-                side: own.copy(),
-                nonce: *nonce,
-            },
-            phase: Alone::Initial,
-        };
+        self.stage.start(own, nonce);
     }
 
     fn first(&mut self, id: u8) -> Packet {
@@ -187,13 +171,6 @@ impl ServerMethod for GpskServer {
 
     #[tactic(auto, unfolding(eap_method::specs::Server::server_report))]
     fn report(&self) -> Option<Report> {
-        let Stage::Login {
-            login,
-            phase: Phase::Over { good: true },
-        } = &self.stage
-        else {
-            return None;
-        };
-        Some(login.report())
+        Some(self.stage.successful()?.report())
     }
 }

@@ -9,23 +9,27 @@ ghost use Rattle.login_setup.specs.Setup.{is_valid_for};
 ghost use Rattle.login_setup.specs.Users.{user_of};
 ghost use Rattle.gpsk_messages.specs.Message.{message_of};
 ghost use Rattle.gpsk_messages.specs.Reading.{read_of};
-ghost use Rattle.eap_method.specs.GpskServer.{asked, checked, checks, refusing, refuses, answers, asked_receives, asked_reads};
+ghost use Rattle.eap_method.specs.GpskServer.{checks, refusing, refuses, answers, asked_receives, asked_reads};
 ghost use Rattle.eap_method.specs.declared.values.ServerSide.{ServerSide};
 ghost use Rattle.eap_method.specs.Capacity.{HasCapacity, requests};
+ghost use Rattle.login_keys.specs.GpskMacKey.{IsMacKey};
 ghost use Rattle.gpsk_ends.specs.Classified.{IsReceived};
-ghost use Rattle.gpsk_ends.specs.ServerStage.{outcome_with, view_in, view_of, keys_with, login_with};
+ghost use Rattle.gpsk_ends.specs.ServerStage.{outcome_with, view_in, view_of, login_of, added_with, keys_with, login_with, IsConsistent, IsReady};
+ghost use Rattle.gpsk_ends.specs.declared.server.stage.Alone.TheVariants.{Asked};
+ghost use Rattle.gpsk_ends.specs.declared.server.stage.Phase.TheVariants.{Checked};
+ghost use Rattle.gpsk_ends.specs.declared.server.stage.Progress.TheVariants as stage;
 ghost use Rattle.eap_method.specs.declared.turn.ServerAnswer.TheVariants.{Request};
 
-use crate::keys::Keys;
+use crate::keys::{Keys, is_tagged};
 use crate::receiving::receive;
 use crate::server::login::{Initial, Login};
-use crate::server::stage::{Alone, Phase, Stage};
+use crate::server::stage::{Added, Alone, Phase, Progress};
 use eap_method::{Records, ServerAnswer, Tags};
 use eap_packet::{Cause, Code};
 use gpsk_messages::{Gpsk2, GpskMessage, write_gpsk_into};
-use login_keys::GpskKeys;
+use login_keys::{GpskKeys, MacKey};
 use login_setup::User;
-use octet_lists::{GPSK_KIND, Packet};
+use octet_lists::{GPSK_KIND, Octets, Packet};
 
 /// Failure-Code PSK Not Found (RFC 5433 section 9.3).
 pub const PSK_NOT_FOUND: u32 = 1;
@@ -47,7 +51,8 @@ fn refuse<R: Records>(next_id: u8, packet: &mut Packet, tags: &mut Tags<R>)
 /// GPSK-2 with its MAC is answered by GPSK-3, that of a barred user by GPSK-Protected-Fail.
 #[tactic(auto, unfolding(eap_method::specs::GpskServer::answers))]
 fn answer<R: Records>(
-    login: &Login,
+    own: &Initial,
+    added: &Added,
     barred: bool,
     next_id: u8,
     view: &GpskMessage,
@@ -55,10 +60,13 @@ fn answer<R: Records>(
     packet: &mut Packet,
     tags: &mut Tags<R>,
 ) -> Phase
-    requires { IsReceived (message_of view.now) body.now }
-    ensures turn { outcome_with Request packet.new tags.new (view_in login.now result) ≡ answers login.now barred next_id (message_of view.now) }
+    requires received { IsReceived (message_of view.now) body.now }
+    requires ready { IsConsistent own.now added.now }
+    ensures turn { let login = login_of own.now added.now in
+        outcome_with Request packet.new tags.new (view_in login result) ≡ answers login barred next_id (message_of view.now) }
     ensures capacity { HasCapacity packet.new }
 {
+    let login = Login { own, added };
     login.accept(view, body, &mut tags.accepted);
     if barred {
         login.protected_fail(next_id, packet, &mut tags.made);
@@ -79,14 +87,42 @@ fn find_user<'a>(users: &'a [User], id_p: &[u8]) -> Option<&'a User>
     login_setup::find_user(users, id_p, GPSK_KIND)
 }
 
-/// GPSK-2 without a fault is answered, and the login begins. It is never inlined, so that no keys are derived above what the
-/// server brought into the login on the stack.
+/// The login begins. It is never inlined, so that what the answer needs does not lie above what the login adds on the stack.
 #[inline(never)]
-fn log_in<R: Records>(
-    stage: &mut Stage,
+fn settle(
+    own: &Initial,
+    progress: &mut Progress,
     gpsk2: &Gpsk2,
     user: &User,
-    keys: Keys,
+    keys: GpskKeys,
+    mac: MacKey,
+)
+    requires name { length gpsk2.now.id_p.now ≤ max_name }
+    requires keys { keys ≡ (keys_with own.now.side own.now.nonce gpsk2.now user.now).keys }
+    requires mac { IsMacKey mac gpsk2.now.suite keys.sk }
+    ensures added { progress.new ≡ stage.Login (added_with own.now.side own.now.nonce gpsk2.now user.now) Checked }
+    ensures ready { IsReady own.now progress.new }
+{
+    let added = Added {
+        id_p: Octets::of(gpsk2.id_p),
+        psk: user.psk.copy(),
+        rand_p: gpsk2.rand_p,
+        keys: Keys::of(gpsk2.suite, keys, mac),
+    };
+    let phase = Phase::Checked;
+    *progress = Progress::Login { added, phase };
+}
+
+/// GPSK-2 without a fault is answered, and the login begins. It is never inlined, so that no SK is expanded above what the
+/// answer needs on the stack.
+#[inline(never)]
+fn log_in<R: Records>(
+    own: &Initial,
+    progress: &mut Progress,
+    gpsk2: &Gpsk2,
+    user: &User,
+    keys: GpskKeys,
+    mac: MacKey,
     next_id: u8,
     view: &GpskMessage,
     body: &[u8],
@@ -95,50 +131,27 @@ fn log_in<R: Records>(
 ) -> ServerAnswer
     requires received { IsReceived (message_of view.now) body.now }
     requires name { length gpsk2.now.id_p.now ≤ max_name }
-    requires keys { (own : ServerSide) (nonce : List ℕ) → view_of stage.old ≡ asked own nonce → keys ≡ keys_with own nonce gpsk2.now user.now }
-    ensures turn { (own : ServerSide) (nonce : List ℕ) → view_of stage.old ≡ asked own nonce → outcome_with result packet.new tags.new (view_of stage.new)
-        ≡ answers (login_with own nonce gpsk2.now user.now) user.now.barred next_id (message_of view.now) }
+    requires keys { keys ≡ (keys_with own.now.side own.now.nonce gpsk2.now user.now).keys }
+    requires mac { IsMacKey mac gpsk2.now.suite keys.sk }
+    ensures turn { outcome_with result packet.new tags.new (view_of own.now progress.new)
+        ≡ answers (login_with own.now.side own.now.nonce gpsk2.now user.now) user.now.barred next_id (message_of view.now) }
+    ensures ready { IsReady own.now progress.new }
     ensures capacity { requests result ≡ true → HasCapacity packet.new }
 {
-    let Stage::Alone {
-        own,
-        phase: Alone::Asked,
-    } = stage
-    else {
+    settle(own, progress, gpsk2, user, keys, mac);
+    let Progress::Login { added, phase } = progress else {
         return ServerAnswer::Discard(Cause::WrongOp);
     };
-    let own = own.copy();
-    settle(stage, own, gpsk2, user, keys);
-    let Stage::Login { login, phase } = stage else {
-        return ServerAnswer::Discard(Cause::WrongOp);
-    };
-    *phase = answer(login, user.barred, next_id, view, body, packet, tags);
+    *phase = answer(own, added, user.barred, next_id, view, body, packet, tags);
     ServerAnswer::Request
 }
 
-/// The login begins. It is never inlined, so that what the answer needs does not lie above a second login on the stack.
-#[inline(never)]
-fn settle(stage: &mut Stage, own: Initial, gpsk2: &Gpsk2, user: &User, keys: Keys)
-    requires name { length gpsk2.now.id_p.now ≤ max_name }
-    requires keys { keys ≡ keys_with own.side own.nonce gpsk2.now user.now }
-    ensures { view_of stage.new ≡ checked (login_with own.side own.nonce gpsk2.now user.now) }
-{
-    store(stage, Login::new(own, gpsk2, user, keys));
-}
-
-/// The server awaits GPSK-4. (By itself, since the compiler then builds the state where it stays.)
-fn store(stage: &mut Stage, login: Login)
-    ensures { view_of stage.new ≡ checked login }
-{
-    let phase = Phase::Checked;
-    *stage = Stage::Login { login, phase };
-}
-
-/// GPSK-2 of a user under these keys. `BadTag`: its MAC is wrong. It is never inlined, so that no keys are derived above those
-/// that are expanded on the stack.
+/// GPSK-2 of a user under these keys. `BadTag`: its MAC is wrong. It is never inlined, so that no keys are derived above SK that
+/// is expanded on the stack.
 #[inline(never)]
 fn check<R: Records>(
-    stage: &mut Stage,
+    own: &Initial,
+    progress: &mut Progress,
     gpsk2: &Gpsk2,
     user: &User,
     keys: GpskKeys,
@@ -150,25 +163,29 @@ fn check<R: Records>(
 ) -> ServerAnswer
     requires received { IsReceived (message_of view.now) body.now }
     requires name { length gpsk2.now.id_p.now ≤ max_name }
-    requires keys { (own : ServerSide) (nonce : List ℕ) → view_of stage.old ≡ asked own nonce
-        → keys ≡ (keys_with own nonce gpsk2.now user.now).keys }
+    requires asked { progress.old ≡ stage.Alone Asked }
+    requires keys { keys ≡ (keys_with own.now.side own.now.nonce gpsk2.now user.now).keys }
     requires size { length keys.sk ≡ ks_of gpsk2.now.suite }
-    ensures turn { (own : ServerSide) (nonce : List ℕ) → view_of stage.old ≡ asked own nonce → outcome_with result packet.new tags.new (view_of stage.new)
-        ≡ checks (login_with own nonce gpsk2.now user.now) user.now.barred next_id (message_of view.now) }
+    ensures turn { outcome_with result packet.new tags.new (view_of own.now progress.new)
+        ≡ checks (login_with own.now.side own.now.nonce gpsk2.now user.now) user.now.barred next_id (message_of view.now) }
+    ensures ready { IsReady own.now progress.new }
     ensures capacity { requests result ≡ true → HasCapacity packet.new }
 {
-    let keys = Keys::new(gpsk2.suite, keys);
-    if !keys.is_tagged(view, body) {
+    let mac = MacKey::new(gpsk2.suite, keys.sk.as_slice());
+    if !is_tagged(&mac, view, body) {
         return ServerAnswer::Discard(Cause::BadTag);
     }
-    log_in(stage, gpsk2, user, keys, next_id, view, body, packet, tags)
+    log_in(
+        own, progress, gpsk2, user, keys, mac, next_id, view, body, packet, tags,
+    )
 }
 
 /// A message at a server that has sent GPSK-1. `FieldMismatch`: GPSK-2 does not repeat what GPSK-1 said.
 /// `SuiteNotOffered`: it names a suite that was not offered. `BadTag`: its MAC is wrong; the keys that were
 /// derived for it are dropped.
 fn asked_receives<R: Records>(
-    stage: &mut Stage,
+    own: &Initial,
+    progress: &mut Progress,
     next_id: u8,
     view: &GpskMessage,
     body: &[u8],
@@ -177,14 +194,13 @@ fn asked_receives<R: Records>(
     tags: &mut Tags<R>,
 ) -> ServerAnswer
     requires received { IsReceived (message_of view.now) body.now }
+    requires asked { progress.old ≡ stage.Alone Asked }
     requires keys { All (λ user. IsTrue (is_valid_for user.kind user.psk)) users.now }
-    ensures turn { (own : ServerSide) (nonce : List ℕ) → view_of stage.old ≡ asked own nonce
-        → outcome_with result packet.new tags.new (view_of stage.new) ≡ asked_receives users.now own nonce next_id (message_of view.now) }
+    ensures turn { outcome_with result packet.new tags.new (view_of own.now progress.new)
+        ≡ asked_receives users.now own.now.side own.now.nonce next_id (message_of view.now) }
+    ensures ready { IsReady own.now progress.new }
     ensures capacity { requests result ≡ true → HasCapacity packet.new }
 {
-    let Stage::Alone { own, phase } = stage else {
-        return ServerAnswer::Discard(Cause::WrongOp);
-    };
     let GpskMessage::M2(gpsk2) = view else {
         return ServerAnswer::Discard(Cause::WrongOp);
     };
@@ -196,16 +212,20 @@ fn asked_receives<R: Records>(
     }
     let Some(user) = find_user(users, gpsk2.id_p) else {
         refuse(next_id, packet, tags);
-        *phase = Alone::Refusing;
+        let phase = Alone::Refusing;
+        *progress = Progress::Alone { phase };
         return ServerAnswer::Request;
     };
     let keys = own.keys(gpsk2, user);
-    check(stage, gpsk2, user, keys, next_id, view, body, packet, tags)
+    check(
+        own, progress, gpsk2, user, keys, next_id, view, body, packet, tags,
+    )
 }
 
 /// The Type-Data at a server that has sent GPSK-1.
 pub fn asked_reads<R: Records>(
-    stage: &mut Stage,
+    own: &Initial,
+    progress: &mut Progress,
     next_id: u8,
     body: &[u8],
     users: &[User],
@@ -213,13 +233,15 @@ pub fn asked_reads<R: Records>(
     tags: &mut Tags<R>,
 ) -> ServerAnswer
     requires size { length body.now ≤ max_type_data }
+    requires asked { progress.old ≡ stage.Alone Asked }
     requires keys { All (λ user. IsTrue (is_valid_for user.kind user.psk)) users.now }
-    ensures turn { (own : ServerSide) (nonce : List ℕ) → view_of stage.old ≡ asked own nonce
-        → outcome_with result packet.new tags.new (view_of stage.new) ≡ asked_reads users.now own nonce next_id (read_of None body.now) }
+    ensures turn { outcome_with result packet.new tags.new (view_of own.now progress.new)
+        ≡ asked_reads users.now own.now.side own.now.nonce next_id (read_of None body.now) }
+    ensures ready { IsReady own.now progress.new }
     ensures capacity { requests result ≡ true → HasCapacity packet.new }
 {
     match receive(body, None) {
         Err(cause) => ServerAnswer::Discard(cause),
-        Ok(view) => asked_receives(stage, next_id, &view, body, users, packet, tags),
+        Ok(view) => asked_receives(own, progress, next_id, &view, body, users, packet, tags),
     }
 }

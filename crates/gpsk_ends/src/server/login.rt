@@ -12,16 +12,16 @@ ghost use Rattle.eap_method.specs.Capacity.{HasCapacity};
 ghost use Rattle.gpsk_ends.specs.Classified.{IsReceived};
 ghost use Rattle.gpsk_ends.specs.Sealed.{packet_of, record_of};
 
-use crate::keys::Keys;
 use crate::nonces::Nonces;
 use crate::records::record;
 use crate::sealing::mac_place;
+use crate::server::stage::Added;
 use eap_method::{Records, Report, ServerSide, TagList};
 use eap_packet::Code;
 use gpsk_messages::{Gpsk1, Gpsk2, Gpsk3, GpskMessage, write_gpsk_into};
 use login_keys::{GpskKeys, gpsk_keys};
 use login_setup::User;
-use octet_lists::{GPSK_KIND, Identity, Nonce, Octets, Packet, Secret, Suite};
+use octet_lists::{GPSK_KIND, Identity, Nonce, Octets, Packet, Suite, Suites};
 use std::marker::Model;
 
 /// Failure-Code Authorization Failure (RFC 5433 section 9.3).
@@ -40,15 +40,25 @@ impl Initial {
     ghost use Rattle.eap_method.specs.GpskServer.{first, repeats};
     ghost use Rattle.gpsk_ends.specs.ServerStage.{keys_with};
 
-    /// An equal value.
-    pub fn copy(&self) -> Initial
-        ensures side { result.side ≡ self.now.side }
-        ensures nonce { result.nonce ≡ self.now.nonce }
-    {
+    /// No name and no suite.
+    pub fn new() -> Initial {
         Initial {
-            side: self.side.copy(),
-            nonce: self.nonce,
+            side: ServerSide {
+                id_s: Identity::new(),
+                suites: Suites::new(),
+            },
+            nonce: [0; 32],
         }
+    }
+
+    /// Replaces what was there.
+    pub fn set(&mut self, side: &ServerSide, nonce: &Nonce)
+        ensures side { self.new.side ≡ side.now }
+        ensures nonce { self.new.nonce ≡ nonce.now }
+    {
+        self.side.id_s.set(side.id_s.as_slice());
+        self.side.suites.set(side.suites.as_slice());
+        self.nonce = *nonce;
     }
 
     /// CSuite_List: the entry of each suite that the server offers, in six octets (RFC 5433 section 9.2).
@@ -112,57 +122,34 @@ impl Initial {
     }
 }
 
-/// A login after GPSK-2, with its keys. Contracts see the login alone: its keys are those that it has
-/// by its definition.
+/// A login after GPSK-2, with its keys, in the parts of the server's state. Contracts see the login alone: its keys are those
+/// that it has by its definition.
 #[derive(Drop)]
-pub struct Login {
-    own: Initial,
-    /// ID_Peer.
-    id_p: Identity,
-    /// The user's key.
-    psk: Secret,
-    /// RAND_Peer.
-    rand_p: Nonce,
-    keys: Keys,
+pub struct Login<'a> {
+    pub(crate) own: &'a Initial,
+    pub(crate) added: &'a Added,
 }
 
-impl Model for Login {
+impl<'a> Model for Login<'a> {
     ghost use Rattle.eap_method.specs.GpskServer as definition;
+    ghost use Rattle.gpsk_ends.specs.ServerStage.{login_of, IsConsistent};
 
     ghost Value = { definition.Login };
 
-    ghost use Rattle.gpsk_ends.specs.ServerLogin.{login_of, IsConsistent};
+    ghost view = { λ l. login_of l.own.now l.added.now };
 
-    ghost view = { login_of };
-
-    ghost invariant = { IsConsistent };
+    ghost invariant = { λ l. IsConsistent l.own.now l.added.now };
 }
 
-impl Login {
+impl Login<'_> {
     ghost use Rattle.eap_method.specs.GpskServer.{keys_of, gpsk3_of, bars_with, is_tagged_by, report_of};
     ghost use Rattle.gpsk_ends.specs.Nonces.{server_nonces_of};
-    ghost use Rattle.gpsk_ends.specs.ServerStage.{keys_with, login_with};
-
-    /// The login of the user that GPSK-2 names, with its keys.
-    pub fn new(own: Initial, gpsk2: &Gpsk2, user: &User, keys: Keys) -> Login
-        requires name { length gpsk2.now.id_p.now ≤ max_name }
-        requires keys { keys ≡ keys_with own.side own.nonce gpsk2.now user.now }
-        ensures { result ≡ login_with own.side own.nonce gpsk2.now user.now }
-    {
-        Login {
-            own,
-            id_p: Octets::of(gpsk2.id_p),
-            psk: user.psk.copy(),
-            rand_p: gpsk2.rand_p,
-            keys,
-        }
-    }
 
     /// CSuite_Sel.
     pub fn suite(&self) -> Suite
         ensures { result ≡ self.now.suite }
     {
-        self.keys.suite()
+        self.added.keys.suite()
     }
 
     /// Whether a message, which the Type-Data encodes, has the MAC of the login.
@@ -170,7 +157,7 @@ impl Login {
         requires { IsReceived (message_of view.now) body.now }
         ensures { result ≡ is_tagged_by self.now (message_of view.now) }
     {
-        self.keys.is_tagged(view, body)
+        self.added.keys.is_tagged(view, body)
     }
 
     /// Leaves the record of the MAC of a message, which the Type-Data encodes, alone in `accepted`.
@@ -178,7 +165,7 @@ impl Login {
         requires { IsReceived (message_of view.now) body.now }
         ensures { accepted.new ≡ sk_record self.now.psk (message_of view.now) ∷ [] }
     {
-        record(accepted, view, body, &self.psk);
+        record(accepted, view, body, &self.added.psk);
     }
 
     /// Writes the Request with a message whose MAC is yet to come, with the MAC of the login.
@@ -195,8 +182,10 @@ impl Login {
         ensures record { made.new ≡ record_of self.now.suite (keys_of self.now).sk self.now.psk (without_mac (message_of view.now)) ∷ [] }
         ensures capacity { HasCapacity packet.new }
     {
-        self.keys
-            .seal(view, Code::Request, id, &self.psk, packet, made);
+        let psk = &self.added.psk;
+        self.added
+            .keys
+            .seal(view, Code::Request, id, psk, packet, made);
     }
 
     /// Writes GPSK-3 with its MAC, whose record is then alone in `made`.
@@ -205,9 +194,9 @@ impl Login {
         ensures record { made.new ≡ sk_record self.now.psk (gpsk3_of self.now) ∷ [] }
         ensures capacity { HasCapacity packet.new }
     {
-        let suite = self.keys.suite();
+        let suite = self.added.keys.suite();
         let open = GpskMessage::M3(Gpsk3 {
-            rand_p: self.rand_p,
+            rand_p: self.added.rand_p,
             rand_s: self.own.nonce,
             id_s: self.own.side.id_s.as_slice(),
             suite,
@@ -225,7 +214,7 @@ impl Login {
     {
         let open = GpskMessage::ProtectedFail {
             code: AUTHORIZATION_FAILURE,
-            mac: mac_place(self.keys.suite()),
+            mac: mac_place(self.added.keys.suite()),
         };
         self.seal(&open, id, packet, made);
     }
@@ -235,7 +224,7 @@ impl Login {
         ensures { result ≡ server_nonces_of self.now }
     {
         Nonces {
-            rand_p: self.rand_p,
+            rand_p: self.added.rand_p,
             rand_s: self.own.nonce,
         }
     }
@@ -247,11 +236,11 @@ impl Login {
     {
         Report {
             method: GPSK_KIND,
-            id_p: self.id_p.copy(),
+            id_p: self.added.id_p.copy(),
             id_s: self.own.side.id_s.copy(),
-            suite: self.keys.suite().number(),
-            msk: self.keys.msk(),
-            emsk: self.keys.emsk(),
+            suite: self.added.keys.suite().number(),
+            msk: self.added.keys.msk(),
+            emsk: self.added.keys.emsk(),
         }
     }
 }

@@ -14,14 +14,14 @@ ghost use Rattle.eap_method.specs.GpskServer.{barring_reads, checked_reads};
 ghost use Rattle.eap_method.specs.Capacity.{HasCapacity, requests};
 ghost use Rattle.eap_method.specs.Turns.{done, dropped};
 ghost use Rattle.gpsk_ends.specs.Classified.{IsReceived};
-ghost use Rattle.gpsk_ends.specs.ServerStage.{view_alone, view_in, view_of, outcome_with, reads_in};
+ghost use Rattle.gpsk_ends.specs.ServerStage.{view_alone, view_in, outcome_with, reads_in, login_of, IsConsistent};
 ghost use Rattle.gpsk_ends.specs.declared.server.stage.Alone.TheVariants.{Refusing};
 ghost use Rattle.gpsk_ends.specs.declared.server.stage.Phase.TheVariants.{Barring, Checked};
 
 use crate::receiving::receive;
 use crate::server::gpsk2::{PSK_NOT_FOUND, asked_reads};
-use crate::server::login::{AUTHORIZATION_FAILURE, Login};
-use crate::server::stage::{Alone, Phase, Stage};
+use crate::server::login::{AUTHORIZATION_FAILURE, Initial, Login};
+use crate::server::stage::{Added, Alone, Phase, Progress, Stage};
 use eap_method::{Records, ServerAnswer, Tags};
 use eap_packet::Cause;
 use gpsk_messages::GpskMessage;
@@ -31,13 +31,13 @@ use octet_lists::{Packet, Suite};
 /// The first Request of a server that has begun. Any other makes an empty packet, and stays as it is.
 #[tactic(auto, unfolding(eap_method::specs::GpskServer::first_step))]
 pub fn ask(stage: &mut Stage, id: u8, packet: &mut Packet)
-    ensures first { first_step (view_of stage.old) id ≡ record { packet = packet.new; after = view_of stage.new } }
-    ensures capacity { is_initiated (view_of stage.old) ≡ true → HasCapacity packet.new }
+    ensures first { first_step stage.old id ≡ record { packet = packet.new; after = stage.new } }
+    ensures capacity { is_initiated stage.old ≡ true → HasCapacity packet.new }
 {
-    match stage {
-        Stage::Alone { own, phase } => match phase {
+    match &mut stage.progress {
+        Progress::Alone { phase } => match phase {
             Alone::Initial => {
-                own.gpsk1(id, packet);
+                stage.own.gpsk1(id, packet);
                 *phase = Alone::Asked;
             }
             _ => packet.clear(),
@@ -162,19 +162,21 @@ fn idle_cause(suite: Option<Suite>, body: &[u8]) -> Cause
 
 /// The Type-Data at a server in a login.
 fn login_reads<R: Records>(
-    login: &Login,
+    own: &Initial,
+    added: &Added,
     phase: &mut Phase,
     body: &[u8],
     tags: &mut Tags<R>,
 ) -> ServerAnswer
-    requires { length body.now ≤ max_type_data }
-    ensures { (packet : List ℕ) →
-        outcome_with result packet tags.new (view_in login.now phase.new)
-        ≡ reads_in login.now phase.old (read_of (Some (ks_of login.now.suite)) body.now) }
+    requires size { length body.now ≤ max_type_data }
+    requires ready { IsConsistent own.now added.now }
+    ensures { (packet : List ℕ) → let login = login_of own.now added.now in
+        outcome_with result packet tags.new (view_in login phase.new) ≡ reads_in login phase.old (read_of (Some (ks_of login.suite)) body.now) }
 {
+    let login = Login { own, added };
     match phase {
-        Phase::Barring => barring_reads(login, phase, body, tags),
-        Phase::Checked => checked_reads(login, phase, body, tags),
+        Phase::Barring => barring_reads(&login, phase, body, tags),
+        Phase::Checked => checked_reads(&login, phase, body, tags),
         Phase::Over { .. } => ServerAnswer::Discard(idle_cause(Some(login.suite()), body)),
     }
 }
@@ -192,17 +194,25 @@ pub fn handle_response<R: Records>(
     requires header { 5 ≤ length response.now }
     requires size { length response.now ≤ max_packet }
     requires keys { All (λ user. IsTrue (is_valid_for user.kind user.psk)) users.now }
-    ensures turn { outcome_with result packet.new tags.new (view_of stage.new) ≡ step users.now next_id (view_of stage.old) response.now }
+    ensures turn { outcome_with result packet.new tags.new stage.new ≡ step users.now next_id stage.old response.now }
     ensures capacity { requests result ≡ true → HasCapacity packet.new }
 {
     let body = &response[5..];
-    match stage {
-        Stage::Unset => ServerAnswer::Discard(Cause::WrongOp),
-        Stage::Alone { phase, .. } => match phase {
-            Alone::Asked => asked_reads(stage, next_id, body, users, packet, tags),
+    match &mut stage.progress {
+        Progress::Unset => ServerAnswer::Discard(Cause::WrongOp),
+        Progress::Alone { phase } => match phase {
+            Alone::Asked => asked_reads(
+                &stage.own,
+                &mut stage.progress,
+                next_id,
+                body,
+                users,
+                packet,
+                tags,
+            ),
             Alone::Refusing => refusing_reads(body, phase, tags),
             Alone::Initial | Alone::Refused => ServerAnswer::Discard(idle_cause(None, body)),
         },
-        Stage::Login { login, phase } => login_reads(login, phase, body, tags),
+        Progress::Login { added, phase } => login_reads(&stage.own, added, phase, body, tags),
     }
 }
