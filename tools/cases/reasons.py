@@ -84,7 +84,7 @@ def files() -> Iterator[tuple[str, bytes, str, str]]:
         yield name, wire.pcap(framed(*items)), wanted, " ".join(KEYS[it].hex() if it in KEYS else it for it in given if it != "-")
     wrong = framed(*WRONG)
     broken = (STATION_FRAME, b"\1\0\0\x99" + BAD.gpsk2)
-    yield "a Failure in the middle of what is cut", wire.pcap(framed(*BAD.front, FAILURE, broken, BAD.gpsk3)), "fragment, unseen, forged end", key
+    yield "a Failure in the middle of what is cut", wire.pcap(framed(*BAD.front, FAILURE, broken, BAD.gpsk3)), "fragment, forged end", key
     yield "a frame that is shorter than it says", wire.pcap(framed(*BAD.front, broken, FAILURE)), "fragment, unseen", key
     odd_code = (STATION_FRAME, b"\1\0" + wire.sized(altered(GOOD.gpsk2, 0)))
     yield "a Code that a station doesn't send", wire.pcap(framed(*GOOD.front, odd_code, FAILURE)), "malformed, other side, made so", key

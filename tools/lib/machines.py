@@ -92,7 +92,7 @@ Way = tuple[World, list[Token]]
 class Tap:
     """What the place of capturing hides: whether a direction isn't captured, the numbers of the frames that are cut, whether
     frames are left out; whether frames have times; the numbers of those that no packet of the server brought; and the frames
-    around."""
+    around, and of each that one which is like it."""
 
     hides_server: bool = False
     hides_peer: bool = False
@@ -101,6 +101,7 @@ class Tap:
     has_times: bool = True
     alone: frozenset[int] = frozenset()
     frames: dict[int, Frame] = field(default_factory=dict)
+    alike: dict[int, Optional[Frame]] = field(default_factory=dict)
 
 
 def other_fields(later: Frame, earlier: Frame) -> str:
@@ -143,10 +144,12 @@ class Next:
 
     def alike(self) -> Optional[Frame]:
         """A frame near it, before or behind, of which it differs in few octets."""
-        f = self.frame
-        its = (self.tap.frames.get(at) for at in range(f.place - ALIKE, f.place + ALIKE) if at != f.place)
-        return next((it for it in its if it and it.is_down == f.is_down and it.id == f.id and is_near(it.octets, f.octets)
-                     and it.word not in MALFORMED), None)
+        f, found = self.frame, self.tap.alike
+        if f.place not in found:
+            its = (self.tap.frames.get(at) for at in range(f.place - ALIKE, f.place + ALIKE) if at != f.place)
+            found[f.place] = next((it for it in its if it and it.is_down == f.is_down and it.id == f.id and is_near(it.octets, f.octets)
+                                   and it.word not in MALFORMED), None)
+        return found[f.place]
 
     def token(self, name: str, *words: object) -> Token:
         return token(name, self.frame.place, *words)
@@ -209,7 +212,9 @@ class Next:
             was = self.before[0]
             yield world, [self.token("copy" if f.at - was.at > DOUBLED else "twice", was.number, self.since(was.at))]
         elif not self.before and self.is_over():
-            yield world, [self.token("stray")]
+            yield world, [self.token("stray", "the login")]
+        elif not self.before and self.is_late():
+            yield world, [self.token("stray", "an exchange")]
 
     def is_old(self) -> bool:
         """Whether a message of a method was here before, in this login or in one whose nonces didn't come again, so that it is no
@@ -228,11 +233,18 @@ class Next:
     def is_over(self) -> bool:
         """Whether a message is of a run that is over, though the capture doesn't have it before the end."""
         f, server = self.frame, self.server
-        its = [it for it in self.world.seen if it.turn >= self.world.begun and (it.stage or it.message == f.message)]
+        its = [it for it in self.world.seen if it.turn >= self.world.begun and not self.is_explained(it)
+               and (it.stage or (it.is_down, it.message) == (f.is_down, f.message))]
         is_asked = not f.is_down and bool(self.asked(f.id))
         is_early = f.stage in (1, 2, 3) or f.message == "Identity"
         return server.message in ENDS and is_early and not is_asked and (server.id - f.id) % 256 <= 2 and all(
             it.message != f.message and (not f.stage or it.is_of_run(f)) for it in its)
+
+    def is_late(self) -> bool:
+        """Whether a later message of the same run was here long before a message, though the capture doesn't have it before."""
+        f = self.frame
+        return f.stage > 0 and any(it.stage > f.stage and it.is_of_run(f) and (it.nonces or it.id == f.id) and f.at - it.at > ORDERED
+                                   for it in self.world.seen if it.turn >= self.world.begun)
 
     def is_other_reply(self, it: Frame) -> bool:
         """Whether a RADIUS packet is another reply than one with the same EAP packet."""
@@ -261,10 +273,12 @@ class Next:
         if server.octets and server.octets == f.octets and (f.radius or f.message not in ENDS):
             yield self.on, self.asked_again()
         is_reply = f.radius and f.radius.request and any(it.radius is f.radius.request for it in self.near(False, 3))
-        if server.place < 0 and (server.id, server.message) == (f.id, f.message) and f.message not in ENDS and (
-                is_reply or f.at - server.at >= TIMER):
-            yield self.on, self.asked_again()  # (the first of it isn't here)
-            return
+        if server.place < 0 and (server.id, server.message) == (f.id, f.message) and f.message not in ENDS:
+            if is_reply or f.at - server.at >= TIMER:
+                yield self.on, self.asked_again()  # (the first of it isn't here)
+                return
+            if self.is_late():
+                return
         if f.radius and f.radius.request and any(
                 it.radius and it.radius.request is f.radius.request and it.octets != f.octets for it in self.near(True)):
             yield self.world, [self.token("two-replies")]
@@ -364,7 +378,8 @@ class Next:
         fresh = self.anew(self.on.server)
         if server.is_idle:
             is_soon = server.message and (f.at - server.at < SOON or any(f.at - it.at < DOUBLED for it in self.before)) and not asked
-            yield fresh, [self.token("soon")] if is_soon else []
+            # (an Identifier that was used twice besides)
+            yield fresh, [token("soon", f.place, cost=6 if self.before and f.at - self.before[0].at < DOUBLED else None)] * bool(is_soon)
         elif self.before and (any(it.place == server.place for it in self.before) or f.at - self.before[0].at < DOUBLED):
             pass  # (it is that again)
         elif server.message == "Identity" and (not peer.message or peer.turn < server.turn):
@@ -372,9 +387,11 @@ class Next:
         elif asked:
             yield fresh, [token("restart-peer", asked[0].place)] * (asked[0].message == "Start")
         else:
-            yield fresh, [self.token("restart-server")]
+            # (what was restarted doesn't begin at once)
+            is_soon = server.message != "Identity" and f.at - server.at < SOON
+            yield fresh, [token("restart-server", f.place, cost=8 if is_soon else None)]
             if server.message != "Identity":
-                yield fresh, self.unseen("the end of the login before", True)
+                yield fresh, [*self.unseen("the end of the login before", True), *[self.token("soon")] * is_soon]
 
     def proposal(self) -> Iterator[Way]:
         """The first message of a method, or one of a method that isn't read here."""
@@ -410,7 +427,8 @@ class Next:
         missing: list[Token] = []
         if server.message not in FIRST or server.kind != f.kind:
             firsts = [it for it in self.near(True, 12) if it.stage == 1 and it.is_of_run(f)]
-            if any(it.turn < self.world.begun for it in firsts):
+            # (behind the end of a run no message of it is a new one)
+            if any(it.turn < self.world.begun or server.message in ENDS for it in firsts):
                 return
             if not firsts or server.message != "Notification":
                 missing = self.unseen(name_of(f.kind, 1), True)
@@ -684,7 +702,7 @@ class Next:
             yield from self.differing((fits or others)[0], bool(fits))
         elif f.nonces and any(it.stage == wanted and it.is_of_run(f) and it.id != f.id for it in self.near(True)):
             yield [self.token("altered", ": its Identifier isn't that of the Request whose nonces it has")], None
-        elif asked and asked[0].turn > self.world.begun:
+        elif asked and asked[0].turn > self.world.begun and not self.is_explained(asked[0]):
             yield [self.token("altered", f": the Request of its Identifier is {asked[0].read.name}")], None
         else:
             yield self.unseen_request(wanted)

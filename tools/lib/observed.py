@@ -8,6 +8,7 @@ import heapq
 import io
 from collections import deque
 from itertools import islice
+from operator import ne
 from typing import Iterable, Iterator, NamedTuple, Optional, Sequence, Union
 
 from lib import frames, packets
@@ -71,7 +72,7 @@ class Frame(NamedTuple):
 
 def is_near(one: bytes, other: bytes) -> bool:
     """Whether octets differ in few places."""
-    return len(one) == len(other) and 0 < sum(a != b for a, b in zip(one, other)) <= FEW
+    return len(one) == len(other) and 0 < sum(map(ne, one, other)) <= FEW
 
 
 def frame_of(place: int, number: int, is_down: bool, at: float, octets: bytes, radius: Optional[frames.Radius]) -> Frame:

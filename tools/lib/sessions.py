@@ -15,8 +15,9 @@ if TYPE_CHECKING:
     from lib.captures import Capture, Packets
 
 # How much earlier than its Request a reply may be captured, in seconds, how far back a Request may be for a reply that comes
-# from another address, the pause after which a Request whose State nobody gave begins a login, and how long a proxy may take.
-EARLY, BACK, PAUSE, PASSES = 0.012, 12, 30.0, 5.0
+# from another address, the pause after which a Request whose State nobody gave begins a login, how long a proxy may take, and
+# how much later than one reply another to the same Request may come, which was doubled.
+EARLY, BACK, PAUSE, PASSES, AGAIN = 0.012, 12, 30.0, 5.0, 1.0
 
 
 class Sessions:
@@ -27,6 +28,7 @@ class Sessions:
         self.joined = list(range(len(self.its)))
         self.requests: dict[object, int] = {}
         self.replies: dict[object, int] = {}
+        self.answered: dict[int, int] = {}
         self.same: dict[object, int] = {}
         self.states: dict[object, int] = {}
         self.latest: dict[object, int] = {}
@@ -85,7 +87,9 @@ class Sessions:
 
     def add_reply(self, at: int, it: frames.Radius) -> None:
         asked = self.requests.get(it.exchange)
-        if asked is not None:
+        first = at if asked is None else self.answered.setdefault(asked, at)
+        # (behind another reply it is one to a later Request of that Identifier, which isn't here)
+        if asked is not None and (self.its[first].octets == it.octets or self.at(at) - self.at(first) < AGAIN):
             it.request = self.its[asked]
             self.join(at, asked)
             return
@@ -99,7 +103,8 @@ class Sessions:
         def is_like(k: int) -> bool:
             return self.packets.octets[k][1:2] == identifier != b""
 
-        its = [k for k in back if self.its[k].is_request and self.its[k].source == it.to and self.its[k].octets[1] == it.octets[1]]
+        its = [k for k in back if self.its[k].is_request and self.its[k].source == it.to and self.its[k].octets[1] == it.octets[1]
+               and self.its[k].exchange != it.exchange]
         if not its and not it.get(frames.STATE):
             its = [k for k in back if self.its[k].is_request and self.its[k].source[0] == it.to[0] and is_like(k)]
             its += [k for k in back if not self.its[k].is_request and self.its[k].to[0] == it.to[0] and is_like(k)

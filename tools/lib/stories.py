@@ -68,8 +68,9 @@ class Login:
         if ends and all(it.at - ends[-1].at <= ORDERED for it in its[its.index(ends[-1]) :]):
             moved = {it.place for it in shown_tokens(self.found) if it.name == "order"}
             return ends[-1], ends[-1].place not in self.unsure | moved
-        last = next((it for it in reversed(self.frames) if it.message in ENDS and it.place in self.unsure), None)
-        if last and (self.may_be_sent(last) or its and last.place > its[-1].place):
+        doubtful = (it for it in reversed(self.frames) if it.message in ENDS and it.place in self.unsure)
+        last = next((it for it in doubtful if self.may_be_sent(it) or its and it.place > its[-1].place), None)
+        if last:
             return last, False
         return ends[-1] if ends and not self.found.is_firm else None, False
 

@@ -106,6 +106,7 @@ class Search:
         kept = {it.place for w in self.bases for it in (w.server, w.peer)}
         for it in [it for it in self.frames if it < at - MOST and it not in kept]:
             del self.frames[it]
+            self.tap.alike.pop(it, None)
 
     def cheapest(self, worlds: list[World]) -> list[World]:
         """The cheapest of each state, and of all; above a limit, and in what goes on and on, the best alone."""
