@@ -191,7 +191,7 @@ class Next:
         yield from self.again()
         facts, found = self.same_nonces()
         for then, tokens in self.of_server() if f.is_down else self.of_peer():
-            yield then._replace(facts=then.facts | facts), [*tokens, *found]
+            yield then._replace(facts=then.facts | facts) if facts else then, [*tokens, *found]
         yield from self.altered()
         # (a right MAC is made by who has the key: what is forged of it is of an earlier login)
         forged = token("forged", f.place, cost=12 if f.word == "tag-good" else None)
@@ -233,12 +233,12 @@ class Next:
     def is_over(self) -> bool:
         """Whether a message is of a run that is over, though the capture doesn't have it before the end."""
         f, server = self.frame, self.server
-        its = [it for it in self.world.seen if it.turn >= self.world.begun and not self.is_explained(it)
-               and (it.stage or (it.is_down, it.message) == (f.is_down, f.message))]
-        is_asked = not f.is_down and bool(self.asked(f.id))
         is_early = f.stage in (1, 2, 3) or f.message == "Identity"
-        return server.message in ENDS and is_early and not is_asked and (server.id - f.id) % 256 <= 2 and all(
-            it.message != f.message and (not f.stage or it.is_of_run(f)) for it in its)
+        if server.message not in ENDS or not is_early or (server.id - f.id) % 256 > 2 or not f.is_down and self.asked(f.id):
+            return False
+        its = (it for it in self.world.seen if it.turn >= self.world.begun and not self.is_explained(it)
+               and (it.stage or (it.is_down, it.message) == (f.is_down, f.message)))
+        return all(it.message != f.message and (not f.stage or it.is_of_run(f)) for it in its)
 
     def is_late(self) -> bool:
         """Whether a later message of the same run was here long before a message, though the capture doesn't have it before."""

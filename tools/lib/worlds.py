@@ -164,7 +164,8 @@ class Search:
         behind = self.frame(w.first + 1)
         if len(w.late) < BACK and behind is not None:
             late = self.chosen(w, [token("order", front.place, "early")])
-            yield from self.steps(passed(late, w.first)._replace(late=(*w.late, w.first)))
+            first, ahead = passed(w.first, w.ahead)
+            yield from self.steps(late._replace(first=first, ahead=ahead, late=(*w.late, w.first)))
 
     def chosen(self, w: World, tokens: Sequence[Token]) -> World:
         return w._replace(cost=w.cost + sum(it.cost for it in tokens), trail=(*w.trail, *tokens))
@@ -172,23 +173,25 @@ class Search:
     def advanced(self, w: World, it: Frame, way: Way) -> World:
         """The world behind a frame that came so."""
         then, tokens = way
-        new = self.chosen(then, tokens)._replace(seen=(*w.seen[-23:], it._replace(turn=w.turn)), turn=w.turn + 1)
-        if it.place in w.late:
-            new = new._replace(late=tuple(at for at in w.late if at != it.place))
-        elif it.place == w.first:
-            new = passed(new, it.place)
+        first, ahead, late = w.first, w.ahead, w.late
+        if it.place in late:
+            late = tuple(at for at in late if at != it.place)
+        elif it.place == first:
+            first, ahead = passed(first, ahead)
         else:
-            new = new._replace(ahead=(*w.ahead, it.place))
+            ahead = (*ahead, it.place)
+        new = then._replace(cost=w.cost + sum(it.cost for it in tokens), trail=(*w.trail, *tokens), turn=w.turn + 1, first=first,
+                            ahead=ahead, late=late, seen=(*w.seen[-23:], it._replace(turn=w.turn)))
         # (what it costs to begin is told of the login before, if there was one)
         return new._replace(begins=(*w.begins[1 - BEGINS :], new._replace(begins=()))) if new.begun == w.turn != w.begun else new
 
 
-def passed(w: World, at: int) -> World:
-    """A world whose next frame is the one behind this, and behind those taken ahead."""
-    first, ahead = at + 1, w.ahead
+def passed(at: int, ahead: tuple[int, ...]) -> tuple[int, tuple[int, ...]]:
+    """The next frame behind one, and behind those taken ahead; and which of these are behind it."""
+    first = at + 1
     while first in ahead:
         ahead, first = tuple(it for it in ahead if it != first), first + 1
-    return w._replace(first=first, ahead=ahead)
+    return first, ahead
 
 
 def silent(w: World, tap: Tap) -> list[Token]:
@@ -224,8 +227,8 @@ def grouped(worlds: dict[frozenset[Token], int]) -> tuple[list[Token], list[list
         ordered = sorted(costs, key=lambda it: (costs[it], len(it), sorted(it)))
         # (what says the same as another and more besides says no more of what may be)
         ordered = [it for it in ordered if not ordered[0] or not any(its and its < it for its in ordered)]
-        parted.append([sorted(it, key=lambda t: t.place) for it in ordered])
-    return sorted(best.difference(*groups), key=lambda t: t.place), parted
+        parted.append([sorted(it, key=lambda t: (t.place, t.name)) for it in ordered])
+    return sorted(best.difference(*groups), key=lambda t: (t.place, t.name)), parted
 
 
 def renamed(its: frozenset[Token], old: str, new: str) -> frozenset[Token]:
