@@ -391,7 +391,7 @@ class Next:
             is_soon = server.message != "Identity" and f.at - server.at < SOON
             yield fresh, [token("restart-server", f.place, cost=8 if is_soon else None)]
             if server.message != "Identity":
-                yield fresh, [*self.unseen("the end of the login before", True), *[self.token("soon")] * is_soon]
+                yield fresh, [*self.unseen("the end of the login before", True), *[self.token("soon")] * (is_soon and not self.is_cut())]
 
     def proposal(self) -> Iterator[Way]:
         """The first message of a method, or one of a method that isn't read here."""
