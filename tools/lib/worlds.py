@@ -89,7 +89,8 @@ class Search:
         least = shared[0]
         before = next((it.at for place in range(at - 1, at - 5, -1) if (it := self.frames.get(place)) and it.octets), 0.0)
         is_odd = bool(least.trail) and least.trail[-1].place >= at or self.frames[at].at - before < ORDERED
-        if least.cost and least.cost + (ODD if is_odd else ONE) > self.limit < TOO_MUCH:
+        # (those of one more have to have come as far)
+        if least.cost and max(least.cost + (ODD if is_odd else ONE), self.worlds[0].cost + ONE) > self.limit < TOO_MUCH:
             self.again()
             return
         if any(self.frames[it].octets for it in range(self.begin, at)):
