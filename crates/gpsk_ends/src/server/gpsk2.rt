@@ -240,8 +240,8 @@ pub fn asked_reads<R: Records>(
     ensures ready { IsReady own.now progress.new }
     ensures capacity { requests result ≡ true → HasCapacity packet.new }
 {
-    match receive(body, None) {
-        Err(cause) => ServerAnswer::Discard(cause),
-        Ok(view) => asked_receives(own, progress, next_id, &view, body, users, packet, tags),
+    match &receive(body, None) {
+        Err(cause) => ServerAnswer::Discard(*cause),
+        Ok(view) => asked_receives(own, progress, next_id, view, body, users, packet, tags),
     }
 }
