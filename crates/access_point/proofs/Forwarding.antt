@@ -10,21 +10,21 @@ pub record IsForwarding (vars : PassVariables) (to : Side) (out : PassAnswer) : 
   pub side : out.step.to ≡ to
   pub unchanged : out.step.sent ≡ None → out.after ≡ vars
 
-of-peer : (vars : PassVariables) (octets : List ℕ) (out : PassAnswer) → PassRow vars (from_peer octets) out → IsForwarding vars Server out
-of-peer vars octets _ (stays _ why) = elim why [ ]
-of-peer vars octets _ (drops_of_peer _ path c why) = record { side = refl; unchanged = λ _. refl }
-of-peer vars octets _ (passes_identity _ id body stands is_packet is_id) = record { side = refl; unchanged = λ none. cc none }
-of-peer vars octets _ (passes_response _ id kind body stands is_packet is_id) = record { side = refl; unchanged = λ none. cc none }
+of_peer : (vars : PassVariables) (octets : List ℕ) (out : PassAnswer) → PassRow vars (from_peer octets) out → IsForwarding vars Server out
+of_peer vars octets _ (stays _ why) = elim why [ ]
+of_peer vars octets _ (drops_of_peer _ path c why) = record { side = refl; unchanged = λ _. refl }
+of_peer vars octets _ (passes_identity _ id body stands is_packet is_id) = record { side = refl; unchanged = λ none. cc none }
+of_peer vars octets _ (passes_response _ id kind body stands is_packet is_id) = record { side = refl; unchanged = λ none. cc none }
 
-of-backend : (vars : PassVariables) (octets : List ℕ) (out : PassAnswer) → PassRow vars (from_backend octets) out → IsForwarding vars Peer out
-of-backend vars octets _ (stays _ why) = elim why [ ]
-of-backend vars octets _ (drops_of_server _ path c why) = record { side = refl; unchanged = λ _. refl }
-of-backend vars octets _ (passes_request _ id kind body stands is_packet) = record { side = refl; unchanged = λ none. cc none }
-of-backend vars octets _ (passes_success _ id stands is_packet) = record { side = refl; unchanged = λ none. cc none }
-of-backend vars octets _ (passes_failure _ id stands is_packet) = record { side = refl; unchanged = λ none. cc none }
+of_backend : (vars : PassVariables) (octets : List ℕ) (out : PassAnswer) → PassRow vars (from_backend octets) out → IsForwarding vars Peer out
+of_backend vars octets _ (stays _ why) = elim why [ ]
+of_backend vars octets _ (drops_of_server _ path c why) = record { side = refl; unchanged = λ _. refl }
+of_backend vars octets _ (passes_request _ id kind body stands is_packet) = record { side = refl; unchanged = λ none. cc none }
+of_backend vars octets _ (passes_success _ id stands is_packet) = record { side = refl; unchanged = λ none. cc none }
+of_backend vars octets _ (passes_failure _ id stands is_packet) = record { side = refl; unchanged = λ none. cc none }
 
 pub from_peer_forwards : (vars : PassVariables) (octets : List ℕ) → IsForwarding vars Server (pass_from_peer vars octets)
-from_peer_forwards vars octets = of-peer vars octets _ (pass_answers_are_rows vars (from_peer octets))
+from_peer_forwards vars octets = of_peer vars octets _ (pass_answers_are_rows vars (from_peer octets))
 
 pub from_backend_forwards : (vars : PassVariables) (octets : List ℕ) → IsForwarding vars Peer (pass_from_backend vars octets)
-from_backend_forwards vars octets = of-backend vars octets _ (pass_answers_are_rows vars (from_backend octets))
+from_backend_forwards vars octets = of_backend vars octets _ (pass_answers_are_rows vars (from_backend octets))

@@ -9,9 +9,9 @@ use Rattle.aes_block.proofs.Octets.{same_at}
 use Rattle.aes_block.proofs.Sbox.{get_or_S_BOX, times_three, sub_byte_lt}
 use Rattle.aes_block.proofs.Xor.{xor_pairs, xor_twice, xor_ends, by_bits_xor}
 
-pub plain-xor : (a b : ℕ) → plain (bit_xor a b) ≡ bit_xor (plain a) (plain b)
+pub plain_xor : (a b : ℕ) → plain (bit_xor a b) ≡ bit_xor (plain a) (plain b)
 unfolding plain
-plain-xor a b = by_bits_xor (0x60 ∷ 0xb6 ∷ 0x29 ∷ 0x08 ∷ 0xec ∷ 0xbc ∷ 0x51 ∷ 0xe0 ∷ []) a b
+plain_xor a b = by_bits_xor (0x60 ∷ 0xb6 ∷ 0x29 ∷ 0x08 ∷ 0xec ∷ 0xbc ∷ 0x51 ∷ 0xe0 ∷ []) a b
 
 plain_turned_test : map (λ b. plain (turned b)) octets ≡ map (λ b. b) octets
 unfolding plain turned look
@@ -25,8 +25,8 @@ plain_test : map (λ b. nat_lt (plain b) 256) octets ≡ map (λ _. true) octets
 unfolding plain
 plain_test = refl
 
-pub plain-lt : (b : ℕ) → b < 256 → plain b < 256
-plain-lt b h = ltb-true (plain b) 256 (same_at (λ b. nat_lt (plain b) 256) (λ _. true) b plain_test h)
+pub plain_lt : (b : ℕ) → b < 256 → plain b < 256
+plain_lt b h = ltb-true (plain b) 256 (same_at (λ b. nat_lt (plain b) 256) (λ _. true) b plain_test h)
 
 once_test : map (λ b. plain (once b)) octets ≡ map (λ b. bit_xor (get_or S_BOX (plain b) 0) 0x63) octets
 unfolding plain once looked first_place second_place first_sum second_sum look
@@ -36,7 +36,7 @@ once_test = refl
 pub plain_once : (b : ℕ) → b < 256 → plain (once b) ≡ bit_xor (sub_byte (plain b)) 0x63
 plain_once b h =
     same_at (λ b. plain (once b)) (λ b. bit_xor (get_or S_BOX (plain b) 0) 0x63) b once_test h
-    ∙ ap (λ s. bit_xor s 0x63) (get_or_S_BOX (plain b) (plain-lt b h))
+    ∙ ap (λ s. bit_xor s 0x63) (get_or_S_BOX (plain b) (plain_lt b h))
 
 twice_test : map (λ b. plain (twice b)) octets ≡ map (λ b. bit_xor (times 2 (get_or S_BOX (plain b) 0)) 0xc6) octets
 unfolding plain twice looked first_place second_place first_sum second_sum look times
@@ -46,7 +46,7 @@ twice_test = refl
 pub plain_twice : (b : ℕ) → b < 256 → plain (twice b) ≡ bit_xor (times 2 (sub_byte (plain b))) 0xc6
 plain_twice b h =
     same_at (λ b. plain (twice b)) (λ b. bit_xor (times 2 (get_or S_BOX (plain b) 0)) 0xc6) b twice_test h
-    ∙ ap (λ s. bit_xor (times 2 s) 0xc6) (get_or_S_BOX (plain b) (plain-lt b h))
+    ∙ ap (λ s. bit_xor (times 2 s) 0xc6) (get_or_S_BOX (plain b) (plain_lt b h))
 
 plain_box_test : map plain_box octets ≡ map (λ b. bit_xor (get_or S_BOX (plain b) 0) 0x63) octets
 unfolding plain plain_box looked first_place second_place first_sum second_sum look
@@ -56,7 +56,7 @@ plain_box_test = refl
 pub plain_box_is : (b : ℕ) → b < 256 → plain_box b ≡ bit_xor (sub_byte (plain b)) 0x63
 plain_box_is b h =
     same_at plain_box (λ b. bit_xor (get_or S_BOX (plain b) 0) 0x63) b plain_box_test h
-    ∙ ap (λ s. bit_xor s 0x63) (get_or_S_BOX (plain b) (plain-lt b h))
+    ∙ ap (λ s. bit_xor s 0x63) (get_or_S_BOX (plain b) (plain_lt b h))
 
 -- ---- a round
 
@@ -81,11 +81,11 @@ pub mixed_octet : (a b c d k : ℕ) → a < 256 → b < 256 → c < 256 → d < 
 unfolding mixed
 mixed_octet a b c d k ha hb hc hd =
     rw (
-      plain-xor (bit_xor (bit_xor (bit_xor (twice a) (once b)) (once d)) (bit_xor (twice b) (once c))) k,
-      plain-xor (bit_xor (bit_xor (twice a) (once b)) (once d)) (bit_xor (twice b) (once c)),
-      plain-xor (bit_xor (twice a) (once b)) (once d),
-      plain-xor (twice a) (once b),
-      plain-xor (twice b) (once c),
+      plain_xor (bit_xor (bit_xor (bit_xor (twice a) (once b)) (once d)) (bit_xor (twice b) (once c))) k,
+      plain_xor (bit_xor (bit_xor (twice a) (once b)) (once d)) (bit_xor (twice b) (once c)),
+      plain_xor (bit_xor (twice a) (once b)) (once d),
+      plain_xor (twice a) (once b),
+      plain_xor (twice b) (once c),
       plain_twice a ha,
       plain_once b hb,
       plain_once d hd,
@@ -114,5 +114,5 @@ turned_test : map (λ b. nat_lt (turned b) 256) octets ≡ map (λ _. true) octe
 unfolding turned look
 turned_test = refl
 
-pub turned-lt : (b : ℕ) → b < 256 → turned b < 256
-turned-lt b h = ltb-true (turned b) 256 (same_at (λ b. nat_lt (turned b) 256) (λ _. true) b turned_test h)
+pub turned_lt : (b : ℕ) → b < 256 → turned b < 256
+turned_lt b h = ltb-true (turned b) 256 (same_at (λ b. nat_lt (turned b) 256) (λ _. true) b turned_test h)

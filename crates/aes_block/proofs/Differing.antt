@@ -9,7 +9,7 @@ use Rattle.aes_block.specs.KeySchedule.{KeyWords, change_at, joined, key_words, 
 use Rattle.aes_block.specs.Cipher.{add_round_key, aes128, entry, mix_columns, mixed, rounds, shift_rows, state_of, sub_bytes}
 use Rattle.aes_block.specs.Turned.{all}
 use Rattle.aes_block.specs.declared.tables.TheConstants.{S_BOX}
-use Rattle.aes_block.proofs.Laws.{length-aes128}
+use Rattle.aes_block.proofs.Laws.{length_aes128}
 use Rattle.aes_block.proofs.Lanewise.{state_of_same}
 use Rattle.aes_block.proofs.Octets.{same_at}
 use Rattle.aes_block.proofs.Sbox.{get_or_S_BOX, sub_byte_lt}
@@ -258,7 +258,7 @@ encryptions_differ key one other is_key is_one is_other e = differ key (record {
 pub encryptions_are_blocks : EncryptionsAreBlocks
 unfolding aes128
 encryptions_are_blocks key block is_key = record {
-  whole = length-aes128 key block;
+  whole = length_aes128 key block;
   octets = (added (shift_rows (sub_bytes (rounds key block 9))) (round_key key 10)
       (shifted (sub_bytes (rounds key block 9)) (substituted (rounds key block 9)))
       (round_key_octets key (record { at = is_key.octets }) 10)).at;

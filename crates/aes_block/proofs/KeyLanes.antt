@@ -9,7 +9,7 @@ use Rattle.aes_block.specs.Cipher.{entry}
 use Rattle.aes_block.specs.Turned.{all, turned, plain_box, of_turned, of_last, each_column, columns_on, sums_of_two, sums_of_four}
 use Rattle.aes_block.specs.declared.key_schedule.TheConstants.{ROUND_CONSTANTS}
 use Rattle.aes_block.proofs.Sixteen.{spread, lane_bounded}
-use Rattle.aes_block.proofs.Basis.{turned_octet, substituted, turned-lt}
+use Rattle.aes_block.proofs.Basis.{turned_octet, substituted, turned_lt}
 use Rattle.aes_block.proofs.Xor.{xor_twice}
 use Rattle.aes_block.proofs.Lanewise.{state_of_same}
 use Rattle.aes_block.proofs.Schedule.{get_or_ROUND_CONSTANTS, change_at_first, next_key}
@@ -38,7 +38,7 @@ substituted_are o t p fits et ep =
     ∙ state_of_same (λ row column. bit_xor (plain_box (turned (entry o row column))) 0x63) (λ row column. sub_byte (entry o row column))
     (λ row column.
     let fit : entry o row column < 256 = lane_bounded o (row + 4 * column) fits in
-    substituted (entry o row column) fit (turned-lt (entry o row column) fit))
+    substituted (entry o row column) fit (turned_lt (entry o row column) fit))
 
 pub columns_added : (state one two : List ℕ) → length state ≡ 16 → one ≡ columns_on 1 state → two ≡ columns_on 2 (zip2 bit_xor state one)
     → zip2 bit_xor (zip2 bit_xor state one) two ≡ sums_of_four state

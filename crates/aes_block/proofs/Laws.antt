@@ -6,9 +6,9 @@ use Rattle.aes_block.specs.Field.{times, octets, inverse, InversesAreUnique}
 use Rattle.aes_block.specs.Cipher.{add_round_key, aes128}
 
 -- an encryption has sixteen octets
-pub length-aes128 : (key block : List ℕ) → length (aes128 key block) ≡ 16
+pub length_aes128 : (key block : List ℕ) → length (aes128 key block) ≡ 16
 unfolding aes128 add_round_key
-length-aes128 key block = refl
+length_aes128 key block = refl
 
 only_test : map (λ b. map (λ c. cond (eqb (times b c) 1) c (inverse b)) octets) octets ≡ map (λ b. map (λ _. inverse b) octets) octets
 unfolding times inverse

@@ -13,34 +13,34 @@ use Rattle.answer_text.specs.declared.pieces.Piece.{Piece}
 use Rattle.answer_text.specs.declared.pieces.Piece.TheVariants.{Text, Hex, Number, Leading, Line}
 use Rattle.answer_text.proofs.Fronts.{append_known_append, append_known_nil}
 
-text_before-append : (piece : Piece) (rest : List ℕ) → text_before piece rest ≡ text_of piece ++ rest
-text_before-append (Text octets) rest = refl
-text_before-append (Hex front octets) rest = sym (append_assoc front.now (hex_text octets.now) rest)
-text_before-append (Number front number) rest = sym (append_assoc front.now (decimal number) rest)
-text_before-append (Leading number octets) rest = sym (append_assoc (decimal number) octets.now rest)
-text_before-append (Line front number) rest =
+text_before_append : (piece : Piece) (rest : List ℕ) → text_before piece rest ≡ text_of piece ++ rest
+text_before_append (Text octets) rest = refl
+text_before_append (Hex front octets) rest = sym (append_assoc front.now (hex_text octets.now) rest)
+text_before_append (Number front number) rest = sym (append_assoc front.now (decimal number) rest)
+text_before_append (Leading number octets) rest = sym (append_assoc (decimal number) octets.now rest)
+text_before_append (Line front number) rest =
     sym (append_assoc front.now (decimal number) (codes "\n" ++ rest)) ∙ sym (append_assoc (front.now ++ decimal number) (codes "\n") rest)
 
-pub joined-drop : (pieces : List Piece) (i : ℕ) (d : Piece) → i < length pieces
+pub joined_drop : (pieces : List Piece) (i : ℕ) (d : Piece) → i < length pieces
     → text_of_pieces (drop i pieces) ≡ text_of (get_or pieces i d) ++ text_of_pieces (drop (i + 1) pieces)
-joined-drop pieces i d h = rw (add-one, drop-cons pieces i d h)
-    (text_before-append (get_or pieces i d) (text_of_pieces (drop (suc i) pieces)))
+joined_drop pieces i d h = rw (add-one, drop-cons pieces i d h)
+    (text_before_append (get_or pieces i d) (text_of_pieces (drop (suc i) pieces)))
 
 -- octets in hex, in two parts
-encoded-append : (xs ys : List ℕ) → encode_lower (xs ++ ys) ≡ encode_lower xs ++ encode_lower ys
+encoded_append : (xs ys : List ℕ) → encode_lower (xs ++ ys) ≡ encode_lower xs ++ encode_lower ys
 unfolding encode_with
-encoded-append [] ys = refl
-encoded-append (x ∷ xs) ys = rw (encoded-append xs ys) refl
+encoded_append [] ys = refl
+encoded_append (x ∷ xs) ys = rw (encoded_append xs ys) refl
 
-pub encoded-none : (octets : List ℕ) → length octets ≡ 0 → encode_lower octets ≡ []
+pub encoded_none : (octets : List ℕ) → length octets ≡ 0 → encode_lower octets ≡ []
 unfolding encode_with
-encoded-none [] e = refl
-encoded-none (x ∷ xs) e = absurd (omega arith)
+encoded_none [] e = refl
+encoded_none (x ∷ xs) e = absurd (omega arith)
 
-pub encoded-range : (rest : List ℕ) (n : ℕ) → encode_lower rest ≡ encode_lower (take n rest) ++ encode_lower (take (length rest - n) (drop n rest))
-encoded-range rest n =
+pub encoded_range : (rest : List ℕ) (n : ℕ) → encode_lower rest ≡ encode_lower (take n rest) ++ encode_lower (take (length rest - n) (drop n rest))
+encoded_range rest n =
     let all : take (length rest - n) (drop n rest) ≡ drop n rest = grind (arith, common_steps) in
-    rw all (ap encode_lower (sym (take-append-drop n rest)) ∙ encoded-append (take n rest) (drop n rest))
+    rw all (ap encode_lower (sym (take-append-drop n rest)) ∙ encoded_append (take n rest) (drop n rest))
 
 pub range : (rest : List ℕ) (n : ℕ) → rest ≡ take n rest ++ take (length rest - n) (drop n rest)
 range rest n =

@@ -10,7 +10,7 @@ use Rattle.text_tables.specs.declared.fault.LineFault.{LineFault}
 use Rattle.text_tables.specs.declared.phase.Phase.{Phase}
 use Rattle.text_tables.specs.declared.phase.Phase.TheVariants as phase
 use Rattle.request_text.proofs.CaptureSteps.{Follows, Header, Passed, NewUser, AllUsers, NewPacket, AllPackets, line_follows}
-use Rattle.text_tables.proofs.Adding.{with_user-all}
+use Rattle.text_tables.proofs.Adding.{with_user_all}
 use Rattle.capture_check.specs.Captured.{Captured}
 use Rattle.capture_check.specs.Finding.{finding_of}
 use Rattle.capture_check.specs.CaptureContext.{context_of}
@@ -69,7 +69,7 @@ module _ (users : List User) (before : List Captured) (findings : ℕ) where
   follows_alike _ _ (Passed p) h = record { alike = refl; orderly = h }
   follows_alike _ _ (NewUser user printable) h = record {
     alike = silent_alike (at phase.Settings) (record { phase = phase.Settings; users = with_user users user }) (no_packets users (with_user users user) before (h.early));
-    orderly = record { early = h.early; names = with_user-all (λ (u : User). is_printable u.name ≡ true) users user (h.names) printable };
+    orderly = record { early = h.early; names = with_user_all (λ (u : User). is_printable u.name ≡ true) users user (h.names) printable };
   }
   follows_alike _ _ AllUsers h = record { alike = refl; orderly = record { early = tt; names = h.names } }
   follows_alike _ _ (NewPacket to_peer octets) h = record {

@@ -9,25 +9,25 @@ use Rattle.std.proofs.lemmas.List.{take-append-drop}
 use Rattle.aes_block.specs.Cipher.{aes128}
 use Rattle.cmac_mac.specs.Cmac.{chain, inner_count, block_at, xor_blocks}
 use Rattle.cmac_mac.specs.Chained.{IsChained, IsInChain}
-use Rattle.cmac_mac.proofs.Lanes.{concat-chunks}
+use Rattle.cmac_mac.proofs.Lanes.{concat_chunks}
 
 -- the chain over the first n blocks reads only those
-pub chain-append : (key text more : List ℕ) (n : ℕ) → 16 * n ≤ length text → chain key (text ++ more) n ≡ chain key text n
+pub chain_append : (key text more : List ℕ) (n : ℕ) → 16 * n ≤ length text → chain key (text ++ more) n ≡ chain key text n
 unfolding chain
-chain-append key text more zero h = refl
-chain-append key text more (suc n) h =
+chain_append key text more zero h = refl
+chain_append key text more (suc n) h =
     let whole : 16 ≤ length (drop (16 * n) text) = omega (arith, length-drop (16 * n) text) in
     let block : block_at (text ++ more) n ≡ block_at text n =
     rw (drop-append-le (16 * n) text more (omega arith)) (take-append-le 16 (drop (16 * n) text) more whole) in
-    rw (block, chain-append key text more n (omega arith)) refl
+    rw (block, chain_append key text more n (omega arith)) refl
 
-chain-next : (key text : List ℕ) (n : ℕ) → chain key text (suc n) ≡ aes128 key (xor_blocks (chain key text n) (block_at text n))
+chain_next : (key text : List ℕ) (n : ℕ) → chain key text (suc n) ≡ aes128 key (xor_blocks (chain key text n) (block_at text n))
 unfolding chain
-chain-next key text n = refl
+chain_next key text n = refl
 
-chain-none : (key text : List ℕ) → chain key text 0 ≡ replicate 16 0
+chain_none : (key text : List ℕ) → chain key text 0 ≡ replicate 16 0
 unfolding chain
-chain-none key text = refl
+chain_none key text = refl
 
 -- a list that is split
 pub pieces : (text front end octets : List ℕ) (size : ℕ) → front ≡ take size octets → end ≡ drop size octets
@@ -37,7 +37,7 @@ pieces text front end octets size is_front is_end =
 
 -- nothing of a text
 pub accepted_none : (key : List ℕ) → IsInChain (replicate 16 0) (replicate 16 0) 0 key [] 0
-accepted_none key = record { chained = sym (chain-none key []); counted = refl; rest = refl }
+accepted_none key = record { chained = sym (chain_none key []); counted = refl; rest = refl }
 
 -- octets for which the block has room
 pub accepted_more : (value held now key text octets : List ℕ) (count size n : ℕ) → IsInChain value held count key text n
@@ -55,7 +55,7 @@ accepted_more value held now key text octets count size n before is_size room is
     ap (drop size) back ∙ drop-replicate size (16 - count) 0 ∙ ap (λ k. replicate k 0) (omega arith) in
     let grown : drop (16 * n) (text ++ octets) ≡ end ++ octets = drop-append-le (16 * n) text octets inside in
     record {
-      chained = before.chained ∙ sym (chain-append key text octets n inside);
+      chained = before.chained ∙ sym (chain_append key text octets n inside);
       counted = omega (arith, before.counted, length-append text octets);
       rest = is_now
           ∙ ap (λ l. l ++ (octets ++ drop size (drop count held))) front
@@ -73,12 +73,12 @@ chained_more value next key text block n before len is_next =
     let end : drop (16 * n) (text ++ block) ≡ block =
     drop-append-le (16 * n) text block (omega (arith, before.whole)) ∙ ap (λ l. l ++ block) none in
     let last : block_at (text ++ block) n ≡ block = ap (take 16) end ∙ take_all 16 block (omega arith) in
-    let same : value ≡ chain key (text ++ block) n = before.same ∙ sym (chain-append key text block n (omega (arith, before.whole))) in
+    let same : value ≡ chain key (text ++ block) n = before.same ∙ sym (chain_append key text block n (omega (arith, before.whole))) in
     record {
       same = is_next
           ∙ ap (λ v. aes128 key (xor_blocks v block)) same
           ∙ ap (λ b. aes128 key (xor_blocks (chain key (text ++ block) n) b)) (sym last)
-          ∙ sym (chain-next key (text ++ block) n)
+          ∙ sym (chain_next key (text ++ block) n)
           ∙ ap (chain key (text ++ block)) (sym e);
       whole = omega (arith, before.whole, length-append text block);
     }
@@ -96,7 +96,7 @@ chained_full value held next key text count n before full is_next =
       same = is_next
           ∙ ap (λ v. aes128 key (xor_blocks v held)) before.chained
           ∙ ap (λ b. aes128 key (xor_blocks (chain key text n) b)) last
-          ∙ sym (chain-next key text n)
+          ∙ sym (chain_next key text n)
           ∙ ap (chain key text) (sym e);
       whole = omega (arith, before.counted);
     }
@@ -130,7 +130,7 @@ pub chunks_consumed : (value key text front : List ℕ) (blocks : List (List ℕ
     → blocks ≡ first_chunks 16 (length front / 16) front → IsChained value key (text ++ concat blocks) n
     → IsInChain value (replicate 16 0) 0 key (text ++ front) n
 chunks_consumed value key text front blocks n whole are_chunks before =
-    let joined : concat blocks ≡ front = ap concat are_chunks ∙ concat-chunks (length front / 16) front (omega arith) in
+    let joined : concat blocks ≡ front = ap concat are_chunks ∙ concat_chunks (length front / 16) front (omega arith) in
     let P : List ℕ → Type 0 = λ l. IsInChain value (replicate 16 0) 0 key (text ++ l) n in
     subst P joined (consumed_whole value key (text ++ concat blocks) n before)
 
@@ -157,7 +157,7 @@ ends_consumed value held key text front end octets count size n so_far some with
 
 -- nothing of a text is in the chain
 pub chained_none : (key : List ℕ) → IsChained (replicate 16 0) key [] 0
-chained_none key = record { same = sym (chain-none key []); whole = refl }
+chained_none key = record { same = sym (chain_none key []); whole = refl }
 
 -- a text in one piece, of which all blocks before the last one are in the chain
 pub accepted_at_once : (value held key text front end : List ℕ) (blocks : List (List ℕ)) (n : ℕ) → front ≡ take (16 * inner_count text) text
@@ -169,7 +169,7 @@ accepted_at_once value held key text front end blocks n is_front is_end size are
     let whole : front ++ end ≡ text = pieces [] front end text (16 * inner_count text) is_front is_end in
     record {
       chained = so_far.chained
-          ∙ sym (chain-append key front end n (omega (arith, so_far.counted)))
+          ∙ sym (chain_append key front end n (omega (arith, so_far.counted)))
           ∙ ap (λ (l : List ℕ). chain key l n) whole
           ∙ ap (chain key text) count;
       counted = omega (arith, size, ap length whole, length-append front end);

@@ -20,9 +20,9 @@ zip2_block a b len_a len_b =
     (λ k h. get_or-zip2 bit_xor a b k 0 0 0 (omega arith) (omega arith) ∙ sym (get_or-map-range_with_len octet 0 16 k k 0 (omega arith) (omega arith)))
 
 -- the chunks of whole blocks, joined
-pub concat-chunks : (k : ℕ) (octets : List ℕ) → length octets ≡ 16 * k → concat (first_chunks 16 k octets) ≡ octets
-concat-chunks zero [] h = refl
-concat-chunks zero (x ∷ xs) h = absurd (omega arith)
-concat-chunks (suc k) octets h =
+pub concat_chunks : (k : ℕ) (octets : List ℕ) → length octets ≡ 16 * k → concat (first_chunks 16 k octets) ≡ octets
+concat_chunks zero [] h = refl
+concat_chunks zero (x ∷ xs) h = absurd (omega arith)
+concat_chunks (suc k) octets h =
     let rest : length (drop 16 octets) ≡ 16 * k = omega (arith, length-drop 16 octets) in
-    ap (λ l. take 16 octets ++ l) (concat-chunks k (drop 16 octets) rest) ∙ take-append-drop 16 octets
+    ap (λ l. take 16 octets ++ l) (concat_chunks k (drop 16 octets) rest) ∙ take-append-drop 16 octets

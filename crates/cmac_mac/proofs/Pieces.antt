@@ -7,16 +7,16 @@ use Rattle.std.proofs.lemmas.List.{take_all, take_more}
 abbrev pub joined : List (Bor (List ℕ)) → List ℕ
 joined pieces = concat (map (λ p. p.now) pieces)
 
-joined-append : (xs ys : List (Bor (List ℕ))) → joined (xs ++ ys) ≡ joined xs ++ joined ys
-joined-append [] ys = refl
-joined-append (x ∷ xs) ys = ap (λ l. x.now ++ l) (joined-append xs ys) ∙ sym (append_assoc x.now (joined xs) (joined ys))
+joined_append : (xs ys : List (Bor (List ℕ))) → joined (xs ++ ys) ≡ joined xs ++ joined ys
+joined_append [] ys = refl
+joined_append (x ∷ xs) ys = ap (λ l. x.now ++ l) (joined_append xs ys) ∙ sym (append_assoc x.now (joined xs) (joined ys))
 
 -- one piece more
 joined_more : (pieces : List (Bor (List ℕ))) (i : ℕ) (d : Bor (List ℕ)) → i < length pieces
     → joined (take (i + 1) pieces) ≡ joined (take i pieces) ++ (get_or pieces i d).now
 joined_more pieces i d h =
     ap joined (take_more pieces i d h)
-    ∙ joined-append (take i pieces) (get_or pieces i d ∷ [])
+    ∙ joined_append (take i pieces) (get_or pieces i d ∷ [])
     ∙ ap (λ l. joined (take i pieces) ++ l) (append-nil (get_or pieces i d).now)
 
 -- what holds of a text whose end is the pieces so far: before the first piece

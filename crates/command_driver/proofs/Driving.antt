@@ -20,20 +20,20 @@ pub made : {A B : Type 0} (f : A → B) (o : Option A) (y : B) → Some y ≡ op
 made f None y e = absurd cc
 made f (Some x) y e = record { from = x; is = refl; value = cc }
 
-or-true : (b : Bool) → (b || true) ≡ true
-or-true true = refl
-or-true false = refl
+or_true : (b : Bool) → (b || true) ≡ true
+or_true true = refl
+or_true false = refl
 
 module _ {C : Type 0} (took : C → List ℕ → LineResult C) (closing : C → Closing) (lacks : C → List ℕ → Bool) where
-  answer-line : (n : ℕ) (c : C) (l : List ℕ) (rest : Lines)
+  answer_line : (n : ℕ) (c : C) (l : List ℕ) (rest : Lines)
       → answer took closing n c (line l rest)
       ≡ after_text (took c l).text (after_ruling (n + 1) (took c l).ruling (answer took closing (n + 1) (took c l).after rest))
   unfolding answer
-  answer-line n c l rest = refl
+  answer_line n c l rest = refl
 
-  answer-ended : (n : ℕ) (c : C) → answer took closing n c ended ≡ closing_answer (n + 1) (closing c)
+  answer_ended : (n : ℕ) (c : C) → answer took closing n c ended ≡ closing_answer (n + 1) (closing c)
   unfolding answer
-  answer-ended n c = refl
+  answer_ended n c = refl
 
   answer_too_long : (n : ℕ) (c : C) → answer took closing n c too_long ≡ overlong (n + 1)
   unfolding answer
@@ -43,10 +43,10 @@ module _ {C : Type 0} (took : C → List ℕ → LineResult C) (closing : C → 
   unfolding answer
   answer_too_much n c = refl
 
-  lacking-line : (c : C) (l : List ℕ) (rest : Lines)
+  lacking_line : (c : C) (l : List ℕ) (rest : Lines)
       → lacking took lacks c (line l rest) ≡ (lacks c l || lacking_after (took c l).ruling (lacking took lacks (took c l).after rest))
   unfolding lacking
-  lacking-line c l rest = refl
+  lacking_line c l rest = refl
 
   -- after n lines the command is at the rest of the lines
   pub record Driving (before now : Option (List ℕ)) (begun : C) (all : Lines) (n : ℕ) (c : C) (rest : Lines) : Type 0 where
@@ -59,10 +59,10 @@ module _ {C : Type 0} (took : C → List ℕ → LineResult C) (closing : C → 
   driving_proceeds before mid now begun all n c new l rest d g = record {
     progress = record {
       front = d.progress.front ++ (took c l).text;
-      split = d.progress.split ∙ ap (after_text d.progress.front) (answer-line n c l rest) ∙ rw (g.ruling, g.after, append_assoc) refl;
+      split = d.progress.split ∙ ap (after_text d.progress.front) (answer_line n c l rest) ∙ rw (g.ruling, g.after, append_assoc) refl;
       appended = append_known_append before d.progress.front (took c l).text ∙ ap (λ k. append_known k (took c l).text) d.progress.appended ∙ g.text;
     };
-    memory = λ e. d.memory (lacking-line c l rest ∙ rw (g.ruling, g.after, e) (or-true (lacks c l)));
+    memory = λ e. d.memory (lacking_line c l rest ∙ rw (g.ruling, g.after, e) (or_true (lacks c l)));
   }
 
   -- a line is refused
@@ -70,14 +70,14 @@ module _ {C : Type 0} (took : C → List ℕ → LineResult C) (closing : C → 
       → Driving before mid begun all n c (line l rest) → Stops (took c l) mid now word s
       → Ends result now after (refusal (n + 1) word s) → Ends result before after (answer took closing 0 begun all)
   driving_stops before mid now after begun all n c l rest word s result d g w =
-      ends_progress result before mid after _ _ d.progress (rw (answer-line n c l rest, g.ruling) (ends_after result mid now after (took c l).text (refusal (n + 1) word s) g.text w))
+      ends_progress result before mid after _ _ d.progress (rw (answer_line n c l rest, g.ruling) (ends_after result mid now after (took c l).text (refusal (n + 1) word s) g.text w))
 
   -- the answer to a line is cut short
   pub driving_cut : (before mid now : Option (List ℕ)) (begun : C) (all : Lines) (n : ℕ) (c : C) (l : List ℕ) (rest : Lines)
       → Driving before mid begun all n c (line l rest) → WritesFront mid now (took c l).text
       → WritesFront before now (answer took closing 0 begun all).text
   driving_cut before mid now begun all n c l rest d w =
-      front_progress before mid now _ _ d.progress (rw (answer-line n c l rest) (front_first mid now (took c l).text _ w))
+      front_progress before mid now _ _ d.progress (rw (answer_line n c l rest) (front_first mid now (took c l).text _ w))
 
   -- nothing more is written
   pub driving_rests : (before now : Option (List ℕ)) (begun : C) (all : Lines) (n : ℕ) (c : C) (rest : Lines)
@@ -87,13 +87,13 @@ module _ {C : Type 0} (took : C → List ℕ → LineResult C) (closing : C → 
   -- memory is wanting at a line
   pub driving_lacks : (before now : Option (List ℕ)) (begun : C) (all : Lines) (n : ℕ) (c : C) (l : List ℕ) (rest : Lines)
       → Driving before now begun all n c (line l rest) → lacks c l ≡ true → lacking took lacks begun all ≡ true
-  driving_lacks before now begun all n c l rest d e = d.memory (lacking-line c l rest ∙ rw e refl)
+  driving_lacks before now begun all n c l rest d e = d.memory (lacking_line c l rest ∙ rw e refl)
 
   -- the end of the input
   pub driving_ends : (before mid now : Option (List ℕ)) (begun : C) (all : Lines) (n : ℕ) (c : C) (result : Status)
       → Driving before mid begun all n c ended → Ends result mid now (closing_answer (n + 1) (closing c))
       → Ends result before now (answer took closing 0 begun all)
-  driving_ends before mid now begun all n c result d w = ends_progress result before mid now _ _ d.progress (rw (answer-ended n c) w)
+  driving_ends before mid now begun all n c result d w = ends_progress result before mid now _ _ d.progress (rw (answer_ended n c) w)
 
   -- a line or the input is too long
   pub driving_too_long : (before mid now : Option (List ℕ)) (begun : C) (all : Lines) (n : ℕ) (c : C) (result : Status)

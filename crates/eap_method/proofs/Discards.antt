@@ -22,18 +22,18 @@ pub by_test : {A : Type 0} (P : A → Type 0) (test : Bool) (x y : A) → P x �
 by_test P true x y on_true on_false = on_true
 by_test P false x y on_true on_false = on_false
 
-pub discard-keeps : {V : Type 0} (view : V) (cause : Cause) → PeerPreserves view (discarded view cause)
-discard-keeps view cause = record { keeps = λ _ _. refl }
+pub discard_keeps : {V : Type 0} (view : V) (cause : Cause) → PeerPreserves view (discarded view cause)
+discard_keeps view cause = record { keeps = λ _ _. refl }
 
-pub reply-keeps : {V : Type 0} (view after : V) (packet : List ℕ) (state : MethodState) (decision : Decision) (accepted made : List TagRecord)
+pub reply_keeps : {V : Type 0} (view after : V) (packet : List ℕ) (state : MethodState) (decision : Decision) (accepted made : List TagRecord)
     → PeerPreserves view (replied after packet state decision accepted made)
-reply-keeps view after packet state decision accepted made = record { keeps = λ cause is_discard. cc is_discard }
+reply_keeps view after packet state decision accepted made = record { keeps = λ cause is_discard. cc is_discard }
 
-pub drop-keeps : {V : Type 0} (view : V) (cause : Cause) → ServerPreserves view (dropped view cause)
-drop-keeps view cause = record { keeps = λ _ _. refl }
+pub drop_keeps : {V : Type 0} (view : V) (cause : Cause) → ServerPreserves view (dropped view cause)
+drop_keeps view cause = record { keeps = λ _ _. refl }
 
-pub request-keeps : {V : Type 0} (view after : V) (packet : List ℕ) (accepted made : List TagRecord) → ServerPreserves view (requested after packet accepted made)
-request-keeps view after packet accepted made = record { keeps = λ cause is_discard. cc is_discard }
+pub request_keeps : {V : Type 0} (view after : V) (packet : List ℕ) (accepted made : List TagRecord) → ServerPreserves view (requested after packet accepted made)
+request_keeps view after packet accepted made = record { keeps = λ cause is_discard. cc is_discard }
 
-pub done-keeps : {V : Type 0} (view after : V) (success : Bool) (accepted : List TagRecord) → ServerPreserves view (done after success accepted)
-done-keeps view after success accepted = record { keeps = λ cause is_discard. cc is_discard }
+pub done_keeps : {V : Type 0} (view after : V) (success : Bool) (accepted : List TagRecord) → ServerPreserves view (done after success accepted)
+done_keeps view after success accepted = record { keeps = λ cause is_discard. cc is_discard }

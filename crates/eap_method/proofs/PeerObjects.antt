@@ -11,8 +11,8 @@ use Rattle.eap_method.specs.PeerTurn as answer
 use Rattle.eap_method.specs.PeerTurn.{PeerTurn}
 use Rattle.eap_method.specs.Peer.{kind_of, method_of, peer_methods, PeerShown, PeerViews, peer_kind, peer_kinds, peer_step, peer_turn, peer_report, peer_report_of, peer_views, view_of, peer_started_in, put, putting, turned, reported, first_of}
 use Rattle.eap_method.specs.Turns.{PeerOutcome}
-use Rattle.eap_method.proofs.Discards.{PeerPreserves, discard-keeps}
-use Rattle.eap_method.proofs.PeerViews.{step_method, step-keeps, started_method}
+use Rattle.eap_method.proofs.Discards.{PeerPreserves, discard_keeps}
+use Rattle.eap_method.proofs.PeerViews.{step_method, step_keeps, started_method}
 use Rattle.eap_method.proofs.Lists.{find_mapped}
 
 -- a step keeps the method, and so the Type
@@ -142,9 +142,9 @@ put_same kind s views found =
     ])
 
 turned_keeps : (kind : ℕ) (views : PeerViews) (octets : List ℕ) (found : Option PeerShown) → views kind ≡ found → PeerPreserves views (turned kind views octets found)
-turned_keeps kind views octets None is = discard-keeps _ _
+turned_keeps kind views octets None is = discard_keeps _ _
 turned_keeps kind views octets (Some s) is =
-    record { keeps = λ cause is_discard. ap (λ t. put kind t views) ((step-keeps s octets).keeps cause is_discard) ∙ put_same kind s views is }
+    record { keeps = λ cause is_discard. ap (λ t. put kind t views) ((step_keeps s octets).keeps cause is_discard) ∙ put_same kind s views is }
 
 turn_preserves : (kind : ℕ) (views : PeerViews) (octets : List ℕ) → PeerPreserves views (peer_turn kind views octets)
 unfolding peer_turn

@@ -23,9 +23,9 @@ preserves_of by_psk view octets = psk_discards.peer_preserves view octets
 preserves_of by_gpsk view octets = gpsk_discards.peer_preserves view octets
 preserves_of (by_other custom) view octets = record { keeps = custom.discards view octets }
 
-pub step-keeps : (s : PeerShown) (octets : List ℕ) → PeerPreserves s (peer_step s octets)
+pub step_keeps : (s : PeerShown) (octets : List ℕ) → PeerPreserves s (peer_step s octets)
 unfolding peer_step
-step-keeps s octets =
+step_keeps s octets =
     record {
       keeps = λ cause is_discard. ap (λ (view : View s.method). (let made : PeerShown = record { method = s.method; view = view } in made))
           ((preserves_of s.method s.view octets).keeps cause is_discard);
@@ -45,8 +45,8 @@ pub started_method : (setup : PeerSetup) (s : PeerShown) → method_of (peer_sta
 unfolding peer_started_in
 started_method setup s = cond_both (is_among setup.methods (peer_kind s)) _ _ (λ (t : PeerShown). method_of t ≡ method_of s) (λ _. refl) (λ _. refl)
 
-pub begun-kind : (setup : PeerSetup) (s : PeerShown) → peer_kind (peer_started_in setup s) ≡ peer_kind s
-begun-kind setup s = ap kind_of (started_method setup s)
+pub begun_kind : (setup : PeerSetup) (s : PeerShown) → peer_kind (peer_started_in setup s) ≡ peer_kind s
+begun_kind setup s = ap kind_of (started_method setup s)
 
 -- ---- the views of a list
 
@@ -70,8 +70,8 @@ found_started setup kind [] = refl
 found_started setup kind (s ∷ rest) =
     let rests = found_started setup kind rest in
     elim (cases_Bool (peer_kind s == kind)) [
-      | inl is ↦ rw (begun-kind setup s, is) refl
-      | inr is ↦ rw (begun-kind setup s, is) rests
+      | inl is ↦ rw (begun_kind setup s, is) refl
+      | inr is ↦ rw (begun_kind setup s, is) rests
     ]
 
 pub started_views : (setup : PeerSetup) (shown : List PeerShown)

@@ -14,9 +14,9 @@ use Rattle.eap_method.specs.ServerTurn as answer
 use Rattle.eap_method.specs.ServerTurn.{ServerTurn}
 use Rattle.eap_method.specs.Server.{kind_of, method_of, ServerShown, ServerViews, Offer, server_kind, server_methods, started_server, server_started_in, server_first_step, server_offer, server_step, server_turn, server_report, server_report_of, server_views, view_of, put, offering, offered, putting, turned, reported, first_of, server_kinds}
 use Rattle.eap_method.specs.Turns.{FirstOutcome, ServerOutcome, dropped}
-use Rattle.eap_method.proofs.Discards.{ServerPreserves, drop-keeps}
+use Rattle.eap_method.proofs.Discards.{ServerPreserves, drop_keeps}
 use Rattle.eap_method.proofs.Lists.{find_mapped}
-use Rattle.eap_method.proofs.ServerViews.{step_method, step-keeps, started_method, first_method, view_none}
+use Rattle.eap_method.proofs.ServerViews.{step_method, step_keeps, started_method, first_method, view_none}
 
 -- beginning, a first Request and a step keep the method, and so the Type
 pub started_methods : (setup : ServerSetup) (shown : List ServerShown) → server_methods (map (server_started_in setup) shown) ≡ server_methods shown
@@ -203,9 +203,9 @@ put_same kind s views found =
 
 turned_keeps : (users : List User) (next_id kind : ℕ) (views : ServerViews) (octets : List ℕ) (found : Option ServerShown) → views kind ≡ found
     → ServerPreserves views (turned users next_id kind views octets found)
-turned_keeps users next_id kind views octets None is = drop-keeps _ _
+turned_keeps users next_id kind views octets None is = drop_keeps _ _
 turned_keeps users next_id kind views octets (Some s) is =
-    record { keeps = λ cause is_discard. ap (λ t. put kind t views) ((step-keeps users next_id s octets).keeps cause is_discard) ∙ put_same kind s views is }
+    record { keeps = λ cause is_discard. ap (λ t. put kind t views) ((step_keeps users next_id s octets).keeps cause is_discard) ∙ put_same kind s views is }
 
 turn_preserves : (users : List User) (next_id kind : ℕ) (views : ServerViews) (octets : List ℕ) → ServerPreserves views (server_turn users next_id kind views octets)
 unfolding server_turn

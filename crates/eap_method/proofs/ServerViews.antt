@@ -40,9 +40,9 @@ preserves_of users next_id by_psk view octets = psk_discards.server_preserves us
 preserves_of users next_id by_gpsk view octets = gpsk_discards.server_preserves users next_id view octets
 preserves_of users next_id (by_other custom) view octets = record { keeps = custom.discards users next_id view octets }
 
-pub step-keeps : (users : List User) (next_id : ℕ) (s : ServerShown) (octets : List ℕ) → ServerPreserves s (server_step users next_id s octets)
+pub step_keeps : (users : List User) (next_id : ℕ) (s : ServerShown) (octets : List ℕ) → ServerPreserves s (server_step users next_id s octets)
 unfolding server_step
-step-keeps users next_id s octets =
+step_keeps users next_id s octets =
     record {
       keeps = λ cause is_discard. ap (λ (view : View s.method). (let made : ServerShown = record { method = s.method; view = view } in made))
           ((preserves_of users next_id s.method s.view octets).keeps cause is_discard);
@@ -66,8 +66,8 @@ pub started_method : (setup : ServerSetup) (s : ServerShown) → method_of (serv
 unfolding server_started_in
 started_method setup s = cond_both (is_among setup.methods (server_kind s)) _ _ (λ (t : ServerShown). method_of t ≡ method_of s) (λ _. refl) (λ _. refl)
 
-pub begun-kind : (setup : ServerSetup) (s : ServerShown) → server_kind (server_started_in setup s) ≡ server_kind s
-begun-kind setup s = ap kind_of (started_method setup s)
+pub begun_kind : (setup : ServerSetup) (s : ServerShown) → server_kind (server_started_in setup s) ≡ server_kind s
+begun_kind setup s = ap kind_of (started_method setup s)
 
 -- ---- the views of a list
 
@@ -81,8 +81,8 @@ found_started setup kind [] = refl
 found_started setup kind (s ∷ rest) =
     let rests = found_started setup kind rest in
     elim (cases_Bool (server_kind s == kind)) [
-      | inl is ↦ rw (begun-kind setup s, is) refl
-      | inr is ↦ rw (begun-kind setup s, is) rests
+      | inl is ↦ rw (begun_kind setup s, is) refl
+      | inr is ↦ rw (begun_kind setup s, is) rests
     ]
 
 pub started_views : (setup : ServerSetup) (shown : List ServerShown)

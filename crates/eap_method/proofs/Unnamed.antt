@@ -12,9 +12,9 @@ use Rattle.eap_method.proofs.PeerViews as peer
 use Rattle.eap_method.proofs.ServerViews as server
 
 -- one more element before two lists of which the same is left
-one-more : {X : Type 0} (passes : Bool) (x : X) (after before : List X) → after ≡ before → cond passes (x ∷ after) after ≡ cond passes (x ∷ before) before
-one-more true x after before same = ap (λ xs. x ∷ xs) same
-one-more false x after before same = same
+one_more : {X : Type 0} (passes : Bool) (x : X) (after before : List X) → after ≡ before → cond passes (x ∷ after) after ≡ cond passes (x ∷ before) before
+one_more true x after before same = ap (λ xs. x ∷ xs) same
+one_more false x after before same = same
 
 -- the first object is the one that is called
 pub peer_hit : (named : List ℕ) (kind : ℕ) (s after : PeerShown) (rest : List PeerShown) → peer_kind after ≡ peer_kind s → peer_kind s ≡ kind
@@ -32,13 +32,13 @@ pub peer_miss : (named : List ℕ) (s : PeerShown) (rest after : List PeerShown)
     → peers_unnamed named (s ∷ after) ≡ peers_unnamed named (s ∷ rest)
 unfolding peers_unnamed
 peer_miss named s rest after same =
-    let test : PeerShown → Bool = λ s. not (is_among named (peer_kind s)) in one-more (test s) s (filter test after) (filter test rest) same
+    let test : PeerShown → Bool = λ s. not (is_among named (peer_kind s)) in one_more (test s) s (filter test after) (filter test rest) same
 
 pub server_miss : (named : List ℕ) (s : ServerShown) (rest after : List ServerShown) → servers_unnamed named after ≡ servers_unnamed named rest
     → servers_unnamed named (s ∷ after) ≡ servers_unnamed named (s ∷ rest)
 unfolding servers_unnamed
 server_miss named s rest after same =
-    let test : ServerShown → Bool = λ s. not (is_among named (server_kind s)) in one-more (test s) s (filter test after) (filter test rest) same
+    let test : ServerShown → Bool = λ s. not (is_among named (server_kind s)) in one_more (test s) s (filter test after) (filter test rest) same
 
 -- each object of a method that is named begins
 pub peers_started : (setup : PeerSetup) (shown : List PeerShown)
@@ -47,7 +47,7 @@ peers_started setup [] = refl
 peers_started setup (s ∷ rest) =
     let after = map (peer_started_in setup) rest in
     elim (cases_Bool (is_among setup.methods (peer_kind s))) [
-      | inl is ↦ peer_hit setup.methods (peer_kind s) s (peer_started_in setup s) after (peer.begun-kind setup s) refl is
+      | inl is ↦ peer_hit setup.methods (peer_kind s) s (peer_started_in setup s) after (peer.begun_kind setup s) refl is
       | inr is ↦ ap (λ s. peers_unnamed setup.methods (s ∷ after)) (sym (peer.stays setup s is))
     ]
     ∙ peer_miss setup.methods s rest after (peers_started setup rest)
@@ -58,7 +58,7 @@ servers_started setup [] = refl
 servers_started setup (s ∷ rest) =
     let after = map (server_started_in setup) rest in
     elim (cases_Bool (is_among setup.methods (server_kind s))) [
-      | inl is ↦ server_hit setup.methods (server_kind s) s (server_started_in setup s) after (server.begun-kind setup s) refl is
+      | inl is ↦ server_hit setup.methods (server_kind s) s (server_started_in setup s) after (server.begun_kind setup s) refl is
       | inr is ↦ ap (λ s. servers_unnamed setup.methods (s ∷ after)) (sym (server.stays setup s is))
     ]
     ∙ server_miss setup.methods s rest after (servers_started setup rest)

@@ -8,7 +8,7 @@ use Rattle.octet_lists.specs.Among.{ietf}
 use Rattle.eap_packet.specs.Packet.{request, response, success, failure, IsPacket, AreTypedFields}
 use Rattle.eap_packet.specs.Expanded.{is_wrapped, inner_kind, inner_body}
 use Rattle.eap_packet.specs.Laws.{PlainIsPacket, WrapIsPacket}
-use Rattle.eap_packet.proofs.IsEncodingOf.{length-spelled}
+use Rattle.eap_packet.proofs.IsEncodingOf.{length_spelled}
 
 -- a wrapped packet has the Type inside, which is no Nak
 has_inner : (kind : ℕ) (body : List ℕ) → is_wrapped kind body ≡ true → 6 < length body
@@ -48,8 +48,8 @@ wrapped_fields id kind body p size = record {
 
 pub wrap_is_packet : WrapIsPacket
 wrap_is_packet (request id kind body) p fits =
-    (wrapped_fields id kind body p.0 (omega (arith, fits, length-spelled (request id kind body))), λ nak. absurd (omega (arith, nak)))
+    (wrapped_fields id kind body p.0 (omega (arith, fits, length_spelled (request id kind body))), λ nak. absurd (omega (arith, nak)))
 wrap_is_packet (response id kind body) p fits =
-    (wrapped_fields id kind body p.0 (omega (arith, fits, length-spelled (response id kind body))), λ nak. absurd (omega (arith, nak)))
+    (wrapped_fields id kind body p.0 (omega (arith, fits, length_spelled (response id kind body))), λ nak. absurd (omega (arith, nak)))
 wrap_is_packet (success id) p fits = p
 wrap_is_packet (failure id) p fits = p

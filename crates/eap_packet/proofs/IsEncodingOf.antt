@@ -27,12 +27,12 @@ encoding_from_front Response id kind size body t e =
 encoding_from_front Success id kind size body t e = absurd cc
 encoding_from_front Failure id kind size body t e = absurd cc
 
-pub length-spelled : (packet : PacketValue) → length (spelled packet) ≡ size_of packet
+pub length_spelled : (packet : PacketValue) → length (spelled packet) ≡ size_of packet
 unfolding spelled
-length-spelled (request id kind body) = omega arith
-length-spelled (response id kind body) = omega arith
-length-spelled (success id) = refl
-length-spelled (failure id) = refl
+length_spelled (request id kind body) = omega arith
+length_spelled (response id kind body) = omega arith
+length_spelled (success id) = refl
+length_spelled (failure id) = refl
 
 pub encoding_bounded : (packet : PacketValue) → IsPacket packet → length (spelled packet) ≤ 1500
 unfolding spelled

@@ -126,14 +126,14 @@ none_here firsts nonces marks octets some marked unmarked =
     none_of firsts (waits nonces marks) octets some (marked_waits firsts nonces marks marked) unmarked
 
 -- an octet more is marked
-marks_stay-by : (firsts : List Bool) (octet other : ℕ) (same : Bool) → Decides same (other ≡ octet) → octet < length firsts
+marks_stay_by : (firsts : List Bool) (octet other : ℕ) (same : Bool) → Decides same (other ≡ octet) → octet < length firsts
     → is_first firsts other ≡ true → is_first (set firsts octet true) other ≡ true
-marks_stay-by firsts octet other true same below was = rw (same.0 refl) (get_or-set_same firsts octet true false below)
-marks_stay-by firsts octet other false same below was =
+marks_stay_by firsts octet other true same below was = rw (same.0 refl) (get_or-set_same firsts octet true false below)
+marks_stay_by firsts octet other false same below was =
     get_or-set_other firsts octet other true false (λ e. false≢true (same.1 e)) ∙ was
 
 pub marks_stay : (firsts : List Bool) (octet other : ℕ) → octet < length firsts → is_first firsts other ≡ true → is_first (set firsts octet true) other ≡ true
-marks_stay firsts octet other below was = marks_stay-by firsts octet other (eqb other octet) (Decides-eqb other octet) below was
+marks_stay firsts octet other below was = marks_stay_by firsts octet other (eqb other octet) (Decides-eqb other octet) below was
 
 pub one_more_marked : (firsts after : List Bool) (nonces : List (List ℕ)) (i : ℕ) (d : List ℕ) → i < length nonces
     → length (get_or nonces i d) ≡ 32 → is_first after (slice_index (get_or nonces i d) 0) ≡ true

@@ -8,19 +8,19 @@ use Rattle.eapol_capture.specs.declared.reader.NextRecord.TheVariants.{End, CutF
 use Rattle.eapol_capture.specs.Files.{Contents, ends, record_of, number, missing, unless, records, all_records, max_frame, max_stored}
 
 -- what so many octets are missing for
-pub none-missing : (count room : ℕ) (octets : List ℕ) → count ≤ room → count ≤ length octets → missing count room octets ≡ None
-none-missing count room octets fits there =
+pub none_missing : (count room : ℕ) (octets : List ℕ) → count ≤ room → count ≤ length octets → missing count room octets ≡ None
+none_missing count room octets fits there =
     let yes : leb count (min room (length octets)) ≡ true = le-leb count (min room (length octets)) (omega arith) in
     rw yes refl
 
-pub cut-missing : (count room : ℕ) (octets : List ℕ) → length octets < count → length octets ≤ room → missing count room octets ≡ Some CutFile
-cut-missing count room octets few fits =
+pub cut_missing : (count room : ℕ) (octets : List ℕ) → length octets < count → length octets ≤ room → missing count room octets ≡ Some CutFile
+cut_missing count room octets few fits =
     let no : leb count (min room (length octets)) ≡ false = lt-leb count (min room (length octets)) (omega arith) in
     let short : ltb room (length octets) ≡ false = le-ltb room (length octets) fits in
     rw (no, short) refl
 
-pub past-missing : (count room : ℕ) (octets : List ℕ) → room < count → room < length octets → missing count room octets ≡ Some TooMuch
-past-missing count room octets much more =
+pub past_missing : (count room : ℕ) (octets : List ℕ) → room < count → room < length octets → missing count room octets ≡ Some TooMuch
+past_missing count room octets much more =
     let no : leb count (min room (length octets)) ≡ false = lt-leb count (min room (length octets)) (omega arith) in
     let long : ltb room (length octets) ≡ true = lt-ltb room (length octets) more in
     rw (no, long) refl
@@ -68,37 +68,37 @@ first_is order room (x ∷ rest) some =
     let next = enough (length rest) (length (drop whole (x ∷ rest))) order (room - whole) (drop whole (x ∷ rest)) fewer (omega arith) in
     from_suc order room x rest (length rest) ∙ ap (first order room (x ∷ rest)) next
 
-pub no-records : (order : OctetOrder) (room : ℕ) → all_records order room [] ≡ ends 0 End
-no-records order room = from_nil order room 0
+pub no_records : (order : OctetOrder) (room : ℕ) → all_records order room [] ≡ ends 0 End
+no_records order room = from_nil order room 0
 
-pub stops-early : (order : OctetOrder) (room : ℕ) (octets : List ℕ) (answer : NextRecord) → 0 < length octets → missing 12 room octets ≡ Some answer →
+pub stops_early : (order : OctetOrder) (room : ℕ) (octets : List ℕ) (answer : NextRecord) → 0 < length octets → missing 12 room octets ≡ Some answer →
     all_records order room octets ≡ ends 1 answer
 unfolding first
-stops-early order room octets answer some is = first_is order room octets some ∙ rw is refl
+stops_early order room octets answer some is = first_is order room octets some ∙ rw is refl
 
-pub bad-record : (order : OctetOrder) (room : ℕ) (octets : List ℕ) (size : ℕ) → size ≡ number order (take 4 (drop 8 octets)) → 12 ≤ room →
+pub bad_record : (order : OctetOrder) (room : ℕ) (octets : List ℕ) (size : ℕ) → size ≡ number order (take 4 (drop 8 octets)) → 12 ≤ room →
     12 ≤ length octets → max_frame < size → all_records order room octets ≡ ends 1 BadRecord
 unfolding first size_in
-bad-record order room octets size is fits there long =
-    let none = none-missing 12 room octets fits there in
+bad_record order room octets size is fits there long =
+    let none = none_missing 12 room octets fits there in
     let over : ltb max_frame (number order (take 4 (drop 8 octets))) ≡ true = lt-ltb max_frame (number order (take 4 (drop 8 octets))) (rw is at long) in
     first_is order room octets (omega arith) ∙ rw (none, over) refl
 
-pub stops-late : (order : OctetOrder) (room : ℕ) (octets : List ℕ) (size : ℕ) (answer : NextRecord) → size ≡ number order (take 4 (drop 8 octets)) →
+pub stops_late : (order : OctetOrder) (room : ℕ) (octets : List ℕ) (size : ℕ) (answer : NextRecord) → size ≡ number order (take 4 (drop 8 octets)) →
     12 ≤ room → 12 ≤ length octets → size ≤ max_frame → missing (16 + size) room octets ≡ Some answer → all_records order room octets ≡ ends 1 answer
 unfolding first size_in
-stops-late order room octets size answer is fits there short stops =
-    let none = none-missing 12 room octets fits there in
+stops_late order room octets size answer is fits there short stops =
+    let none = none_missing 12 room octets fits there in
     let within : ltb max_frame (number order (take 4 (drop 8 octets))) ≡ false = le-ltb max_frame (number order (take 4 (drop 8 octets))) (rw is at short) in
     let late : missing (16 + number order (take 4 (drop 8 octets))) room octets ≡ Some answer = rw is at stops in
     first_is order room octets (omega arith) ∙ rw (none, within, late) refl
 
-pub one-record : (order : OctetOrder) (room : ℕ) (octets : List ℕ) (size : ℕ) → size ≡ number order (take 4 (drop 8 octets)) → size ≤ max_frame →
+pub one_record : (order : OctetOrder) (room : ℕ) (octets : List ℕ) (size : ℕ) → size ≡ number order (take 4 (drop 8 octets)) → size ≤ max_frame →
     16 + size ≤ room → 16 + size ≤ length octets →
     all_records order room octets ≡ record_of (take max_stored (take size (drop 16 octets))) (all_records order (room - (16 + size)) (drop (16 + size) octets))
 unfolding first size_in
-one-record order room octets size is short fits there =
-    let none = none-missing 12 room octets (omega arith) (omega arith) in
+one_record order room octets size is short fits there =
+    let none = none_missing 12 room octets (omega arith) (omega arith) in
     let within : ltb max_frame (number order (take 4 (drop 8 octets))) ≡ false = le-ltb max_frame (number order (take 4 (drop 8 octets))) (rw is at short) in
-    let late : missing (16 + number order (take 4 (drop 8 octets))) room octets ≡ None = rw is at (none-missing (16 + size) room octets fits there) in
+    let late : missing (16 + number order (take 4 (drop 8 octets))) room octets ≡ None = rw is at (none_missing (16 + size) room octets fits there) in
     first_is order room octets (omega arith) ∙ rw (none, within, late, is) refl

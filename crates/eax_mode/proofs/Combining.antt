@@ -6,16 +6,16 @@ use Rattle.std.proofs.lemmas.List.{take-append-drop}
 use Rattle.eax_mode.specs.Eax.{combined}
 
 -- nothing to combine with
-pub combined-nil : (xs : List ℕ) → combined xs [] ≡ xs
+pub combined_nil : (xs : List ℕ) → combined xs [] ≡ xs
 unfolding combined
-combined-nil [] = refl
-combined-nil (x ∷ xs) = refl
+combined_nil [] = refl
+combined_nil (x ∷ xs) = refl
 
-pub length-combined : (xs ys : List ℕ) → length (combined xs ys) ≡ length xs
+pub length_combined : (xs ys : List ℕ) → length (combined xs ys) ≡ length xs
 unfolding combined
-length-combined [] ys = refl
-length-combined (x ∷ xs) [] = refl
-length-combined (x ∷ xs) (y ∷ ys) = ap suc (length-combined xs ys)
+length_combined [] ys = refl
+length_combined (x ∷ xs) [] = refl
+length_combined (x ∷ xs) (y ∷ ys) = ap suc (length_combined xs ys)
 
 -- an octet combined twice with the same one
 pub xor_twice : (x y : ℕ) → bit_xor (bit_xor x y) y ≡ x
@@ -33,7 +33,7 @@ combined_suc : (xs ys : List ℕ) (i : ℕ) → i < length xs → i < length ys
 unfolding combined
 combined_suc [] ys i h k = absurd (omega arith)
 combined_suc (x ∷ xs) [] i h k = absurd (omega arith)
-combined_suc (x ∷ xs) (y ∷ ys) zero h k = ap (λ l. bit_xor x y ∷ l) (sym (combined-nil xs))
+combined_suc (x ∷ xs) (y ∷ ys) zero h k = ap (λ l. bit_xor x y ∷ l) (sym (combined_nil xs))
 combined_suc (x ∷ xs) (y ∷ ys) (suc i) h k =
     ap (λ l. bit_xor x y ∷ l) (combined_suc xs ys i (omega arith) (omega arith))
 
@@ -54,20 +54,20 @@ combined_all (x ∷ xs) [] (suc i) h = refl
 combined_all (x ∷ xs) (y ∷ ys) (suc i) h = ap (λ l. bit_xor x y ∷ l) (combined_all xs ys i (omega arith))
 
 -- a part that reaches as far as the second list or to the end
-pub combined-take : (xs ys : List ℕ) (n : ℕ) → min (length ys) (length xs) ≤ n
+pub combined_take : (xs ys : List ℕ) (n : ℕ) → min (length ys) (length xs) ≤ n
     → combined (take n xs) ys ++ drop n xs ≡ combined xs ys
 unfolding combined
-combined-take xs [] n h =
-    ap (λ l. l ++ drop n xs) (combined-nil (take n xs)) ∙ take-append-drop n xs ∙ sym (combined-nil xs)
-combined-take [] (y ∷ ys) zero h = refl
-combined-take [] (y ∷ ys) (suc n) h = refl
-combined-take (x ∷ xs) (y ∷ ys) zero h = absurd (omega arith)
-combined-take (x ∷ xs) (y ∷ ys) (suc n) h = ap (λ l. bit_xor x y ∷ l) (combined-take xs ys n (omega arith))
+combined_take xs [] n h =
+    ap (λ l. l ++ drop n xs) (combined_nil (take n xs)) ∙ take-append-drop n xs ∙ sym (combined_nil xs)
+combined_take [] (y ∷ ys) zero h = refl
+combined_take [] (y ∷ ys) (suc n) h = refl
+combined_take (x ∷ xs) (y ∷ ys) zero h = absurd (omega arith)
+combined_take (x ∷ xs) (y ∷ ys) (suc n) h = ap (λ l. bit_xor x y ∷ l) (combined_take xs ys n (omega arith))
 
 -- to combine with joined lists: what the first reaches, and the rest with the second
-pub combined-append : (xs ys zs : List ℕ)
+pub combined_append : (xs ys zs : List ℕ)
     → take (length ys) (combined xs ys) ++ combined (drop (length ys) (combined xs ys)) zs ≡ combined xs (ys ++ zs)
 unfolding combined
-combined-append xs [] zs = ap (λ l. combined l zs) (combined-nil xs)
-combined-append [] (y ∷ ys) zs = refl
-combined-append (x ∷ xs) (y ∷ ys) zs = ap (λ l. bit_xor x y ∷ l) (combined-append xs ys zs)
+combined_append xs [] zs = ap (λ l. combined l zs) (combined_nil xs)
+combined_append [] (y ∷ ys) zs = refl
+combined_append (x ∷ xs) (y ∷ ys) zs = ap (λ l. bit_xor x y ∷ l) (combined_append xs ys zs)

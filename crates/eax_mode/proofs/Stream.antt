@@ -5,7 +5,7 @@ use Rattle.std.specs.Int.{div_ceil}
 use Rattle.std.proofs.lemmas.List.{append-nil}
 use Rattle.std.proofs.lemmas.List.Concat.{flat_map-append}
 use Rattle.eax_mode.specs.Eax.{combined, counter_mode, key_stream, stream_block}
-use Rattle.eax_mode.proofs.Combining.{combined-append, combined-nil, combined-take, combined_twice, length-combined}
+use Rattle.eax_mode.proofs.Combining.{combined_append, combined_nil, combined_take, combined_twice, length_combined}
 
 range_push : (a n : ℕ) → range_with_len a (suc n) ≡ range_with_len a n ++ (a + n) ∷ []
 range_push a zero = ap (λ k. k ∷ []) (sym (add-zero a))
@@ -37,7 +37,7 @@ pub record IsCombinedFor (key : List ℕ) (start n : ℕ) (before now : List ℕ
 -- before the first block
 pub combined_none : (key : List ℕ) (start : ℕ) (text : List ℕ) → IsCombinedFor key start 0 text text
 combined_none key start text = record {
-  same = sym (ap (combined text) (key_stream_zero key start) ∙ combined-nil text);
+  same = sym (ap (combined text) (key_stream_zero key start) ∙ combined_nil text);
   whole = ap length (key_stream_zero key start);
 }
 
@@ -54,14 +54,14 @@ combined_block key start n size before now block part so_far is_block whole room
     let rest_len : length rest ≡ length now - 16 * n = length-drop (16 * n) now in
     let reach : min (length block) (length rest) ≤ size = omega arith in
     let joined : part ++ drop size rest ≡ combined rest block =
-    ap (λ l. l ++ drop size rest) is_part ∙ combined-take rest block size reach in
+    ap (λ l. l ++ drop size rest) is_part ∙ combined_take rest block size reach in
     let grown : key_stream key start (n + 1) ≡ stream ++ block =
     key_stream_more key start n ∙ ap (λ l. stream ++ l) (sym is_block) in
     record {
       same = ap (λ l. take (16 * n) now ++ l) joined
           ∙ ap (λ l. take (16 * n) l ++ combined (drop (16 * n) l) block) so_far.same
           ∙ ap (λ m. take m (combined before stream) ++ combined (drop m (combined before stream)) block) (sym so_far.whole)
-          ∙ combined-append before stream block
+          ∙ combined_append before stream block
           ∙ ap (combined before) (sym grown);
       whole =
           let sum : length (key_stream key start (n + 1)) ≡ length stream + length block =
@@ -75,5 +75,5 @@ pub counter_mode_twice : (key : List ℕ) (start : ℕ) (text : List ℕ)
 unfolding counter_mode
 counter_mode_twice key start text =
     let stream : ℕ → List ℕ = λ n. key_stream key start (div_ceil n 16) in
-    ap (λ n. combined (combined text (stream (length text))) (stream n)) (length-combined text (stream (length text)))
+    ap (λ n. combined (combined text (stream (length text))) (stream n)) (length_combined text (stream (length text)))
     ∙ combined_twice text (stream (length text))

@@ -29,8 +29,8 @@ pub record PrefixedBy (octets text rest : List ℕ) : Type 0 where
   pub parts : octets ≡ text ++ rest
   pub rest_small : IsOctets rest
 
-pub PrefixedBy-then : {a x b y c : List ℕ} → PrefixedBy a x b → PrefixedBy b y c → PrefixedBy a (x ++ y) c
-PrefixedBy-then {a} {x} {b} {y} {c} p q = record {
+pub PrefixedBy_then : {a x b y c : List ℕ} → PrefixedBy a x b → PrefixedBy b y c → PrefixedBy a (x ++ y) c
+PrefixedBy_then {a} {x} {b} {y} {c} p q = record {
   parts = p.parts ∙ ap (λ (t : List ℕ). x ++ t) q.parts ∙ sym (append_assoc x y c);
   rest_small = q.rest_small;
 }

@@ -8,7 +8,7 @@ use Rattle.octet_lists.specs.Suite.{suite_octets}
 use Rattle.eap_packet.specs.Packet.{IsOctets}
 use Rattle.gpsk_messages.specs.Message.{Message, gpsk1, gpsk2, gpsk3, gpsk4, fail, protected_fail, op_code, field_with_length, covered_of, without_mac, AreFields}
 use Rattle.gpsk_messages.specs.Reading.{and_then, gpsk1_at, gpsk2_at, gpsk3_at, gpsk4_at, fail_at, protected_fail_at, fields_at}
-use Rattle.gpsk_messages.proofs.FieldLaws.{step_of, step_again, PrefixedBy-then, exact_consumes, sized_consumes, identity_consumes, suites_consume, suite_consumes, code_consumes, exact_again, sized_again, identity_again, suites_again, suite_again, code_again}
+use Rattle.gpsk_messages.proofs.FieldLaws.{step_of, step_again, PrefixedBy_then, exact_consumes, sized_consumes, identity_consumes, suites_consume, suite_consumes, code_consumes, exact_again, sized_again, identity_again, suites_again, suite_again, code_again}
 
 -- what is read behind an OP-Code: the fields of a message, within their limits
 pub record ConsumesFields (code : ℕ) (octets : List ℕ) (x : Message × List ℕ) : Type 0 where
@@ -25,7 +25,7 @@ gpsk1_consumes octets x small e =
     let t0 = identity_consumes octets id_s.0 small id_s.1 in
     let t1 = exact_consumes 32 id_s.0.1 rand_s.0 t0.0.rest_small rand_s.1 in
     let t2 = suites_consume rand_s.0.1 list.0 t1.0.rest_small list.1 in
-    let joined = PrefixedBy-then t0.0 (PrefixedBy-then t1.0 t2.0) in
+    let joined = PrefixedBy_then t0.0 (PrefixedBy_then t1.0 t2.0) in
     let found : Message × List ℕ = (gpsk1 id_s.0.0 rand_s.0.0 list.0.0, list.0.1) in
     subst (ConsumesFields 1 octets) {x = found} (same_Some found x list.2) (record { op = refl {a = 1}; fields = (t0.1, t1.1, t2.1); parts = joined.parts })
 
@@ -46,7 +46,7 @@ gpsk2_consumes octets x small e =
     let t4 = suites_consume rand_s.0.1 list.0 t3.0.rest_small list.1 in
     let t5 = suite_consumes list.0.1 suite.0 t4.0.rest_small suite.1 in
     let t6 = sized_consumes suite.0.1 pd.0 t5.rest_small pd.1 in
-    let joined = PrefixedBy-then t0.0 (PrefixedBy-then t1.0 (PrefixedBy-then t2.0 (PrefixedBy-then t3.0 (PrefixedBy-then t4.0 (PrefixedBy-then t5 t6.0))))) in
+    let joined = PrefixedBy_then t0.0 (PrefixedBy_then t1.0 (PrefixedBy_then t2.0 (PrefixedBy_then t3.0 (PrefixedBy_then t4.0 (PrefixedBy_then t5 t6.0))))) in
     let found : Message × List ℕ = (gpsk2 id_p.0.0 id_s.0.0 rand_p.0.0 rand_s.0.0 list.0.0 suite.0.0 pd.0.0 [], pd.0.1) in
     subst (ConsumesFields 2 octets) {x = found} (same_Some found x pd.2) (record { op = refl {a = 2}; fields = (t0.1, t1.1, t2.1, t3.1, t4.1, t6.1); parts = joined.parts })
 
@@ -63,7 +63,7 @@ gpsk3_consumes octets x small e =
     let t2 = identity_consumes rand_s.0.1 id_s.0 t1.0.rest_small id_s.1 in
     let t3 = suite_consumes id_s.0.1 suite.0 t2.0.rest_small suite.1 in
     let t4 = sized_consumes suite.0.1 pd.0 t3.rest_small pd.1 in
-    let joined = PrefixedBy-then t0.0 (PrefixedBy-then t1.0 (PrefixedBy-then t2.0 (PrefixedBy-then t3 t4.0))) in
+    let joined = PrefixedBy_then t0.0 (PrefixedBy_then t1.0 (PrefixedBy_then t2.0 (PrefixedBy_then t3 t4.0))) in
     let found : Message × List ℕ = (gpsk3 rand_p.0.0 rand_s.0.0 id_s.0.0 suite.0.0 pd.0.0 [], pd.0.1) in
     subst (ConsumesFields 3 octets) {x = found} (same_Some found x pd.2) (record { op = refl {a = 3}; fields = (t0.1, t1.1, t2.1, t4.1); parts = joined.parts })
 

@@ -10,8 +10,8 @@ range_push a (suc n) =
     let e : a + 1 + n ≡ a + suc n = omega arith in
     ap (λ l. a ∷ l) (range_push (a + 1) n) ∙ ap (λ k. a ∷ range_with_len (a + 1) n ++ k ∷ []) e
 
-zero-mul : (size : ℕ) → 0 * size ≡ 0
-zero-mul size = omega arith
+zero_mul : (size : ℕ) → 0 * size ≡ 0
+zero_mul size = omega arith
 
 mul_more : (n size : ℕ) → (n + 1) * size ≡ n * size + size
 mul_more n size = omega arith
@@ -31,7 +31,7 @@ pub record IsJoined (f : ℕ → List ℕ) (a n size : ℕ) (list : List ℕ) : 
 
 -- before the first block
 pub joined_none : (f : ℕ → List ℕ) (a size : ℕ) (list : List ℕ) → list ≡ [] → IsJoined f a 0 size list
-joined_none f a size list e = record { same = e; whole = ap length e ∙ sym (zero-mul size) }
+joined_none f a size list e = record { same = e; whole = ap length e ∙ sym (zero_mul size) }
 
 -- one block is appended
 pub joined_push : (f : ℕ → List ℕ) (a n size : ℕ) (list block after : List ℕ) → IsJoined f a n size list

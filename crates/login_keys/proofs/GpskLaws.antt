@@ -15,9 +15,9 @@ length_gpsk_tag_of Cmac key octets = length_aes_cmac key octets
 length_gpsk_tag_of Hmac key octets = length_hmac_sha256 key octets
 
 -- KS is at most 32
-pub ks-le : (suite : Suite) → ks_of suite ≤ 32
-ks-le Cmac = lit≤ tt
-ks-le Hmac = lit≤ tt
+pub ks_le : (suite : Suite) → ks_of suite ≤ 32
+ks_le Cmac = lit≤ tt
+ks_le Hmac = lit≤ tt
 
 -- while a block is wanted, fewer octets are there than are wanted
 wanted : (suite : Suite) (x n : ℕ) → n < div_ceil x (ks_of suite) → n * ks_of suite < x

@@ -11,7 +11,7 @@ use Rattle.byteorder.specs.Numbers.{big_from-cons, big_from-lt, big_number-reads
 use Rattle.aes_block.specs.Blocks.{IsBlock}
 use Rattle.aes_block.specs.Cipher.{aes128}
 use Rattle.aes_block.proofs.Differing.{encryptions_are_blocks, encryptions_differ}
-use Rattle.aes_block.proofs.Laws.{length-aes128}
+use Rattle.aes_block.proofs.Laws.{length_aes128}
 use Rattle.login_keys.specs.Psk.{combined_with, counter_block, psk_keys_of, psk_long_of}
 use Rattle.login_keys.specs.PskLaws.{PskKeysDiffer}
 
@@ -117,7 +117,7 @@ blocks_differ key one other c small is_key is_one is_other e =
 
 block_whole : (key block : List ℕ) (c : ℕ) → length (counter_block key block c) ≡ 16
 unfolding counter_block
-block_whole key block c = length-aes128 key (combined_with (aes128 key block) c)
+block_whole key block c = length_aes128 key (combined_with (aes128 key block) c)
 
 -- the first of several blocks
 first_of : (f : ℕ → List ℕ) (c : ℕ) (more : List ℕ) → length (f c) ≡ 16 → take 16 (flat_map f (c ∷ more)) ≡ f c

@@ -15,14 +15,14 @@ find_none p (x ∷ xs) nothing zero d below = grind arith
 find_none p (x ∷ xs) nothing (suc k) d below = grind (arith, find_none p xs)
 
 -- a user whose name and kind aren't there goes at the end
-pub AreDistinct-push : (users : List User) (user : User) → AreDistinct users → user_of users user.name user.kind ≡ None → AreDistinct (users ++ user ∷ [])
-AreDistinct-push users user distinct absent =
+pub AreDistinct_push : (users : List User) (user : User) → AreDistinct users → user_of users user.name user.kind ≡ None → AreDistinct (users ++ user ∷ [])
+AreDistinct_push users user distinct absent =
     all_pairs_push (λ a b. is_named b.name b.kind a ≡ false) users user distinct (λ k d below. find_none (is_named user.name user.kind) users absent k d below)
 
 -- the same of a list that has room for one more
-pub AreUsers-push : (users : List User) (user : User) → AreUsers users → user_of users user.name user.kind ≡ None → length users < max_users → AreUsers (users ++ user ∷ [])
-AreUsers-push users user are absent few = record {
-  distinct = AreDistinct-push users user are.distinct absent;
+pub AreUsers_push : (users : List User) (user : User) → AreUsers users → user_of users user.name user.kind ≡ None → length users < max_users → AreUsers (users ++ user ∷ [])
+AreUsers_push users user are absent few = record {
+  distinct = AreDistinct_push users user are.distinct absent;
   few = grind (arith, length_push);
 }
 

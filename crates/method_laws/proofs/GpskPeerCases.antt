@@ -20,36 +20,36 @@ use Rattle.method_laws.specs.GpskPeerRows.{GpskPeerRow, drops, answers, confirms
 use Rattle.method_laws.proofs.Tests.{of_not, equal_octets, equal_suites}
 
 module _ (cred : Credential) (nonce octets : List ℕ) where
-  picks-row : (id_s rand_s list : List ℕ) → read_of None (body_of octets) ≡ Ok (gpsk1 id_s rand_s list)
+  picks_row : (id_s rand_s list : List ℕ) → read_of None (body_of octets) ≡ Ok (gpsk1 id_s rand_s list)
       → accepts_name cred.accepts id_s ≡ true
       → (found : Option Suite) → picked_suite cred.suites list ≡ found
       → GpskPeerRow (fresh cred nonce) octets (picks cred nonce (id_of octets) id_s rand_s list found)
   unfolding peer.answers
-  picks-row id_s rand_s list is_read accepted None picked = drops _
-  picks-row id_s rand_s list is_read accepted (Some suite) picked = answers cred nonce id_s rand_s list suite refl is_read accepted picked
+  picks_row id_s rand_s list is_read accepted None picked = drops _
+  picks_row id_s rand_s list is_read accepted (Some suite) picked = answers cred nonce id_s rand_s list suite refl is_read accepted picked
 
-  gpsk1-row : (id_s rand_s list : List ℕ) → read_of None (body_of octets) ≡ Ok (gpsk1 id_s rand_s list)
+  gpsk1_row : (id_s rand_s list : List ℕ) → read_of None (body_of octets) ≡ Ok (gpsk1 id_s rand_s list)
       → GpskPeerRow (fresh cred nonce) octets (receives_gpsk1 cred nonce (id_of octets) id_s rand_s list)
-  gpsk1-row id_s rand_s list is_read =
+  gpsk1_row id_s rand_s list is_read =
       cond_both (accepts_name cred.accepts id_s) _ _ (GpskPeerRow (fresh cred nonce) octets)
-      (λ accepted. picks-row id_s rand_s list is_read accepted (picked_suite cred.suites list) refl)
+      (λ accepted. picks_row id_s rand_s list is_read accepted (picked_suite cred.suites list) refl)
       (λ _. drops UnknownServer)
 
-  fresh-row : (read : Result Message Cause) → read_of None (body_of octets) ≡ read
+  fresh_row : (read : Result Message Cause) → read_of None (body_of octets) ≡ read
       → GpskPeerRow (fresh cred nonce) octets (fresh_reads cred nonce (id_of octets) read)
-  fresh-row (Err cause) is_read = drops cause
-  fresh-row (Ok (gpsk1 id_s rand_s list)) is_read = gpsk1-row id_s rand_s list is_read
-  fresh-row (Ok message) is_read = drops _
+  fresh_row (Err cause) is_read = drops cause
+  fresh_row (Ok (gpsk1 id_s rand_s list)) is_read = gpsk1_row id_s rand_s list is_read
+  fresh_row (Ok message) is_read = drops _
 
 module _ (login : Login) (octets : List ℕ) where
-  gpsk3-row : (rand_p rand_s id_s : List ℕ) (suite : Suite) (pd mac : List ℕ)
+  gpsk3_row : (rand_p rand_s id_s : List ℕ) (suite : Suite) (pd mac : List ℕ)
       → read_of (Some (ks_of login.suite)) (body_of octets) ≡ Ok (gpsk3 rand_p rand_s id_s suite pd mac)
       → GpskPeerRow (wait login) octets
       (peer.confirms login (id_of octets) (gpsk3 rand_p rand_s id_s suite pd mac)
       (fault_if (not (repeats login rand_p rand_s id_s suite)) FieldMismatch
       (fault_if (not (is_tagged_by login (gpsk3 rand_p rand_s id_s suite pd mac))) BadTag None)))
   unfolding peer.confirms
-  gpsk3-row rand_p rand_s id_s suite pd mac is_read =
+  gpsk3_row rand_p rand_s id_s suite pd mac is_read =
       let message : Message = gpsk3 rand_p rand_s id_s suite pd mac in
       cond_both (not (repeats login rand_p rand_s id_s suite)) _ _ (λ fault. GpskPeerRow (wait login) octets (peer.confirms login (id_of octets) message fault))
       (λ _. drops FieldMismatch)
@@ -65,13 +65,13 @@ module _ (login : Login) (octets : List ℕ) where
       (equal_octets _ _ nonces.0) (equal_octets _ _ others.0) (equal_octets _ _ names.0) (equal_suites _ _ names.1)
       is_tagged (equal_octets _ _ is_tagged)))
 
-  protected-row : (code : ℕ) (mac : List ℕ)
+  protected_row : (code : ℕ) (mac : List ℕ)
       → read_of (Some (ks_of login.suite)) (body_of octets) ≡ Ok (protected_fail code mac)
       → GpskPeerRow (wait login) octets
       (peer.repeats_protected login (id_of octets) code (protected_fail code mac)
       (fault_if (not (is_tagged_by login (protected_fail code mac))) BadTag None))
   unfolding peer.repeats_protected
-  protected-row code mac is_read =
+  protected_row code mac is_read =
       let message : Message = protected_fail code mac in
       cond_both (not (is_tagged_by login message)) _ _ (λ fault. GpskPeerRow (wait login) octets (peer.repeats_protected login (id_of octets) code message fault))
       (λ _. drops BadTag)
@@ -79,21 +79,21 @@ module _ (login : Login) (octets : List ℕ) where
       let is_tagged : is_tagged_by login message ≡ true = of_not _ not_untagged in
       repeats_protected login code mac refl is_read is_tagged (equal_octets _ _ is_tagged))
 
-  wait-row : (read : Result Message Cause) → read_of (Some (ks_of login.suite)) (body_of octets) ≡ read
+  wait_row : (read : Result Message Cause) → read_of (Some (ks_of login.suite)) (body_of octets) ≡ read
       → GpskPeerRow (wait login) octets (wait_reads login (id_of octets) read)
-  wait-row (Err cause) is_read = drops cause
-  wait-row (Ok (gpsk3 rand_p rand_s id_s suite pd mac)) is_read = gpsk3-row rand_p rand_s id_s suite pd mac is_read
-  wait-row (Ok (fail code)) is_read = repeats_fail login code refl is_read
-  wait-row (Ok (protected_fail code mac)) is_read = protected-row code mac is_read
-  wait-row (Ok message) is_read = drops _
+  wait_row (Err cause) is_read = drops cause
+  wait_row (Ok (gpsk3 rand_p rand_s id_s suite pd mac)) is_read = gpsk3_row rand_p rand_s id_s suite pd mac is_read
+  wait_row (Ok (fail code)) is_read = repeats_fail login code refl is_read
+  wait_row (Ok (protected_fail code mac)) is_read = protected_row code mac is_read
+  wait_row (Ok message) is_read = drops _
 
-  over-row : (good : Bool) (read : Result Message Cause) → GpskPeerRow (over login good) octets (over_reads login good read)
-  over-row good (Err cause) = drops cause
-  over-row good (Ok message) = drops _
+  over_row : (good : Bool) (read : Result Message Cause) → GpskPeerRow (over login good) octets (over_reads login good read)
+  over_row good (Err cause) = drops cause
+  over_row good (Ok message) = drops _
 
 pub gpsk_peer_steps_are_rows : GpskPeerStepsAreRows
 unfolding step
 gpsk_peer_steps_are_rows unset octets = drops _
-gpsk_peer_steps_are_rows (fresh cred nonce) octets = fresh-row cred nonce octets (read_of None (body_of octets)) refl
-gpsk_peer_steps_are_rows (wait login) octets = wait-row login octets (read_of (Some (ks_of login.suite)) (body_of octets)) refl
-gpsk_peer_steps_are_rows (over login good) octets = over-row login octets good (read_of (Some (ks_of login.suite)) (body_of octets))
+gpsk_peer_steps_are_rows (fresh cred nonce) octets = fresh_row cred nonce octets (read_of None (body_of octets)) refl
+gpsk_peer_steps_are_rows (wait login) octets = wait_row login octets (read_of (Some (ks_of login.suite)) (body_of octets)) refl
+gpsk_peer_steps_are_rows (over login good) octets = over_row login octets good (read_of (Some (ks_of login.suite)) (body_of octets))

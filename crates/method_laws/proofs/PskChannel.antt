@@ -7,7 +7,7 @@ use Rattle.eap_packet.specs.Packet.{two_octets}
 use Rattle.eap_packet.specs.Packet as packets
 use Rattle.psk_messages.specs.Message.{psk3, psk4, channel}
 use Rattle.psk_messages.specs.Message as messages
-use Rattle.psk_messages.proofs.ChannelParts.{length-channel}
+use Rattle.psk_messages.proofs.ChannelParts.{length_channel}
 use Rattle.eax_mode.specs.Eax.{eax_accepts, eax_ciphertext, eax_plaintext, eax_tag}
 use Rattle.eax_mode.proofs.Laws.{length_eax_ciphertext, length_eax_tag}
 use Rattle.eax_mode.proofs.Sealing.{eax_plaintext_eax_ciphertext}
@@ -55,7 +55,7 @@ psk3_header_is id rand_s mac tag sealed rand_size mac_size tag_size =
     let rest : List ℕ = mac ++ channel 0 tag sealed in
     let front : ℕ → List ℕ = λ size. 1 ∷ id ∷ two_octets size ++ (47 ∷ 128 ∷ rand_s) in
     let size : length (47 ∷ 128 ∷ rand_s ++ rest) + 4 ≡ 59 =
-    omega (arith, length-append rand_s rest, length-append mac (channel 0 tag sealed), length-channel 0 sealed tag tag_size) in
+    omega (arith, length-append rand_s rest, length-append mac (channel 0 tag sealed), length_channel 0 sealed tag tag_size) in
     ap (λ count. take 22 (front count ++ rest)) size ∙ take_at (front 59) rest 22 (omega arith)
 
 pub psk4_header_is : (id : ℕ) (rand_s tag : List ℕ) (sealed : ℕ) → length rand_s ≡ 16 → length tag ≡ 16
@@ -65,5 +65,5 @@ psk4_header_is id rand_s tag sealed rand_size tag_size =
     let rest : List ℕ = channel 1 tag sealed in
     let front : ℕ → List ℕ = λ size. 2 ∷ id ∷ two_octets size ++ (47 ∷ 192 ∷ rand_s) in
     let size : length (47 ∷ 192 ∷ rand_s ++ rest) + 4 ≡ 43 =
-    omega (arith, length-append rand_s rest, length-channel 1 sealed tag tag_size) in
+    omega (arith, length-append rand_s rest, length_channel 1 sealed tag tag_size) in
     ap (λ count. take 22 (front count ++ rest)) size ∙ take_at (front 43) rest 22 (omega arith)

@@ -23,8 +23,8 @@ use Rattle.method_laws.proofs.Packets.{request_body, request_id, response_body}
 use Rattle.method_laws.proofs.PskChannel.{length_sealed_tag, sealed_accepted, sealed_opened, psk3_header_is, psk4_header_is}
 use Rattle.method_laws.proofs.Tests.{bytes_same, no_fault}
 
-length-rand : (nonce : List ℕ) → length nonce ≡ 32 → length (rand_of nonce) ≡ 16
-length-rand nonce size = length-take-le 16 nonce (omega arith)
+length_rand : (nonce : List ℕ) → length nonce ≡ 32 → length (rand_of nonce) ≡ 16
+length_rand nonce size = length-take-le 16 nonce (omega arith)
 
 bytes_equal : (xs ys : List ℕ) → xs ≡ ys → bytes_eq xs ys ≡ true
 bytes_equal xs ys same = ap (λ octets. bytes_eq octets ys) same ∙ bytes_same ys
@@ -85,10 +85,10 @@ module _ (ends : Ends) (fit : Compatible ends) where
   same_mac_s = ap (λ psk. aes_cmac (psk_long_of psk).ak (mac_s_octets ends.own.id_s (rand_of ends.nonce))) (sym fit.one_key)
 
   peer_rand : length (rand_of ends.nonce) ≡ 16
-  peer_rand = length-rand ends.nonce fit.peer_nonce
+  peer_rand = length_rand ends.nonce fit.peer_nonce
 
   server_rand : length (rand_of ends.setup_with_nonce) ≡ 16
-  server_rand = length-rand ends.setup_with_nonce fit.server_nonce
+  server_rand = length_rand ends.setup_with_nonce fit.server_nonce
 
   r_is_success : (server_login ends).r ≡ done_success
   r_is_success = ap (λ barred. server.r_for barred) fit.not_barred

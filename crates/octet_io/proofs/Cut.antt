@@ -15,9 +15,9 @@ onto_first_filled : (x : ℕ) (ps : List (List ℕ)) → Filled (onto_first x ps
 onto_first_filled x [] = tt
 onto_first_filled x (p ∷ ps) = tt
 
-pieces-filled : (octets : List ℕ) → Filled (pieces octets)
-pieces-filled [] = tt
-pieces-filled (x ∷ rest) = cond_both (eqb x 10) ([] ∷ pieces rest) (onto_first x (pieces rest)) Filled (λ e. tt) (λ e. onto_first_filled x (pieces rest))
+pieces_filled : (octets : List ℕ) → Filled (pieces octets)
+pieces_filled [] = tt
+pieces_filled (x ∷ rest) = cond_both (eqb x 10) ([] ∷ pieces rest) (onto_first x (pieces rest)) Filled (λ e. tt) (λ e. onto_first_filled x (pieces rest))
 
 -- the pieces of two lists, one behind the other
 abbrev joined : List (List ℕ) → List (List ℕ) → List (List ℕ)
@@ -26,48 +26,48 @@ joined (p ∷ []) [] = p ∷ []
 joined (p ∷ []) (q ∷ qs) = (p ++ q) ∷ qs
 joined (p ∷ r ∷ ps) qs = p ∷ joined (r ∷ ps) qs
 
-joined-none : (qs : List (List ℕ)) → Filled qs → qs ≡ joined ([] ∷ []) qs
-joined-none [] some = absurd some
-joined-none (q ∷ qs) some = refl
+joined_none : (qs : List (List ℕ)) → Filled qs → qs ≡ joined ([] ∷ []) qs
+joined_none [] some = absurd some
+joined_none (q ∷ qs) some = refl
 
-joined-cons : (p : List ℕ) (ps qs : List (List ℕ)) → Filled ps → p ∷ joined ps qs ≡ joined (p ∷ ps) qs
-joined-cons p [] qs some = absurd some
-joined-cons p (r ∷ ps) qs some = refl
+joined_cons : (p : List ℕ) (ps qs : List (List ℕ)) → Filled ps → p ∷ joined ps qs ≡ joined (p ∷ ps) qs
+joined_cons p [] qs some = absurd some
+joined_cons p (r ∷ ps) qs some = refl
 
-joined-onto : (x : ℕ) (ps qs : List (List ℕ)) → Filled ps → onto_first x (joined ps qs) ≡ joined (onto_first x ps) qs
-joined-onto x [] qs some = absurd some
-joined-onto x (p ∷ []) [] some = refl
-joined-onto x (p ∷ []) (q ∷ qs) some = refl
-joined-onto x (p ∷ r ∷ ps) qs some = refl
+joined_onto : (x : ℕ) (ps qs : List (List ℕ)) → Filled ps → onto_first x (joined ps qs) ≡ joined (onto_first x ps) qs
+joined_onto x [] qs some = absurd some
+joined_onto x (p ∷ []) [] some = refl
+joined_onto x (p ∷ []) (q ∷ qs) some = refl
+joined_onto x (p ∷ r ∷ ps) qs some = refl
 
-pieces-append : (front rest : List ℕ) → pieces (front ++ rest) ≡ joined (pieces front) (pieces rest)
-pieces-append [] rest = joined-none (pieces rest) (pieces-filled rest)
-pieces-append (x ∷ front) rest =
-    let on = pieces-append front rest in
+pieces_append : (front rest : List ℕ) → pieces (front ++ rest) ≡ joined (pieces front) (pieces rest)
+pieces_append [] rest = joined_none (pieces rest) (pieces_filled rest)
+pieces_append (x ∷ front) rest =
+    let on = pieces_append front rest in
     elim (cases_Bool (eqb x 10)) [
-      | inl e ↦ rw (e, on) (joined-cons [] (pieces front) (pieces rest) (pieces-filled front))
-      | inr e ↦ rw (e, on) (joined-onto x (pieces front) (pieces rest) (pieces-filled front))
+      | inl e ↦ rw (e, on) (joined_cons [] (pieces front) (pieces rest) (pieces_filled front))
+      | inr e ↦ rw (e, on) (joined_onto x (pieces front) (pieces rest) (pieces_filled front))
     ]
 
 -- an LF ends a piece that is begun, another octet goes on with it
-pieces-lf : (begun front : List ℕ) (x : ℕ) → pieces begun ≡ begun ∷ [] → eqb x 10 ≡ true → pieces (begun ++ x ∷ front) ≡ begun ∷ pieces front
-pieces-lf begun front x one e = pieces-append begun (x ∷ front) ∙ rw (one, e) (ap (λ p. p ∷ pieces front) (append-nil begun))
+pieces_lf : (begun front : List ℕ) (x : ℕ) → pieces begun ≡ begun ∷ [] → eqb x 10 ≡ true → pieces (begun ++ x ∷ front) ≡ begun ∷ pieces front
+pieces_lf begun front x one e = pieces_append begun (x ∷ front) ∙ rw (one, e) (ap (λ p. p ∷ pieces front) (append-nil begun))
 
-pieces-more : (begun : List ℕ) (x : ℕ) → pieces begun ≡ begun ∷ [] → eqb x 10 ≡ false → pieces (begun ++ x ∷ []) ≡ (begun ++ x ∷ []) ∷ []
-pieces-more begun x one e = pieces-append begun (x ∷ []) ∙ rw (one, e) refl
+pieces_more : (begun : List ℕ) (x : ℕ) → pieces begun ≡ begun ∷ [] → eqb x 10 ≡ false → pieces (begun ++ x ∷ []) ≡ (begun ++ x ∷ []) ∷ []
+pieces_more begun x one e = pieces_append begun (x ∷ []) ∙ rw (one, e) refl
 
 -- a line of which more comes has room
-fits-first : (p : List ℕ) (ps : List (List ℕ)) → pieces_bounded (p ∷ ps) ≡ true → length p ≤ 4096
-fits-first p ps fit = leb-true (length p) 4096 (and_parts (leb (length p) 4096) (pieces_bounded ps) fit).0
+fits_first : (p : List ℕ) (ps : List (List ℕ)) → pieces_bounded (p ∷ ps) ≡ true → length p ≤ 4096
+fits_first p ps fit = leb-true (length p) 4096 (and_parts (leb (length p) 4096) (pieces_bounded ps) fit).0
 
-room-onto : (begun : List ℕ) (x : ℕ) (ps : List (List ℕ)) → pieces_bounded (joined (begun ∷ []) (onto_first x ps)) ≡ true → length begun < 4096
-room-onto begun x [] fit = omega (arith, fits-first (begun ++ x ∷ []) [] fit, length-append begun (x ∷ []))
-room-onto begun x (q ∷ qs) fit = omega (arith, fits-first (begun ++ x ∷ q) qs fit, length-append begun (x ∷ q))
+room_onto : (begun : List ℕ) (x : ℕ) (ps : List (List ℕ)) → pieces_bounded (joined (begun ∷ []) (onto_first x ps)) ≡ true → length begun < 4096
+room_onto begun x [] fit = omega (arith, fits_first (begun ++ x ∷ []) [] fit, length-append begun (x ∷ []))
+room_onto begun x (q ∷ qs) fit = omega (arith, fits_first (begun ++ x ∷ q) qs fit, length-append begun (x ∷ q))
 
 room : (begun front : List ℕ) (x : ℕ) → pieces begun ≡ begun ∷ [] → eqb x 10 ≡ false → pieces_bounded (pieces (begun ++ x ∷ front)) ≡ true → length begun < 4096
 room begun front x one e fit =
-    let is : pieces (begun ++ x ∷ front) ≡ joined (begun ∷ []) (onto_first x (pieces front)) = pieces-append begun (x ∷ front) ∙ rw (one, e) refl in
-    room-onto begun x (pieces front) (rw is at fit)
+    let is : pieces (begun ++ x ∷ front) ≡ joined (begun ∷ []) (onto_first x (pieces front)) = pieces_append begun (x ∷ front) ∙ rw (one, e) refl in
+    room_onto begun x (pieces front) (rw is at fit)
 
 -- one octet of the definition
 from_lf : (taken : ℕ) (begun rest : List ℕ) (x : ℕ) → eqb x 10 ≡ true → taken < 16777216 → lines_from taken begun (x ∷ rest) ≡ line (without_cr begun) (lines_from (taken + 1) [] rest)
@@ -98,14 +98,14 @@ run taken begun (x ∷ front) rest one few fit =
     let there : taken + length (x ∷ front) ≡ taken + 1 + length front = omega arith in
     elim (cases_Bool (eqb x 10)) [
       | inl e ↦
-          let is = pieces-lf begun front x one e in
-          let some = pieces-filled front in
+          let is = pieces_lf begun front x one e in
+          let some = pieces_filled front in
           let on = run (taken + 1) [] front rest refl (omega arith) ((and_parts (leb (length begun) 4096) (pieces_bounded (pieces front)) (rw is at fit)).1) in
           from_lf taken begun (front ++ rest) x e (omega arith) ∙ ap (line (without_cr begun)) on
           ∙ rw (is, there, last_of_cons begun (pieces front) some) (whole_lines_cons begun (pieces front) _ some)
       | inr e ↦
           let is : (begun ++ x ∷ []) ++ front ≡ begun ++ x ∷ front = append_assoc begun (x ∷ []) front in
-          let on = run (taken + 1) (begun ++ x ∷ []) front rest (pieces-more begun x one e) (omega arith) (rw is fit) in
+          let on = run (taken + 1) (begun ++ x ∷ []) front rest (pieces_more begun x one e) (omega arith) (rw is fit) in
           from_octet taken begun (front ++ rest) x e (room begun front x one e fit) (omega arith) ∙ on ∙ rw (is, there) refl
     ]
 
@@ -114,18 +114,18 @@ record Within (octets : List ℕ) : Type 0 where
   pub few : length octets ≤ 16777216
   pub fit : pieces_bounded (pieces octets) ≡ true
 
-within-from : (octets : List ℕ) → is_within octets ≡ true → Within octets
+within_from : (octets : List ℕ) → is_within octets ≡ true → Within octets
 unfolding is_within
-within-from octets e =
+within_from octets e =
     let parts = and_parts (leb (length octets) 16777216) (pieces_bounded (pieces octets)) e in
     record { few = leb-true (length octets) 16777216 (parts.0); fit = parts.1 }
 
-within-is : (octets : List ℕ) → length octets ≤ 16777216 → pieces_bounded (pieces octets) ≡ true → is_within octets ≡ true
+within_is : (octets : List ℕ) → length octets ≤ 16777216 → pieces_bounded (pieces octets) ≡ true → is_within octets ≡ true
 unfolding is_within
-within-is octets few fit = and_from (leb (length octets) 16777216) (pieces_bounded (pieces octets)) (le-leb (length octets) 16777216 few) fit
+within_is octets few fit = and_from (leb (length octets) 16777216) (pieces_bounded (pieces octets)) (le-leb (length octets) 16777216 few) fit
 
-run-all : (front rest : List ℕ) → Within front → lines_from 0 [] (front ++ rest) ≡ whole_lines (pieces front) (lines_from (length front) (last_of (pieces front)) rest)
-run-all front rest w =
+run_all : (front rest : List ℕ) → Within front → lines_from 0 [] (front ++ rest) ≡ whole_lines (pieces front) (lines_from (length front) (last_of (pieces front)) rest)
+run_all front rest w =
     let here : 0 + length front ≡ length front = omega arith in
     run 0 [] front rest refl (omega (arith, w.few)) (w.fit) ∙ rw here refl
 
@@ -136,16 +136,16 @@ from_end taken (b ∷ begun) = refl
 
 pub lines_are_the_pieces : LinesAreThePieces
 lines_are_the_pieces octets e =
-    let all = run-all octets [] (within-from octets e) in
+    let all = run_all octets [] (within_from octets e) in
     ap (lines_from 0 []) (sym (append-nil octets)) ∙ all ∙ ap (whole_lines (pieces octets)) (from_end (length octets) (last_of (pieces octets)))
 
 -- one more octet keeps within the limit of a line, but where it is past it
-more-fits : (x : ℕ) (ps : List (List ℕ)) → Filled ps → pieces_bounded ps ≡ true → (not (eqb x 10) && leb 4096 (length (last_of ps))) ≡ false → pieces_bounded (joined ps (pieces (x ∷ []))) ≡ true
-more-fits x [] some fit in_line = absurd some
-more-fits x (p ∷ q ∷ ps) some fit in_line =
+more_fits : (x : ℕ) (ps : List (List ℕ)) → Filled ps → pieces_bounded ps ≡ true → (not (eqb x 10) && leb 4096 (length (last_of ps))) ≡ false → pieces_bounded (joined ps (pieces (x ∷ []))) ≡ true
+more_fits x [] some fit in_line = absurd some
+more_fits x (p ∷ q ∷ ps) some fit in_line =
     let parts = and_parts (leb (length p) 4096) (pieces_bounded (q ∷ ps)) fit in
-    and_from (leb (length p) 4096) _ (parts.0) (more-fits x (q ∷ ps) tt (parts.1) in_line)
-more-fits x (p ∷ []) some fit in_line =
+    and_from (leb (length p) 4096) _ (parts.0) (more_fits x (q ∷ ps) tt (parts.1) in_line)
+more_fits x (p ∷ []) some fit in_line =
     elim (cases_Bool (eqb x 10)) [
       | inl e ↦ rw (e, append-nil p) fit
       | inr e ↦
@@ -163,22 +163,22 @@ from_past taken begun rest x much =
       | inr e ↦ let full = much e in rw (e, full) refl
     ]
 
-past-much : (front : List ℕ) (x : ℕ) → Within front → is_within (front ++ x ∷ []) ≡ false → is_past_line front x ≡ false → leb 16777216 (length front) ≡ true
-past-much front x w past in_line =
+past_much : (front : List ℕ) (x : ℕ) → Within front → is_within (front ++ x ∷ []) ≡ false → is_past_line front x ≡ false → leb 16777216 (length front) ≡ true
+past_much front x w past in_line =
     elim (cases_Bool (leb 16777216 (length front))) [
       | inl e ↦ e
       | inr e ↦
           let few : length front < 16777216 = leb-false 16777216 (length front) e in
-          let fit = more-fits x (pieces front) (pieces-filled front) (w.fit) in_line in
-          let within = within-is (front ++ x ∷ []) (omega (arith, length-append front (x ∷ []))) (rw (pieces-append front (x ∷ [])) fit) in
+          let fit = more_fits x (pieces front) (pieces_filled front) (w.fit) in_line in
+          let within = within_is (front ++ x ∷ []) (omega (arith, length-append front (x ∷ []))) (rw (pieces_append front (x ∷ [])) fit) in
           cc
     ]
 
 pub lines_end_at_a_limit : LinesEndAtALimit
 lines_end_at_a_limit octets at =
-    let w = within-from (at.front) (at.within) in
-    ap (lines_from 0 []) (at.joined) ∙ run-all (at.front) (at.octet ∷ at.rest) w
-    ∙ ap (whole_lines (pieces at.front)) (from_past (length at.front) (last_of (pieces at.front)) (at.rest) (at.octet) (past-much (at.front) (at.octet) w (at.past)))
+    let w = within_from (at.front) (at.within) in
+    ap (lines_from 0 []) (at.joined) ∙ run_all (at.front) (at.octet ∷ at.rest) w
+    ∙ ap (whole_lines (pieces at.front)) (from_past (length at.front) (last_of (pieces at.front)) (at.rest) (at.octet) (past_much (at.front) (at.octet) w (at.past)))
 
 -- the first octet past a limit, behind octets that are within them
 first_past : (front octets : List ℕ) → is_within front ≡ true → is_within (front ++ octets) ≡ false → FirstPast (front ++ octets)
@@ -190,9 +190,9 @@ first_past front (x ∷ rest) within past =
       | inr e ↦ record { front = front; octet = x; rest = rest; joined = refl; within = within; past = e }
     ]
 
-within-none : is_within [] ≡ true
+within_none : is_within [] ≡ true
 unfolding is_within
-within-none = refl
+within_none = refl
 
 pub some_octet_is_past : SomeOctetIsPast
-some_octet_is_past octets past = first_past [] octets within-none past
+some_octet_is_past octets past = first_past [] octets within_none past

@@ -102,8 +102,8 @@ stops_at : (held begun : List ℕ) (taken : ℕ) → ((x : ℕ) (rest : List ℕ
 stops_at [] begun taken at = tt
 stops_at (x ∷ rest) begun taken at = at x rest refl
 
-pub stretch-stops : (n : ℕ) (held begun : List ℕ) (taken : ℕ) → n ≤ position_or_len (λ b. eqb b 10) held → (n < position_or_len (λ b. eqb b 10) held → length begun < 4096 → 16777216 ≤ taken) → StopsAt (drop n held) begun taken
-stretch-stops n held begun taken most limit =
+pub stretch_stops : (n : ℕ) (held begun : List ℕ) (taken : ℕ) → n ≤ position_or_len (λ b. eqb b 10) held → (n < position_or_len (λ b. eqb b 10) held → length begun < 4096 → 16777216 ≤ taken) → StopsAt (drop n held) begun taken
+stretch_stops n held begun taken most limit =
     stops_at (drop n held) begun taken (λ x rest is other short.
     elim (cases_lt n (position_or_len (λ b. eqb b 10) held)) [
       | inl less ↦ limit less short

@@ -39,73 +39,73 @@ module _ (vars : PassVariables) where
     abbrev OfServer : PassAnswer → Type 0
     OfServer out = PassRow vars (from_backend octets) out
 
-    idle-row : vars.state ≡ state.Idle → (packet : Result PacketValue Cause) → packet_of octets ≡ packet → OfPeer (idle_row vars octets packet)
-    idle-row stands (Err c) is = drops_of_peer octets _ c (no_packet _ _ (in_idle stands) c is)
-    idle-row stands (Ok (request id kind body)) is = drops_of_peer octets _ _ (no_response _ (in_idle stands) _ is (λ id kind body e. cc e))
-    idle-row stands (Ok (response id kind body)) is =
+    idle_is_row : vars.state ≡ state.Idle → (packet : Result PacketValue Cause) → packet_of octets ≡ packet → OfPeer (idle_row vars octets packet)
+    idle_is_row stands (Err c) is = drops_of_peer octets _ c (no_packet _ _ (in_idle stands) c is)
+    idle_is_row stands (Ok (request id kind body)) is = drops_of_peer octets _ _ (no_response _ (in_idle stands) _ is (λ id kind body e. cc e))
+    idle_is_row stands (Ok (response id kind body)) is =
         cond_both (is_awaited vars.current_id id) _ _ OfPeer
         (λ current. cond_both (kind == identity_kind) _ _ OfPeer
         (λ same. passes_identity octets id body stands (rw (← eqb-true kind identity_kind same) is) (awaited vars.current_id id current))
         (λ other. drops_of_peer octets _ _ (no_identity stands id kind body is (awaited vars.current_id id current) other)))
         (λ other. drops_of_peer octets _ _ (other_id _ (in_idle stands) id kind body is other))
-    idle-row stands (Ok (success id)) is = drops_of_peer octets _ _ (no_response _ (in_idle stands) _ is (λ id kind body e. cc e))
-    idle-row stands (Ok (failure id)) is = drops_of_peer octets _ _ (no_response _ (in_idle stands) _ is (λ id kind body e. cc e))
+    idle_is_row stands (Ok (success id)) is = drops_of_peer octets _ _ (no_response _ (in_idle stands) _ is (λ id kind body e. cc e))
+    idle_is_row stands (Ok (failure id)) is = drops_of_peer octets _ _ (no_response _ (in_idle stands) _ is (λ id kind body e. cc e))
 
-    idle2-row : vars.state ≡ state.Idle2 → (packet : Result PacketValue Cause) → packet_of octets ≡ packet → OfPeer (idle2_row vars octets packet)
-    idle2-row stands (Err c) is = drops_of_peer octets _ c (no_packet _ _ (in_idle2 stands) c is)
-    idle2-row stands (Ok (request id kind body)) is = drops_of_peer octets _ _ (no_response _ (in_idle2 stands) _ is (λ id kind body e. cc e))
-    idle2-row stands (Ok (response id kind body)) is =
+    idle2_is_row : vars.state ≡ state.Idle2 → (packet : Result PacketValue Cause) → packet_of octets ≡ packet → OfPeer (idle2_row vars octets packet)
+    idle2_is_row stands (Err c) is = drops_of_peer octets _ c (no_packet _ _ (in_idle2 stands) c is)
+    idle2_is_row stands (Ok (request id kind body)) is = drops_of_peer octets _ _ (no_response _ (in_idle2 stands) _ is (λ id kind body e. cc e))
+    idle2_is_row stands (Ok (response id kind body)) is =
         cond_both (is_awaited vars.current_id id) _ _ OfPeer
         (λ current. passes_response octets id kind body stands is (awaited vars.current_id id current))
         (λ other. drops_of_peer octets _ _ (other_id _ (in_idle2 stands) id kind body is other))
-    idle2-row stands (Ok (success id)) is = drops_of_peer octets _ _ (no_response _ (in_idle2 stands) _ is (λ id kind body e. cc e))
-    idle2-row stands (Ok (failure id)) is = drops_of_peer octets _ _ (no_response _ (in_idle2 stands) _ is (λ id kind body e. cc e))
+    idle2_is_row stands (Ok (success id)) is = drops_of_peer octets _ _ (no_response _ (in_idle2 stands) _ is (λ id kind body e. cc e))
+    idle2_is_row stands (Ok (failure id)) is = drops_of_peer octets _ _ (no_response _ (in_idle2 stands) _ is (λ id kind body e. cc e))
 
-    aaa-row : vars.state ≡ state.AaaIdle → (packet : Result PacketValue Cause) → packet_of octets ≡ packet → OfServer (aaa_row vars octets packet)
-    aaa-row stands (Err c) is = drops_of_server octets _ c (no_packet _ _ (in_aaa_idle stands) c is)
-    aaa-row stands (Ok (request id kind body)) is = passes_request octets id kind body stands is
-    aaa-row stands (Ok (response id kind body)) is = drops_of_server octets _ _ (a_response stands id kind body is)
-    aaa-row stands (Ok (success id)) is = passes_success octets id stands is
-    aaa-row stands (Ok (failure id)) is = passes_failure octets id stands is
+    aaa_is_row : vars.state ≡ state.AaaIdle → (packet : Result PacketValue Cause) → packet_of octets ≡ packet → OfServer (aaa_row vars octets packet)
+    aaa_is_row stands (Err c) is = drops_of_server octets _ c (no_packet _ _ (in_aaa_idle stands) c is)
+    aaa_is_row stands (Ok (request id kind body)) is = passes_request octets id kind body stands is
+    aaa_is_row stands (Ok (response id kind body)) is = drops_of_server octets _ _ (a_response stands id kind body is)
+    aaa_is_row stands (Ok (success id)) is = passes_success octets id stands is
+    aaa_is_row stands (Ok (failure id)) is = passes_failure octets id stands is
 
-    peer-row : OfPeer (pass_from_peer vars octets)
+    peer_row : OfPeer (pass_from_peer vars octets)
     unfolding pass_from_peer
-    peer-row =
+    peer_row =
         cond_both (is_over vars.state) _ _ OfPeer (λ over. drops_of_peer octets _ _ (ended _ over))
-        (λ going. cond_both (is_idle vars.state) _ _ OfPeer (λ idle. idle-row (at_idle vars.state idle) (packet_of octets) refl)
-        (λ no_idle. cond_both (is_idle2 vars.state) _ _ OfPeer (λ idle2. idle2-row (at_idle2 vars.state idle2) (packet_of octets) refl)
+        (λ going. cond_both (is_idle vars.state) _ _ OfPeer (λ idle. idle_is_row (at_idle vars.state idle) (packet_of octets) refl)
+        (λ no_idle. cond_both (is_idle2 vars.state) _ _ OfPeer (λ idle2. idle2_is_row (at_idle2 vars.state idle2) (packet_of octets) refl)
         (λ no_idle2. drops_of_peer octets _ _ (awaits_no_peer going no_idle no_idle2))))
 
-    server-row : OfServer (pass_from_backend vars octets)
+    server_row : OfServer (pass_from_backend vars octets)
     unfolding pass_from_backend
-    server-row =
+    server_row =
         cond_both (is_over vars.state) _ _ OfServer (λ over. drops_of_server octets _ _ (ended _ over))
-        (λ going. cond_both (is_aaa_idle vars.state) _ _ OfServer (λ asked. aaa-row (at_aaa_idle vars.state asked) (packet_of octets) refl)
+        (λ going. cond_both (is_aaa_idle vars.state) _ _ OfServer (λ asked. aaa_is_row (at_aaa_idle vars.state asked) (packet_of octets) refl)
         (λ unasked. drops_of_server octets _ _ (awaits_no_server going unasked)))
 
-  resends-row : (entered back over : State) → TimerRuns vars.state entered back over → PassRow vars timeout (table.resends vars entered back over)
-  resends-row entered back over place =
+  resends_row : (entered back over : State) → TimerRuns vars.state entered back over → PassRow vars timeout (table.resends vars entered back over)
+  resends_row entered back over place =
       cond_both (nat_le (vars.retrans_count + 1) vars.max_retrans) _ _ (PassRow vars timeout)
       (λ in_time. resends entered back over place in_time) (λ late. times_out entered back over place late)
 
-  timeout-row : has_timer vars.state ≡ true → PassRow vars timeout (pass_timeout vars)
+  timeout_row : has_timer vars.state ≡ true → PassRow vars timeout (pass_timeout vars)
   unfolding pass_timeout
-  timeout-row runs =
-      cond_both (is_idle vars.state) _ _ (PassRow vars timeout) (λ idle. resends-row _ _ _ (of_idle (at_idle vars.state idle)))
-      (λ no_idle. resends-row _ _ _ (of_idle2 (at_idle2 vars.state (sym (ap (λ (b : Bool). b || is_idle2 vars.state) no_idle) ∙ runs))))
+  timeout_row runs =
+      cond_both (is_idle vars.state) _ _ (PassRow vars timeout) (λ idle. resends_row _ _ _ (of_idle (at_idle vars.state idle)))
+      (λ no_idle. resends_row _ _ _ (of_idle2 (at_idle2 vars.state (sym (ap (λ (b : Bool). b || is_idle2 vars.state) no_idle) ∙ runs))))
 
 pub pass_answers_are_rows : PassAnswersAreRows
 unfolding pass_start pass_aaa_timeout pass_aaa_noreq
 pass_answers_are_rows vars start =
     cond_both (is_started vars.state) _ _ (PassRow vars start) (λ is_initiated. stays start (second_start is_initiated)) (λ unstarted. starts unstarted)
 pass_answers_are_rows vars timeout =
-    cond_both (has_timer vars.state) _ _ (PassRow vars timeout) (λ runs. timeout-row vars runs) (λ stopped. stays timeout (no_timer stopped))
+    cond_both (has_timer vars.state) _ _ (PassRow vars timeout) (λ runs. timeout_row vars runs) (λ stopped. stays timeout (no_timer stopped))
 pass_answers_are_rows vars aaa_timeout =
     cond_both (is_aaa_idle vars.state) _ _ (PassRow vars aaa_timeout)
     (λ asked. loses_server (at_aaa_idle vars.state asked)) (λ unasked. stays aaa_timeout (unasked_timeout unasked))
 pass_answers_are_rows vars aaa_noreq =
     cond_both (is_aaa_idle vars.state) _ _ (PassRow vars aaa_noreq)
     (λ asked. asks_nothing (at_aaa_idle vars.state asked)) (λ unasked. stays aaa_noreq (unasked_noreq unasked))
-pass_answers_are_rows vars (from_peer octets) = peer-row vars octets
-pass_answers_are_rows vars (from_backend octets) = server-row vars octets
+pass_answers_are_rows vars (from_peer octets) = peer_row vars octets
+pass_answers_are_rows vars (from_backend octets) = server_row vars octets
 pass_answers_are_rows vars restart = begins

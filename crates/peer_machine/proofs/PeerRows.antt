@@ -28,96 +28,96 @@ module _ (now : PeerNow) where
     IsRow out = PeerRow now (octets bytes) out
 
     module _ (id kind : ℕ) (body : List ℕ) (heard : Receives now bytes id (request id kind body) false) where
-      answers-row : (selects : Bool) → Calls now kind selects → (turn : PeerTurn) (views : PeerViews)
+      answers_row : (selects : Bool) → Calls now kind selects → (turn : PeerTurn) (views : PeerViews)
           → peer_turn kind now.views (spelled (request id kind body)) ≡ record { turn = turn; after = views }
           → IsRow (method_answers selects now kind id views turn)
-      answers-row selects calls (Discard c) views turned = drops bytes _ c going (by_method selects id kind body c views heard calls turned)
-      answers-row selects calls (Reply packet m d tags) views turned =
+      answers_row selects calls (Discard c) views turned = drops bytes _ c going (by_method selects id kind body c views heard calls turned)
+      answers_row selects calls (Reply packet m d tags) views turned =
           cond_both (is_done m && is_fail d) _ _ IsRow
           (λ failed. method_fails bytes selects id kind body packet m d tags views heard calls turned failed)
           (λ goes_on. method_replies bytes selects id kind body packet m d tags views heard calls turned goes_on)
 
-      method-row : (selects : Bool) → Calls now kind selects → IsRow (peer_method selects now kind id (spelled (request id kind body)))
+      method_row : (selects : Bool) → Calls now kind selects → IsRow (peer_method selects now kind id (spelled (request id kind body)))
       unfolding peer_method
-      method-row selects calls = answers-row selects calls _ _ refl
+      method_row selects calls = answers_row selects calls _ _ refl
 
-      new-row : (selected : Option ℕ) → now.vars.selected ≡ selected → IsRow (new_request now id kind (spelled (request id kind body)) selected)
-      new-row None none =
+      new_row : (selected : Option ℕ) → now.vars.selected ≡ selected → IsRow (new_request now id kind (spelled (request id kind body)) selected)
+      new_row None none =
           cond_both (kind == 1) _ _ IsRow (λ is. identifies bytes id kind body heard none (eqb-true kind 1 is))
           (λ no_identity. cond_both (kind == 2) _ _ IsRow (λ is. notifies bytes id kind body heard none (eqb-true kind 2 is))
-          (λ no_notification. cond_both (is_among now.vars.setup.methods kind) _ _ IsRow (λ allowed. method-row true (first none allowed))
+          (λ no_notification. cond_both (is_among now.vars.setup.methods kind) _ _ IsRow (λ allowed. method_row true (first none allowed))
           (λ barred. naks bytes id kind body heard none no_identity no_notification barred)))
-      new-row (Some selected) is =
+      new_row (Some selected) is =
           cond_both (kind == 2) _ _ IsRow (λ two. drops bytes _ _ going (late_notification id kind selected body heard is (eqb-true kind 2 two)))
           (λ no_notification. cond_both (kind == selected) _ _ IsRow
           (λ equal.
           let same : now.vars.selected ≡ Some kind = is ∙ sym (ap (λ (k : ℕ). Some k) (eqb-true kind selected equal)) in
           cond_both (is_done now.vars.method_state) _ _ IsRow (λ over. drops bytes _ _ going (done_method id kind body heard same over))
-          (λ undone. method-row false (again same undone)))
+          (λ undone. method_row false (again same undone)))
           (λ other. drops bytes _ _ going (other_method id kind selected body heard is other no_notification)))
 
-    success-row : (id : ℕ) → Receives now bytes id (success id) true → IsRow (peer_success now)
-    success-row id heard =
+    success_row : (id : ℕ) → Receives now bytes id (success id) true → IsRow (peer_success now)
+    success_row id heard =
         cond_both (is_fail now.vars.decision) _ _ IsRow
         (λ fails. cond_both (is_cont now.vars.method_state) _ _ IsRow (λ goes_on. drops bytes _ _ going (early_success id heard fails goes_on))
         (λ over. ends_badly _ _ going (late_success bytes id heard fails over)))
         (λ sure. ends_well _ _ going sure (by_success bytes id heard))
 
-    failure-row : (id : ℕ) → Receives now bytes id (failure id) true → IsRow (peer_failure now)
-    failure-row id heard =
+    failure_row : (id : ℕ) → Receives now bytes id (failure id) true → IsRow (peer_failure now)
+    failure_row id heard =
         cond_both (is_uncond now.vars.decision) _ _ IsRow (λ sure. drops bytes _ _ going (late_failure id heard sure))
         (λ unsure. cond_both (is_cont now.vars.method_state) _ _ IsRow (λ goes_on. drops bytes _ _ going (early_failure id heard unsure goes_on))
         (λ over. ends_badly _ _ going (by_failure bytes id heard unsure over)))
 
-    packet-row : (packet : Result PacketValue Cause) → packet_of bytes ≡ packet → IsRow (peer_row now packet)
-    packet-row (Err c) is = drops bytes _ c going (no_packet c is)
-    packet-row (Ok (request id kind body)) is =
+    packet_row : (packet : Result PacketValue Cause) → packet_of bytes ≡ packet → IsRow (peer_row now packet)
+    packet_row (Err c) is = drops bytes _ c going (no_packet c is)
+    packet_row (Ok (request id kind body)) is =
         cond_both (is_last_id now.vars.last_id id) _ _ IsRow
         (λ last. resends bytes id kind body (record { going = going; is_packet = is; last = last }))
-        (λ new. new-row id kind body (record { going = going; is_packet = is; last = new }) now.vars.selected refl)
-    packet-row (Ok (response id kind body)) is = drops bytes _ _ going (no_request id kind body is)
-    packet-row (Ok (success id)) is =
+        (λ new. new_row id kind body (record { going = going; is_packet = is; last = new }) now.vars.selected refl)
+    packet_row (Ok (response id kind body)) is = drops bytes _ _ going (no_request id kind body is)
+    packet_row (Ok (success id)) is =
         cond_both (is_last_id now.vars.last_id id) _ _ IsRow
-        (λ last. success-row id (record { going = going; is_packet = is; last = last }))
+        (λ last. success_row id (record { going = going; is_packet = is; last = last }))
         (λ new. drops bytes _ _ going (other_success id (record { going = going; is_packet = is; last = new })))
-    packet-row (Ok (failure id)) is =
+    packet_row (Ok (failure id)) is =
         cond_both (is_last_id now.vars.last_id id) _ _ IsRow
-        (λ last. failure-row id (record { going = going; is_packet = is; last = last }))
+        (λ last. failure_row id (record { going = going; is_packet = is; last = last }))
         (λ new. drops bytes _ _ going (other_failure id (record { going = going; is_packet = is; last = new })))
 
-  octets-row : (bytes : List ℕ) → PeerRow now (octets bytes) (peer_deliver now bytes)
+  octets_row : (bytes : List ℕ) → PeerRow now (octets bytes) (peer_deliver now bytes)
   unfolding peer_deliver
-  octets-row bytes =
+  octets_row bytes =
       cond_both (is_end now.vars.state) _ _ (PeerRow now (octets bytes)) (λ over. ended bytes over)
-      (λ going. packet-row bytes going (packet_of bytes) refl)
+      (λ going. packet_row bytes going (packet_of bytes) refl)
 
-  report-row : (report : PeerInput) (out : PeerAnswer) → ((bytes : List ℕ) → report ≡ octets bytes → ⊥) → ((nonce : List ℕ) → report ≡ restart nonce → ⊥)
+  report_row : (report : PeerInput) (out : PeerAnswer) → ((bytes : List ℕ) → report ≡ octets bytes → ⊥) → ((nonce : List ℕ) → report ≡ restart nonce → ⊥)
       → (is_end now.vars.state ≡ false → PeerRow now report out) → PeerRow now report (unless_ended now out)
-  report-row report out no_octets no_restart row =
+  report_row report out no_octets no_restart row =
       cond_both (is_end now.vars.state) _ _ (PeerRow now report) (λ over. rests report no_octets no_restart over) row
 
-  idle-row : is_end now.vars.state ≡ false → PeerRow now idle (peer_idle now)
+  idle_row : is_end now.vars.state ≡ false → PeerRow now idle (peer_idle now)
   unfolding peer_idle
-  idle-row going =
+  idle_row going =
       cond_both (is_uncond now.vars.decision) _ _ (λ s. PeerRow now idle (peer_ends now [] s))
       (λ sure. ends_well _ _ going (uncond_is_sure now.vars.decision sure) (by_idle sure))
       (λ unsure. ends_badly _ _ going (by_idle_unsure unsure))
 
-  accept-row : is_end now.vars.state ≡ false → PeerRow now alt_accept (peer_alt_accept now)
+  accept_row : is_end now.vars.state ≡ false → PeerRow now alt_accept (peer_alt_accept now)
   unfolding peer_alt_accept
-  accept-row going =
+  accept_row going =
       cond_both (is_fail now.vars.decision) _ _ (PeerRow now alt_accept)
       (λ fails. cond_both (is_cont now.vars.method_state) _ _ (PeerRow now alt_accept) (λ goes_on. waits going fails goes_on)
       (λ over. ends_badly _ _ going (late_accept fails over)))
       (λ sure. ends_well _ _ going sure by_accept)
 
-  reject-row : is_end now.vars.state ≡ false → PeerRow now alt_reject (peer_alt_reject now)
+  reject_row : is_end now.vars.state ≡ false → PeerRow now alt_reject (peer_alt_reject now)
   unfolding peer_alt_reject
-  reject-row going = ends_badly _ _ going by_reject
+  reject_row going = ends_badly _ _ going by_reject
 
 pub peer_answers_are_rows : PeerAnswersAreRows
-peer_answers_are_rows now (octets bytes) = octets-row now bytes
-peer_answers_are_rows now idle = report-row now idle _ (λ bytes e. cc e) (λ nonce e. cc e) (idle-row now)
-peer_answers_are_rows now alt_accept = report-row now alt_accept _ (λ bytes e. cc e) (λ nonce e. cc e) (accept-row now)
-peer_answers_are_rows now alt_reject = report-row now alt_reject _ (λ bytes e. cc e) (λ nonce e. cc e) (reject-row now)
+peer_answers_are_rows now (octets bytes) = octets_row now bytes
+peer_answers_are_rows now idle = report_row now idle _ (λ bytes e. cc e) (λ nonce e. cc e) (idle_row now)
+peer_answers_are_rows now alt_accept = report_row now alt_accept _ (λ bytes e. cc e) (λ nonce e. cc e) (accept_row now)
+peer_answers_are_rows now alt_reject = report_row now alt_reject _ (λ bytes e. cc e) (λ nonce e. cc e) (reject_row now)
 peer_answers_are_rows now (restart nonce) = begins nonce

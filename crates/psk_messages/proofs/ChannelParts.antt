@@ -20,8 +20,8 @@ seam tag sealed n size = ap (λ k. get_or (tag ++ sealed ∷ []) k 0) (sym size)
 pub sealed_at_channel : (nonce sealed : ℕ) (tag : List ℕ) → length tag ≡ 16 → sealed_at (channel nonce tag sealed) ≡ sealed
 sealed_at_channel nonce sealed tag size = seam tag sealed 16 size
 
-pub length-channel : (nonce sealed : ℕ) (tag : List ℕ) → length tag ≡ 16 → length (channel nonce tag sealed) ≡ 21
-length-channel nonce sealed tag size = omega (arith, length-append tag (sealed ∷ []))
+pub length_channel : (nonce sealed : ℕ) (tag : List ℕ) → length tag ≡ 16 → length (channel nonce tag sealed) ≡ 21
+length_channel nonce sealed tag size = omega (arith, length-append tag (sealed ∷ []))
 
 -- the octets behind the Nonce
 tag_and_sealed : (rest : List ℕ) → length rest ≡ 17 → take 16 rest ++ (slice_index rest 16 ∷ []) ≡ rest

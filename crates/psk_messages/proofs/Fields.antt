@@ -6,7 +6,7 @@ use Rattle.std.proofs.lemmas.List.Elements.{All-drop}
 use Rattle.eap_packet.specs.Packet.{IsOctets}
 use Rattle.psk_messages.specs.Message.{Message, psk1, psk2, psk3, psk4, t_of, fields_of, channel, AreFields}
 use Rattle.psk_messages.specs.Reading.{is_size, nonce_at, tag_at, sealed_at, message_at, psk1_at, psk2_at, psk3_at, psk4_at}
-use Rattle.psk_messages.proofs.ChannelParts.{nonce_at_channel, tag_at_channel, sealed_at_channel, length-channel, parts}
+use Rattle.psk_messages.proofs.ChannelParts.{nonce_at_channel, tag_at_channel, sealed_at_channel, length_channel, parts}
 
 -- The octets after Flags are as many as T says.
 pub is_size_fields : (message : Message) → AreFields message → is_size (t_of message) (length (fields_of message)) ≡ true
@@ -15,10 +15,10 @@ is_size_fields (psk2 rand_s rand_p mac id_p) p =
     grind (arith, nat_tests, length-append rand_s (rand_p ++ (mac ++ id_p)), length-append rand_p (mac ++ id_p), length-append mac id_p)
 is_size_fields (psk3 rand_s mac nonce tag sealed) p =
     let octets = channel nonce tag sealed in
-    grind (arith, nat_tests, length-append rand_s (mac ++ octets), length-append mac octets, length-channel nonce sealed tag p.3)
+    grind (arith, nat_tests, length-append rand_s (mac ++ octets), length-append mac octets, length_channel nonce sealed tag p.3)
 is_size_fields (psk4 rand_s nonce tag sealed) p =
     let octets = channel nonce tag sealed in
-    grind (arith, nat_tests, length-append rand_s octets, length-channel nonce sealed tag p.2)
+    grind (arith, nat_tests, length-append rand_s octets, length_channel nonce sealed tag p.2)
 
 psk1_at_fields : (rand_s id_s : List ℕ) → length rand_s ≡ 16 → psk1_at (rand_s ++ id_s) ≡ psk1 rand_s id_s
 psk1_at_fields rand_s id_s p =

@@ -34,12 +34,12 @@ pieces_more (octet ∷ rest) some =
     ∙ ap (λ (l : List Attribute). (79, take 253 eap) ∷ l) (same_pieces (length rest) (length (drop 253 eap)) (drop 253 eap) (omega arith) (omega arith))
 
 -- the octets of attributes that follow each other
-pub octets_of-append : (xs ys : List Attribute) → octets_of (xs ++ ys) ≡ octets_of xs ++ octets_of ys
+pub octets_of_append : (xs ys : List Attribute) → octets_of (xs ++ ys) ≡ octets_of xs ++ octets_of ys
 unfolding octets_of
-octets_of-append [] ys = refl
-octets_of-append ((kind, value) ∷ xs) ys =
+octets_of_append [] ys = refl
+octets_of_append ((kind, value) ∷ xs) ys =
     let front : List ℕ = attribute_octets (kind, value) in
-    ap (λ (l : List ℕ). front ++ l) (octets_of-append xs ys) ∙ sym (append_assoc front (octets_of xs) (octets_of ys))
+    ap (λ (l : List ℕ). front ++ l) (octets_of_append xs ys) ∙ sym (append_assoc front (octets_of xs) (octets_of ys))
 
 pub octets_of_one : (kind : ℕ) (value : List ℕ) → octets_of ((kind, value) ∷ []) ≡ attribute_octets (kind, value)
 unfolding octets_of
@@ -76,8 +76,8 @@ pub carried_encoded : (user state eap : List ℕ) →
     (octets_of (field 1 user) ++ octets_of (field 24 state)) ++ octets_of (pieces eap) ≡ octets_of (attributes_before_tag user state eap)
 carried_encoded user state eap =
     append_assoc (octets_of (field 1 user)) (octets_of (field 24 state)) (octets_of (pieces eap))
-    ∙ ap (λ (l : List ℕ). octets_of (field 1 user) ++ l) (sym (octets_of-append (field 24 state) (pieces eap)))
-    ∙ sym (octets_of-append (field 1 user) (field 24 state ++ pieces eap))
+    ∙ ap (λ (l : List ℕ). octets_of (field 1 user) ++ l) (sym (octets_of_append (field 24 state) (pieces eap)))
+    ∙ sym (octets_of_append (field 1 user) (field 24 state ++ pieces eap))
 
 -- a packet with its tag, as it is written
 pub tagged_encoded : (code id : ℕ) (authenticator attributes tag : List ℕ) (list : List Attribute) → length tag ≡ 16 → attributes ≡ octets_of list →
@@ -86,7 +86,7 @@ pub tagged_encoded : (code id : ℕ) (authenticator attributes tag : List ℕ) (
 unfolding spelled packet_with_tag
 tagged_encoded code id authenticator attributes tag list sixteen e =
     let all : octets_of (list ++ (80, tag) ∷ []) ≡ attributes ++ attribute_octets (80, tag) =
-    octets_of-append list ((80, tag) ∷ []) ∙ ap (λ (l : List ℕ). octets_of list ++ l) (octets_of_one 80 tag)
+    octets_of_append list ((80, tag) ∷ []) ∙ ap (λ (l : List ℕ). octets_of list ++ l) (octets_of_one 80 tag)
     ∙ ap (λ (l : List ℕ). l ++ attribute_octets (80, tag)) (sym e) in
     let size : length attributes + 18 ≡ length (octets_of (list ++ (80, tag) ∷ [])) =
     omega (arith, ap length all, length-append attributes (attribute_octets (80, tag))) in

@@ -10,7 +10,7 @@ use Rattle.radius_carry.specs.Tags.{asked_text, blank_text, blank_attributes, hm
 use Rattle.radius_carry.specs.Written.{attributes_before_tag, field, pieces, pieces_in, sealed_packet, packet_with_tag}
 use Rattle.radius_carry.specs.Laws.{AreFields, RequestsAreReadBack, RequestsAreGood, RepliesAreReadBack, RepliesAreGood}
 use Rattle.radius_carry.proofs.Grammar.{encodings_are_read}
-use Rattle.radius_carry.proofs.Pieced.{octets_of-append, pieces_more}
+use Rattle.radius_carry.proofs.Pieced.{octets_of_append, pieces_more}
 use Rattle.radius_carry.proofs.Places.{has_none}
 
 -- ---- attributes that follow each other
@@ -23,24 +23,24 @@ cond_append : (b : Bool) (value l m : List ℕ) → cond b (value ++ (l ++ m)) (
 cond_append true value l m = sym (append_assoc value l m)
 cond_append false value l m = refl
 
-count-append : (kind : ℕ) (xs ys : List Attribute) → count kind (xs ++ ys) ≡ count kind xs + count kind ys
+count_append : (kind : ℕ) (xs ys : List Attribute) → count kind (xs ++ ys) ≡ count kind xs + count kind ys
 unfolding count
-count-append kind [] ys = omega arith
-count-append kind ((other, value) ∷ xs) ys =
-    ap (λ n. cond (other == kind) (1 + n) n) (count-append kind xs ys) ∙ cond_add (other == kind) (count kind xs) (count kind ys)
+count_append kind [] ys = omega arith
+count_append kind ((other, value) ∷ xs) ys =
+    ap (λ n. cond (other == kind) (1 + n) n) (count_append kind xs ys) ∙ cond_add (other == kind) (count kind xs) (count kind ys)
 
-joined-append : (kind : ℕ) (xs ys : List Attribute) → value_of_kind kind (xs ++ ys) ≡ value_of_kind kind xs ++ value_of_kind kind ys
+joined_append : (kind : ℕ) (xs ys : List Attribute) → value_of_kind kind (xs ++ ys) ≡ value_of_kind kind xs ++ value_of_kind kind ys
 unfolding value_of_kind
-joined-append kind [] ys = refl
-joined-append kind ((other, value) ∷ xs) ys =
-    ap (λ (l : List ℕ). cond (other == kind) (value ++ l) l) (joined-append kind xs ys)
+joined_append kind [] ys = refl
+joined_append kind ((other, value) ∷ xs) ys =
+    ap (λ (l : List ℕ). cond (other == kind) (value ++ l) l) (joined_append kind xs ys)
     ∙ cond_append (other == kind) value (value_of_kind kind xs) (value_of_kind kind ys)
 
-blanked-append : (xs ys : List Attribute) → blank_attributes (xs ++ ys) ≡ blank_attributes xs ++ blank_attributes ys
+blanked_append : (xs ys : List Attribute) → blank_attributes (xs ++ ys) ≡ blank_attributes xs ++ blank_attributes ys
 unfolding blank_attributes
-blanked-append [] ys = refl
-blanked-append ((kind, value) ∷ xs) ys =
-    ap (λ (l : List Attribute). (kind, cond (kind == 80) (replicate (length value) 0) value) ∷ l) (blanked-append xs ys)
+blanked_append [] ys = refl
+blanked_append ((kind, value) ∷ xs) ys =
+    ap (λ (l : List Attribute). (kind, cond (kind == 80) (replicate (length value) 0) value) ∷ l) (blanked_append xs ys)
 
 -- ---- a name or a state
 
@@ -136,20 +136,20 @@ carried_of user state eap some =
     let more : 1 ≤ count 79 (pieces eap) = some_pieces eap some in
     let rest : List Attribute = field 24 state ++ pieces eap in
     record {
-      carries = omega (arith, count-append 79 (field 1 user) rest, count-append 79 (field 24 state) (pieces eap));
+      carries = omega (arith, count_append 79 (field 1 user) rest, count_append 79 (field 24 state) (pieces eap));
       joins =
-          joined-append 79 (field 1 user) rest
+          joined_append 79 (field 1 user) rest
           ∙ ap (λ (l : List ℕ). l ++ value_of_kind 79 rest) one.joins_none
-          ∙ joined-append 79 (field 24 state) (pieces eap)
+          ∙ joined_append 79 (field 24 state) (pieces eap)
           ∙ ap (λ (l : List ℕ). l ++ value_of_kind 79 (pieces eap)) two.joins_none
           ∙ three.joins;
-      no_tag = omega (arith, count-append 80 (field 1 user) rest, count-append 80 (field 24 state) (pieces eap), one.no_tag, two.no_tag, three.no_tag);
+      no_tag = omega (arith, count_append 80 (field 1 user) rest, count_append 80 (field 24 state) (pieces eap), one.no_tag, two.no_tag, three.no_tag);
       size =
           omega (
             arith,
-            ap length (octets_of-append (field 1 user) rest),
+            ap length (octets_of_append (field 1 user) rest),
             length-append (octets_of (field 1 user)) (octets_of rest),
-            ap length (octets_of-append (field 24 state) (pieces eap)),
+            ap length (octets_of_append (field 24 state) (pieces eap)),
             length-append (octets_of (field 24 state)) (octets_of (pieces eap)),
             one.size,
             two.size,
@@ -196,15 +196,15 @@ tagged_of code id authenticator user state eap tag known fields sixteen =
     let of = carried_of user state eap fields.some_eap in
     let end = last_tag tag in
     let none = has_none list of.no_tag in
-    let eaps = count-append 79 list last in
-    let tags = count-append 80 list last in
-    let octets = ap length (octets_of-append list last) in
+    let eaps = count_append 79 list last in
+    let tags = count_append 80 list last in
+    let octets = ap length (octets_of_append list last) in
     let both = length-append (octets_of list) (octets_of last) in
     let packet = packet_with_tag code id authenticator list tag in
     let carries : value_of_kind 79 (list ++ last) ≡ eap =
-    joined-append 79 list last ∙ ap (λ (l : List ℕ). value_of_kind 79 list ++ l) end.joins_none ∙ append-nil (value_of_kind 79 list) ∙ of.joins in
+    joined_append 79 list last ∙ ap (λ (l : List ℕ). value_of_kind 79 list ++ l) end.joins_none ∙ append-nil (value_of_kind 79 list) ∙ of.joins in
     let there : value_of_kind 80 (list ++ last) ≡ tag =
-    joined-append 80 list last ∙ ap (λ (l : List ℕ). l ++ value_of_kind 80 last) none.none_joined ∙ end.joins in
+    joined_append 80 list last ∙ ap (λ (l : List ℕ). l ++ value_of_kind 80 last) none.none_joined ∙ end.joins in
     record {
       is_radius = record {
         encoding_of = refl;
@@ -219,7 +219,7 @@ tagged_of code id authenticator user state eap tag known fields sixteen =
       carries = carries;
       tag_there = there;
       blank =
-          blanked-append list last
+          blanked_append list last
           ∙ ap (λ (l : List Attribute). l ++ blank_attributes last) none.unblanked
           ∙ ap (λ (l : List Attribute). list ++ l) end.blank
           ∙ ap (λ n. list ++ (80, replicate n 0) ∷ []) sixteen;
@@ -227,14 +227,14 @@ tagged_of code id authenticator user state eap tag known fields sixteen =
 
 -- ---- what is written
 
-length-hmac_md5 : (key text : List ℕ) → length (hmac_md5 key text) ≡ 16
+length_hmac_md5 : (key text : List ℕ) → length (hmac_md5 key text) ≡ 16
 unfolding hmac
-length-hmac_md5 key text = length-md5 _
+length_hmac_md5 key text = length-md5 _
 
 pub requests_are_read_back : RequestsAreReadBack
 unfolding sealed_packet
 requests_are_read_back secret authenticator user state eap rest id fields =
-    let of = tagged_of 1 id authenticator user state eap _ refl fields (length-hmac_md5 secret _) in
+    let of = tagged_of 1 id authenticator user state eap _ refl fields (length_hmac_md5 secret _) in
     record { read = encodings_are_read _ rest of.is_radius; carries = of.carries }
 
 pub requests_are_good : RequestsAreGood
@@ -242,7 +242,7 @@ unfolding sealed_packet packet_with_tag blank_text
 requests_are_good secret authenticator user state eap id fields =
     let blank : RadiusPacket = packet_with_tag 1 id authenticator (attributes_before_tag user state eap) (replicate 16 0) in
     let tag : List ℕ = hmac_md5 secret (spelled blank) in
-    let of = tagged_of 1 id authenticator user state eap tag refl fields (length-hmac_md5 secret (spelled blank)) in
+    let of = tagged_of 1 id authenticator user state eap tag refl fields (length_hmac_md5 secret (spelled blank)) in
     record {
       is_request = refl;
       tag =
@@ -263,7 +263,7 @@ replies_are_read_back secret asked state eap rest code id reply fields =
       state_bounded = fields.state_bounded;
       some_eap = fields.some_eap;
       eap_bounded = fields.eap_bounded;
-    }) (length-hmac_md5 secret (spelled blank)) in
+    }) (length_hmac_md5 secret (spelled blank)) in
     record { read = encodings_are_read _ rest of.is_radius; carries = of.carries }
 
 pub replies_are_good : RepliesAreGood
@@ -271,7 +271,7 @@ unfolding sealed_packet packet_with_tag asked_text blank_text
 replies_are_good secret asked state eap code id reply fields =
     let blank : RadiusPacket = packet_with_tag code id asked (attributes_before_tag [] state eap) (replicate 16 0) in
     let tag : List ℕ = hmac_md5 secret (spelled blank) in
-    let of = tagged_of code id asked [] state eap tag reply.known fields (length-hmac_md5 secret (spelled blank)) in
+    let of = tagged_of code id asked [] state eap tag reply.known fields (length_hmac_md5 secret (spelled blank)) in
     record {
       is_reply = reply.is_reply;
       tag =

@@ -4,7 +4,7 @@ use Rattle.text_tables.specs.Words.{words}
 use Rattle.text_tables.specs.Fields.{◌>>=◌}
 use Rattle.text_tables.specs.Rows.{faults, unless, fault_of_words, keyword_in, first_word, line_has}
 use Rattle.text_tables.specs.declared.fault.LineFault.{LineFault}
-use Rattle.text_tables.proofs.Bounded.{no_fault, unless-ok, faultless-fits}
+use Rattle.text_tables.proofs.Bounded.{no_fault, unless_ok, faultless_fits}
 use Rattle.text_tables.proofs.Judging.{StartsAt, bad_word, judges}
 use Rattle.request_text.specs.Keys.{row_of, requests, asked_of, asked_by, has_fault, HasSizes, key_line}
 use Rattle.request_text.specs.Laws.{RequestsAreJudged}
@@ -30,15 +30,15 @@ pub request_sizes : (line : List ℕ) (asked : KeyLine) → Ok asked ≡ asked_b
 unfolding asked_by
 request_sizes line asked h =
     let r = unwrap_or (keyword_in row_of requests (words line)) request.Name in
-    let u = unless-ok (find (has_fault line) faults) (asked_of r (words line)) asked (sym h) in
-    subst HasSizes (u.1) (asked_of_sizes r (words line) (faultless-fits row_of requests request.Name line (no_fault (has_fault line) (u.0))))
+    let u = unless_ok (find (has_fault line) faults) (asked_of r (words line)) asked (sym h) in
+    subst HasSizes (u.1) (asked_of_sizes r (words line) (faultless_fits row_of requests request.Name line (no_fault (has_fault line) (u.0))))
 
-some-unless : {A : Type 0} (first : Option LineFault) (value : A) (answer : Result A LineFault) → answer ≡ unless first value → (answer >>= λ a. Ok (Some a)) ≡ unless first (Some value)
-some-unless None value answer e = rw e refl
-some-unless (Some f) value answer e = rw e refl
+some_unless : {A : Type 0} (first : Option LineFault) (value : A) (answer : Result A LineFault) → answer ≡ unless first value → (answer >>= λ a. Ok (Some a)) ≡ unless first (Some value)
+some_unless None value answer e = rw e refl
+some_unless (Some f) value answer e = rw e refl
 
 pub requests_are_judged : RequestsAreJudged
 unfolding key_line asked_by
 requests_are_judged line not_passed =
     let asked = asked_of (unwrap_or (keyword_in row_of requests (words line)) request.Name) (words line) in
-    judges (key_line line) (has_fault line) (Some asked) (rw not_passed (some-unless (find (has_fault line) faults) asked (asked_by line) refl))
+    judges (key_line line) (has_fault line) (Some asked) (rw not_passed (some_unless (find (has_fault line) faults) asked (asked_by line) refl))

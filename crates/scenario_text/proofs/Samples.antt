@@ -64,7 +64,7 @@ unfolding line_has keyword_in item_of spells_octets
 users = (refl, refl, refl, refl)
 
 -- the words of the second version are none of the first
-later-words : (says (codes "restart peer") ≡ Err fault.BadWord)
+later_words : (says (codes "restart peer") ≡ Err fault.BadWord)
     × (says (codes "peer-expanded no") ≡ Err fault.BadWord)
     × (means_in Second (codes "restart pass") ≡ Ok (Happens (event.Restart party.Pass)))
     × (means_in Second (codes "restart peer") ≡ Ok (Happens (event.Restart party.Peer)))
@@ -75,7 +75,7 @@ later-words : (says (codes "restart peer") ≡ Err fault.BadWord)
     × (means_in Second (codes "peer-expanded maybe") ≡ Err fault.BadChoice)
     × (means_in Second (codes "deliver 1") ≡ Ok (Happens (event.Deliver 1)))
 unfolding line_has keyword_in item_of spells_number
-later-words = (refl, refl, refl, refl, refl, refl, refl, refl, refl, refl)
+later_words = (refl, refl, refl, refl, refl, refl, refl, refl, refl, refl)
 
 nonce : List ℕ
 nonce = replicate 64 48
@@ -111,13 +111,13 @@ abbrev later_sample : List (List ℕ)
 later_sample =
     codes "eap-scenario 2" ∷ (codes "peer-expanded no" ∷ front ++ (codes "peer-nonce " ++ ones) ∷ (codes "peer-nonce " ++ nonce) ∷ codes "events" ∷ codes "restart peer" ∷ codes "end" ∷ [])
 
-reads-later : read_all later_sample
+reads_later : read_all later_sample
     ≡ Ok (record {
       setup = Some (setup (record { version = 2; peer = replicate 32 17 ∷ replicate 32 0 ∷ []; server = [] }));
       events = event.Restart party.Peer ∷ [];
     })
 unfolding read_lines read_line texts.read_line read_body body_has line_has keyword_in item_of spells_number spells_octets with_later peer_setup_of server_setup_of setup_of with_user nonce ones
-reads-later = refl
+reads_later = refl
 
 nonces : ℕ → List (List ℕ)
 nonces count = replicate count (codes "server-nonce " ++ nonce)

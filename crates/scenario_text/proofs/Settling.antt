@@ -11,7 +11,7 @@ use Rattle.login_setup.specs.declared.setup.Later.{Later}
 use Rattle.login_setup.specs.declared.setup.PeerSetup.{PeerSetup}
 use Rattle.login_setup.specs.Setup.{ServerSetup}
 use Rattle.login_setup.specs.declared.setup.Setup.{Setup}
-use Rattle.login_setup.proofs.UserLists.{AreDistinct-push}
+use Rattle.login_setup.proofs.UserLists.{AreDistinct_push}
 use Rattle.text_tables.specs.Fields.{◌>>=◌}
 use Rattle.text_tables.specs.Users.{with_user}
 use Rattle.text_tables.proofs.Adding.{empty, with_user_is, with_user_satisfies}
@@ -28,40 +28,40 @@ use Rattle.scenario_text.specs.declared.settings.Settings.{Settings}
 use Rattle.scenario_text.specs.declared.version.Version.{Version}
 use Rattle.scenario_text.specs.declared.version.Version.TheVariants.{First, Second}
 
-no-users : AreUsers []
-no-users = record { few = lit≤ tt; distinct = λ i j d low high. absurd (not-suc-le-zero high) }
+no_users : AreUsers []
+no_users = record { few = lit≤ tt; distinct = λ i j d low high. absurd (not-suc-le-zero high) }
 
-users-kept : (users : List User) (user : User) → AreUsers users → AreUsers (with_user users user)
-users-kept users user h =
+users_kept : (users : List User) (user : User) → AreUsers users → AreUsers (with_user users user)
+users_kept users user h =
     with_user_satisfies AreUsers users user h (λ r.
-    record { few = omega (arith, length-append users (user ∷ []), r.few); distinct = AreDistinct-push users user (h.distinct) (r.absent) })
+    record { few = omega (arith, length-append users (user ∷ []), r.few); distinct = AreDistinct_push users user (h.distinct) (r.absent) })
 
-later-few : (version : Version) (later : List (List ℕ)) (nonce : List ℕ) → length later ≤ most_later version → length (with_later version later nonce) ≤ most_later version
+later_few : (version : Version) (later : List (List ℕ)) (nonce : List ℕ) → length later ≤ most_later version → length (with_later version later nonce) ≤ most_later version
 unfolding with_later
-later-few version later nonce h =
+later_few version later nonce h =
     cond_both (nat_lt (length later) (most_later version)) (later ++ nonce ∷ []) later (λ l. length l ≤ most_later version)
     (λ e. let below = ltb-true (length later) (most_later version) e in omega (arith, length-append later (nonce ∷ []))) (λ e. h)
 
-few-kept : (version : Version) (slot : Option GivenNonces) (nonce : List ℕ) → AreFew version slot → AreFew version (with_nonce version slot nonce)
-few-kept First None nonce h = lit≤ tt
-few-kept Second None nonce h = lit≤ tt
-few-kept version (Some given) nonce h = later-few version given.later nonce h
+few_kept : (version : Version) (slot : Option GivenNonces) (nonce : List ℕ) → AreFew version slot → AreFew version (with_nonce version slot nonce)
+few_kept First None nonce h = lit≤ tt
+few_kept Second None nonce h = lit≤ tt
+few_kept version (Some given) nonce h = later_few version given.later nonce h
 
-pub none-kept : (version : Version) → IsConsistent (settings_of_version version)
-none-kept version = record { users = no-users; peer_nonces = tt; server_nonces = tt }
+pub none_kept : (version : Version) → IsConsistent (settings_of_version version)
+none_kept version = record { users = no_users; peer_nonces = tt; server_nonces = tt }
 
 pub kept : (s : Settings) (x : Setting) → IsConsistent s → IsConsistent (with_setting s x)
-kept s (setting.User user) h = record { users = users-kept s.users user h.users; peer_nonces = h.peer_nonces; server_nonces = h.server_nonces }
+kept s (setting.User user) h = record { users = users_kept s.users user h.users; peer_nonces = h.peer_nonces; server_nonces = h.server_nonces }
 kept s (setting.PeerNonce nonce) h =
-    record { users = h.users; peer_nonces = few-kept s.version s.peer_nonces nonce h.peer_nonces; server_nonces = h.server_nonces }
+    record { users = h.users; peer_nonces = few_kept s.version s.peer_nonces nonce h.peer_nonces; server_nonces = h.server_nonces }
 kept s (setting.ServerNonce nonce) h =
-    record { users = h.users; peer_nonces = h.peer_nonces; server_nonces = few-kept s.version s.server_nonces nonce h.server_nonces }
+    record { users = h.users; peer_nonces = h.peer_nonces; server_nonces = few_kept s.version s.server_nonces nonce h.server_nonces }
 kept s other h = record { users = h.users; peer_nonces = h.peer_nonces; server_nonces = h.server_nonces }
 
 -- a setting leaves the version
-pub same-version : (s : Settings) (x : Setting) → (with_setting s x).version ≡ s.version
-same-version s (setting.User user) = refl
-same-version s other = refl
+pub same_version : (s : Settings) (x : Setting) → (with_setting s x).version ≡ s.version
+same_version s (setting.User user) = refl
+same_version s other = refl
 
 -- the values that come to what is set
 abbrev pub plus : {A : Type 0} → Option A → List A → List A
@@ -123,36 +123,36 @@ added : (users : List User) (user : User) (rest : List User) → HasCapacity max
 added users user rest h = sym (append_assoc users (user ∷ []) rest) ∙ ap (λ l. l ++ rest) (pushed users user h)
 
 -- so does a nonce for which there is room
-later-added : (later : List (List ℕ)) (nonce : List ℕ) (rest : List (List ℕ)) → nat_le 15 (length later) ≡ false → later ++ nonce ∷ rest ≡ with_later Second later nonce ++ rest
+later_added : (later : List (List ℕ)) (nonce : List ℕ) (rest : List (List ℕ)) → nat_le 15 (length later) ≡ false → later ++ nonce ∷ rest ≡ with_later Second later nonce ++ rest
 unfolding with_later
-later-added later nonce rest f =
+later_added later nonce rest f =
     let room : nat_lt (length later) 15 ≡ true = lt-ltb (length later) 15 (leb-false 15 (length later) f) in
     rw room (sym (append_assoc later (nonce ∷ []) rest))
 
-nonce-added : (version : Version) (slot : Option GivenNonces) (nonce : List ℕ) (rest : List (List ℕ)) → (has_later version && is_full slot) ≡ false →
+nonce_added : (version : Version) (slot : Option GivenNonces) (nonce : List ℕ) (rest : List (List ℕ)) → (has_later version && is_full slot) ≡ false →
     (not (has_later version) && is_some slot) ≡ false → plus_nonces slot (nonce ∷ rest) ≡ plus_nonces (with_nonce version slot nonce) rest
-nonce-added version None nonce rest f n = refl
-nonce-added First (Some given) nonce rest f n = absurd cc
-nonce-added Second (Some given) nonce rest f n = ap (λ l. given.first ∷ l) (later-added given.later nonce rest f)
+nonce_added version None nonce rest f n = refl
+nonce_added First (Some given) nonce rest f n = absurd cc
+nonce_added Second (Some given) nonce rest f n = ap (λ l. given.first ∷ l) (later_added given.later nonce rest f)
 
 -- a new setting goes from what comes to what is set
 moves : (s : Settings) (x : Setting) (v : Values) → is_over s x ≡ false → has_setting s x ≡ false → joined s (with_value x v) ≡ joined (with_setting s x) v
 moves s (setting.User a) v f n = ap (λ l. record (joined s v) { users = l }) (added s.users a v.users (room s.users a f n))
-moves s (setting.PeerNonce a) v f n = ap (λ l. record (joined s v) { peer_nonce = l }) (nonce-added s.version s.peer_nonces a v.peer_nonce f n)
-moves s (setting.ServerNonce a) v f n = ap (λ l. record (joined s v) { server_nonce = l }) (nonce-added s.version s.server_nonces a v.server_nonce f n)
+moves s (setting.PeerNonce a) v f n = ap (λ l. record (joined s v) { peer_nonce = l }) (nonce_added s.version s.peer_nonces a v.peer_nonce f n)
+moves s (setting.ServerNonce a) v f n = ap (λ l. record (joined s v) { server_nonce = l }) (nonce_added s.version s.server_nonces a v.server_nonce f n)
 moves s other v f n = rw fresh refl
 
 pub gathers : (s : Settings) (settings : List Setting) → AllNew s settings → joined s (values_of settings) ≡ joined (settings_after s settings) no_values
 gathers s [] h = refl
 gathers s (x ∷ rest) h = moves s x (values_of rest) (h.0) (h.1) ∙ gathers (with_setting s x) rest (h.2)
 
-pub kept-after : (s : Settings) (settings : List Setting) → IsConsistent s → IsConsistent (settings_after s settings)
-kept-after s [] k = k
-kept-after s (x ∷ rest) k = kept-after (with_setting s x) rest (kept s x k)
+pub kept_after : (s : Settings) (settings : List Setting) → IsConsistent s → IsConsistent (settings_after s settings)
+kept_after s [] k = k
+kept_after s (x ∷ rest) k = kept_after (with_setting s x) rest (kept s x k)
 
-pub version-after : (s : Settings) (settings : List Setting) → (settings_after s settings).version ≡ s.version
-version-after s [] = refl
-version-after s (x ∷ rest) = version-after (with_setting s x) rest ∙ same-version s x
+pub version_after : (s : Settings) (settings : List Setting) → (settings_after s settings).version ≡ s.version
+version_after s [] = refl
+version_after s (x ∷ rest) = version_after (with_setting s x) rest ∙ same_version s x
 
 -- whole settings are those that the lines give
 module _ {A B : Type 0} (Q : B → Type 0) where
@@ -164,21 +164,21 @@ module _ {A B : Type 0} (Q : B → Type 0) where
   with_created (Ok a) P f p h = h a p
   with_created (Err e) P f p h = tt
 
-given-or : {A : Type 0} (slot : Option A) (d : A) → IsGivenOr d (plus slot []) (unwrap_or slot d)
-given-or None d = refl
-given-or (Some a) d = refl
+given_or : {A : Type 0} (slot : Option A) (d : A) → IsGivenOr d (plus slot []) (unwrap_or slot d)
+given_or None d = refl
+given_or (Some a) d = refl
 
-given-or-none : {A : Type 0} (slot : Option A) → IsGivenOrNone (plus slot []) slot
-given-or-none None = refl
-given-or-none (Some a) = refl
+given_or_none : {A : Type 0} (slot : Option A) → IsGivenOrNone (plus slot []) slot
+given_or_none None = refl
+given_or_none (Some a) = refl
 
-keyed-given : (Q : PeerSetup → Type 0) (peer : PeerSetup) → (has_keys peer ≡ true → Q peer) → IfOk (keyed_or_missing peer) Q
-keyed-given Q peer h = cond_both (has_keys peer) (Ok peer) (Err Missing) (λ x. IfOk x Q) h (λ e. tt)
+keyed_given : (Q : PeerSetup → Type 0) (peer : PeerSetup) → (has_keys peer ≡ true → Q peer) → IfOk (keyed_or_missing peer) Q
+keyed_given Q peer h = cond_both (has_keys peer) (Ok peer) (Err Missing) (λ x. IfOk x Q) h (λ e. tt)
 
-nonces-given : (version : Version) (slot : Option GivenNonces) (given : GivenNonces) → AreFew version slot → slot ≡ Some given →
+nonces_given : (version : Version) (slot : Option GivenNonces) (given : GivenNonces) → AreFew version slot → slot ≡ Some given →
     AreNoncesOf version (plus_nonces slot []) given.first (later_nonces slot)
-nonces-given version None given few e = absurd cc
-nonces-given version (Some other) given few e =
+nonces_given version None given few e = absurd cc
+nonces_given version (Some other) given few e =
     let same : other ≡ given = cc in
     subst (λ g. AreNoncesOf version (plus_nonces (Some other) []) g.first other.later) same
     (record { given = ap (λ l. other.first ∷ l) (append-nil other.later); few = few })
@@ -188,30 +188,30 @@ with_given : {A B : Type 0} (Q : B → Type 0) (slot : Option A) (f : A → Resu
 with_given Q None f h = tt
 with_given Q (Some a) f h = h a refl
 
-pub peers-given : (s : Settings) → IsConsistent s → IfOk (peer_setup_of s) (MakesPeer s.version (joined s no_values) (later_nonces s.peer_nonces))
+pub peers_given : (s : Settings) → IsConsistent s → IfOk (peer_setup_of s) (MakesPeer s.version (joined s no_values) (later_nonces s.peer_nonces))
 unfolding peer_setup_of
-peers-given s h =
+peers_given s h =
     let Q = MakesPeer s.version (joined s no_values) (later_nonces s.peer_nonces) in
     with_needed Q s.peer_name _ (λ name a.
     with_needed Q s.peer_server _ (λ accepts b.
     with_needed Q s.peer_methods _ (λ methods c.
     with_given Q s.peer_nonces _ (λ nonces d.
-    keyed-given Q _ (λ f.
+    keyed_given Q _ (λ f.
     record {
       name = a;
       accepts = b;
       methods = c;
-      suites = given-or s.peer_suites both_suites;
-      psk47 = given-or-none s.peer_psk47;
-      psk51 = given-or-none s.peer_psk51;
+      suites = given_or s.peer_suites both_suites;
+      psk47 = given_or_none s.peer_psk47;
+      psk51 = given_or_none s.peer_psk51;
       keys = f;
-      nonces = nonces-given s.version s.peer_nonces nonces h.peer_nonces d;
-      expanded = given-or s.peer_expanded false;
+      nonces = nonces_given s.version s.peer_nonces nonces h.peer_nonces d;
+      expanded = given_or s.peer_expanded false;
     })))))
 
-pub servers-given : (s : Settings) → IsConsistent s → IfOk (server_setup_of s) (MakesServer s.version (joined s no_values) (later_nonces s.server_nonces))
+pub servers_given : (s : Settings) → IsConsistent s → IfOk (server_setup_of s) (MakesServer s.version (joined s no_values) (later_nonces s.server_nonces))
 unfolding server_setup_of
-servers-given s h =
+servers_given s h =
     let Q = MakesServer s.version (joined s no_values) (later_nonces s.server_nonces) in
     with_needed Q s.server_name _ (λ name a.
     with_needed Q s.server_methods _ (λ methods b.
@@ -219,158 +219,158 @@ servers-given s h =
     record {
       name = a;
       methods = b;
-      suites = given-or s.server_suites both_suites;
-      nonces = nonces-given s.version s.server_nonces nonces h.server_nonces c;
+      suites = given_or s.server_suites both_suites;
+      nonces = nonces_given s.version s.server_nonces nonces h.server_nonces c;
       users = append-nil s.users;
       distinct_users = h.users;
-      expanded = given-or s.server_expanded false;
+      expanded = given_or s.server_expanded false;
     })))
 
-pub all-given : (s : Settings) → IsConsistent s → IfOk (setup_of s) (MakesSetup s.version (joined s no_values))
+pub all_given : (s : Settings) → IsConsistent s → IfOk (setup_of s) (MakesSetup s.version (joined s no_values))
 unfolding setup_of
-all-given s h =
+all_given s h =
     let Q = MakesSetup s.version (joined s no_values) in
     with_needed Q s.mode _ (λ mode a.
-    with_created Q (peer_setup_of s) (MakesPeer s.version (joined s no_values) (later_nonces s.peer_nonces)) _ (peers-given s h) (λ peer b.
-    with_created Q (server_setup_of s) (MakesServer s.version (joined s no_values) (later_nonces s.server_nonces)) _ (servers-given s h) (λ server c.
-    record { mode = a; first_id = given-or s.first_id 0; max_retrans = given-or s.max_retrans 4; peer = b; server = c; number = refl })))
+    with_created Q (peer_setup_of s) (MakesPeer s.version (joined s no_values) (later_nonces s.peer_nonces)) _ (peers_given s h) (λ peer b.
+    with_created Q (server_setup_of s) (MakesServer s.version (joined s no_values) (later_nonces s.server_nonces)) _ (servers_given s h) (λ server c.
+    record { mode = a; first_id = given_or s.first_id 0; max_retrans = given_or s.max_retrans 4; peer = b; server = c; number = refl })))
 
 -- a setting that comes where it is set would be given twice
 once : {A : Type 0} (slot : Option A) (a b : A) (xs : List A) → plus slot (a ∷ xs) ≡ b ∷ [] → is_some slot ≡ false
 once None a b xs e = refl
 once (Some c) a b xs e = absurd cc
 
-once-or : {A : Type 0} (slot : Option A) (d a b : A) (xs : List A) → IsGivenOr d (plus slot (a ∷ xs)) b → is_some slot ≡ false
-once-or None d a b xs e = refl
-once-or (Some c) d a b xs e = absurd e
+once_or : {A : Type 0} (slot : Option A) (d a b : A) (xs : List A) → IsGivenOr d (plus slot (a ∷ xs)) b → is_some slot ≡ false
+once_or None d a b xs e = refl
+once_or (Some c) d a b xs e = absurd e
 
-once-or-none : {A : Type 0} (slot : Option A) (a : A) (b : Option A) (xs : List A) → IsGivenOrNone (plus slot (a ∷ xs)) b → is_some slot ≡ false
-once-or-none None a b xs e = refl
-once-or-none (Some c) a b xs e = absurd e
+once_or_none : {A : Type 0} (slot : Option A) (a : A) (b : Option A) (xs : List A) → IsGivenOrNone (plus slot (a ∷ xs)) b → is_some slot ≡ false
+once_or_none None a b xs e = refl
+once_or_none (Some c) a b xs e = absurd e
 
-none-passes : (p : User → Bool) (users : List User) → ((k : ℕ) (d : User) → k < length users → p (get_or users k d) ≡ false) → is_some (find p users) ≡ false
-none-passes p [] h = refl
-none-passes p (x ∷ rest) h = let e : p x ≡ false = h zero x (omega arith) in rw e (none-passes p rest (λ k d below. h (suc k) d (omega arith)))
+none_passes : (p : User → Bool) (users : List User) → ((k : ℕ) (d : User) → k < length users → p (get_or users k d) ≡ false) → is_some (find p users) ≡ false
+none_passes p [] h = refl
+none_passes p (x ∷ rest) h = let e : p x ≡ false = h zero x (omega arith) in rw e (none_passes p rest (λ k d below. h (suc k) d (omega arith)))
 
 unique : (users : List User) (user : User) (rest : List User) → AreDistinct (users ++ user ∷ rest) → is_some (user_of users user.name user.kind) ≡ false
 unique users user rest h =
-    none-passes (is_named user.name user.kind) users (λ k d below.
+    none_passes (is_named user.name user.kind) users (λ k d below.
     let first : get_or (users ++ user ∷ rest) k d ≡ get_or users k d = get_or_append_left users (user ∷ rest) d k below in
     let second : get_or (users ++ user ∷ rest) (length users) d ≡ user = get_or-append_seam users user rest d in
     rw (first, second) at (h k (length users) d below (omega (arith, length-append users (user ∷ rest)))))
 
 -- nonces that are no more than the version has leave room for the one that comes
-nonce-new : (version : Version) (slot : Option GivenNonces) (a first : List ℕ) (rest later : List (List ℕ)) → AreNoncesOf version (plus_nonces slot (a ∷ rest)) first later →
+nonce_new : (version : Version) (slot : Option GivenNonces) (a first : List ℕ) (rest later : List (List ℕ)) → AreNoncesOf version (plus_nonces slot (a ∷ rest)) first later →
     (not (has_later version) && is_some slot) ≡ false
-nonce-new Second slot a first rest later h = refl
-nonce-new First None a first rest later h = refl
-nonce-new First (Some given) a first rest later h =
+nonce_new Second slot a first rest later h = refl
+nonce_new First None a first rest later h = refl
+nonce_new First (Some given) a first rest later h =
     let none : length later ≤ 0 = h.few in
     absurd (omega (arith, none, length-append given.later (a ∷ rest), ap length h.given))
 
-nonce-room : (version : Version) (slot : Option GivenNonces) (a first : List ℕ) (rest later : List (List ℕ)) → AreNoncesOf version (plus_nonces slot (a ∷ rest)) first later →
+nonce_room : (version : Version) (slot : Option GivenNonces) (a first : List ℕ) (rest later : List (List ℕ)) → AreNoncesOf version (plus_nonces slot (a ∷ rest)) first later →
     (has_later version && is_full slot) ≡ false
-nonce-room First slot a first rest later h = refl
-nonce-room Second None a first rest later h = refl
-nonce-room Second (Some given) a first rest later h =
+nonce_room First slot a first rest later h = refl
+nonce_room Second None a first rest later h = refl
+nonce_room Second (Some given) a first rest later h =
     let few : length later ≤ 15 = h.few in
     lt-leb 15 (length given.later) (omega (arith, few, length-append given.later (a ∷ rest), ap length h.given))
 
-new-of : (s : Settings) (x : Setting) (v : Values) (setup : Setup) → MakesSetup s.version (joined s (with_value x v)) setup → has_setting s x ≡ false
-new-of s (setting.User a) v setup h = unique s.users a v.users (subst AreDistinct (sym (h.server.users)) (h.server.distinct_users.distinct))
-new-of s (setting.PeerNonce a) v setup h = nonce-new s.version s.peer_nonces a _ v.peer_nonce _ (h.peer.nonces)
-new-of s (setting.ServerNonce a) v setup h = nonce-new s.version s.server_nonces a _ v.server_nonce _ (h.server.nonces)
-new-of s other v setup h = search (once, once-or, once-or-none)
+new_of : (s : Settings) (x : Setting) (v : Values) (setup : Setup) → MakesSetup s.version (joined s (with_value x v)) setup → has_setting s x ≡ false
+new_of s (setting.User a) v setup h = unique s.users a v.users (subst AreDistinct (sym (h.server.users)) (h.server.distinct_users.distinct))
+new_of s (setting.PeerNonce a) v setup h = nonce_new s.version s.peer_nonces a _ v.peer_nonce _ (h.peer.nonces)
+new_of s (setting.ServerNonce a) v setup h = nonce_new s.version s.server_nonces a _ v.server_nonce _ (h.server.nonces)
+new_of s other v setup h = search (once, once_or, once_or_none)
 
-few-left : (users : List User) (user : User) (rest all : List User) → users ++ user ∷ rest ≡ all → length all ≤ 16 → nat_le 16 (length users) ≡ false
-few-left users user rest all e h = lt-leb 16 (length users) (omega (arith, length-append users (user ∷ rest), ap length e))
+few_left : (users : List User) (user : User) (rest all : List User) → users ++ user ∷ rest ≡ all → length all ≤ 16 → nat_le 16 (length users) ≡ false
+few_left users user rest all e h = lt-leb 16 (length users) (omega (arith, length-append users (user ∷ rest), ap length e))
 
-fits-of : (s : Settings) (x : Setting) (v : Values) (setup : Setup) → MakesSetup s.version (joined s (with_value x v)) setup → is_over s x ≡ false
-fits-of s (setting.User a) v setup h = few-left s.users a v.users setup.server.users (h.server.users) (h.server.distinct_users.few)
-fits-of s (setting.PeerNonce a) v setup h = nonce-room s.version s.peer_nonces a _ v.peer_nonce _ (h.peer.nonces)
-fits-of s (setting.ServerNonce a) v setup h = nonce-room s.version s.server_nonces a _ v.server_nonce _ (h.server.nonces)
-fits-of s other v setup h = refl
+fits_of : (s : Settings) (x : Setting) (v : Values) (setup : Setup) → MakesSetup s.version (joined s (with_value x v)) setup → is_over s x ≡ false
+fits_of s (setting.User a) v setup h = few_left s.users a v.users setup.server.users (h.server.users) (h.server.distinct_users.few)
+fits_of s (setting.PeerNonce a) v setup h = nonce_room s.version s.peer_nonces a _ v.peer_nonce _ (h.peer.nonces)
+fits_of s (setting.ServerNonce a) v setup h = nonce_room s.version s.server_nonces a _ v.server_nonce _ (h.server.nonces)
+fits_of s other v setup h = refl
 
-pub all-new : (s : Settings) (settings : List Setting) (setup : Setup) → MakesSetup s.version (joined s (values_of settings)) setup → AllNew s settings
-all-new s [] setup h = tt
-all-new s (x ∷ rest) setup h =
-    let f = fits-of s x (values_of rest) setup h in
-    let n = new-of s x (values_of rest) setup h in
+pub all_new : (s : Settings) (settings : List Setting) (setup : Setup) → MakesSetup s.version (joined s (values_of settings)) setup → AllNew s settings
+all_new s [] setup h = tt
+all_new s (x ∷ rest) setup h =
+    let f = fits_of s x (values_of rest) setup h in
+    let n = new_of s x (values_of rest) setup h in
     let moved = subst (λ v. MakesSetup s.version v setup) (moves s x (values_of rest) f n) h in
-    (f, n, all-new (with_setting s x) rest setup (subst (λ w. MakesSetup w (joined (with_setting s x) (values_of rest)) setup) (sym (same-version s x)) moved))
+    (f, n, all_new (with_setting s x) rest setup (subst (λ w. MakesSetup w (joined (with_setting s x) (values_of rest)) setup) (sym (same_version s x)) moved))
 
 -- the settings that the lines give are whole
-set-is : {A : Type 0} (slot : Option A) (b : A) → plus slot [] ≡ b ∷ [] → slot ≡ Some b
-set-is None b e = absurd cc
-set-is (Some a) b e = cc
+set_is : {A : Type 0} (slot : Option A) (b : A) → plus slot [] ≡ b ∷ [] → slot ≡ Some b
+set_is None b e = absurd cc
+set_is (Some a) b e = cc
 
-set-or : {A : Type 0} (slot : Option A) (d b : A) → IsGivenOr d (plus slot []) b → unwrap_or slot d ≡ b
-set-or None d b e = sym e
-set-or (Some a) d b e = sym e
+set_or : {A : Type 0} (slot : Option A) (d b : A) → IsGivenOr d (plus slot []) b → unwrap_or slot d ≡ b
+set_or None d b e = sym e
+set_or (Some a) d b e = sym e
 
-set-or-none : {A : Type 0} (slot key : Option A) → IsGivenOrNone (plus slot []) key → slot ≡ key
-set-or-none None key e = sym e
-set-or-none (Some a) key e = sym e
+set_or_none : {A : Type 0} (slot key : Option A) → IsGivenOrNone (plus slot []) key → slot ≡ key
+set_or_none None key e = sym e
+set_or_none (Some a) key e = sym e
 
-keyed-set : (peer : PeerSetup) → has_keys peer ≡ true → keyed_or_missing peer ≡ Ok peer
-keyed-set peer e = rw e refl
+keyed_set : (peer : PeerSetup) → has_keys peer ≡ true → keyed_or_missing peer ≡ Ok peer
+keyed_set peer e = rw e refl
 
 -- the nonces too
-pub nonces-set : (slot : Option GivenNonces) (first : List ℕ) (later : List (List ℕ)) → plus_nonces slot [] ≡ first ∷ later → slot ≡ Some (record { first = first; later = later })
-nonces-set None first later e = absurd cc
-nonces-set (Some given) first later e =
+pub nonces_set : (slot : Option GivenNonces) (first : List ℕ) (later : List (List ℕ)) → plus_nonces slot [] ≡ first ∷ later → slot ≡ Some (record { first = first; later = later })
+nonces_set None first later e = absurd cc
+nonces_set (Some given) first later e =
     let one : given.first ≡ first = cc in
     let more : given.later ++ [] ≡ later = cc in
     ap₂ (λ a b. Some (record { first = a; later = b })) one (sym (append-nil given.later) ∙ more)
 
-peers-set : (version : Version) (s : Settings) (later : List (List ℕ)) (peer : PeerSetup) → MakesPeer version (joined s no_values) later peer → peer_setup_of s ≡ Ok peer
+peers_set : (version : Version) (s : Settings) (later : List (List ℕ)) (peer : PeerSetup) → MakesPeer version (joined s no_values) later peer → peer_setup_of s ≡ Ok peer
 unfolding peer_setup_of
-peers-set version s later peer h =
-    let name = set-is s.peer_name peer.name (h.name) in
-    let accepts = set-is s.peer_server peer.accepts (h.accepts) in
-    let methods = set-is s.peer_methods peer.methods (h.methods) in
-    let nonces = nonces-set s.peer_nonces peer.nonce later (h.nonces.given) in
-    let psk47 = set-or-none s.peer_psk47 peer.psk47 (h.psk47) in
-    let psk51 = set-or-none s.peer_psk51 peer.psk51 (h.psk51) in
-    let suites = set-or s.peer_suites both_suites peer.suites (h.suites) in
-    let expanded = set-or s.peer_expanded false peer.expanded (h.expanded) in
-    rw (name, accepts, methods, nonces, psk47, psk51, suites, expanded) (keyed-set peer h.keys)
+peers_set version s later peer h =
+    let name = set_is s.peer_name peer.name (h.name) in
+    let accepts = set_is s.peer_server peer.accepts (h.accepts) in
+    let methods = set_is s.peer_methods peer.methods (h.methods) in
+    let nonces = nonces_set s.peer_nonces peer.nonce later (h.nonces.given) in
+    let psk47 = set_or_none s.peer_psk47 peer.psk47 (h.psk47) in
+    let psk51 = set_or_none s.peer_psk51 peer.psk51 (h.psk51) in
+    let suites = set_or s.peer_suites both_suites peer.suites (h.suites) in
+    let expanded = set_or s.peer_expanded false peer.expanded (h.expanded) in
+    rw (name, accepts, methods, nonces, psk47, psk51, suites, expanded) (keyed_set peer h.keys)
 
-servers-set : (version : Version) (s : Settings) (later : List (List ℕ)) (server : ServerSetup) → MakesServer version (joined s no_values) later server → server_setup_of s ≡ Ok server
+servers_set : (version : Version) (s : Settings) (later : List (List ℕ)) (server : ServerSetup) → MakesServer version (joined s no_values) later server → server_setup_of s ≡ Ok server
 unfolding server_setup_of
-servers-set version s later server h =
-    let name = set-is s.server_name server.name (h.name) in
-    let methods = set-is s.server_methods server.methods (h.methods) in
-    let nonces = nonces-set s.server_nonces server.nonce later (h.nonces.given) in
-    let suites = set-or s.server_suites both_suites server.suites (h.suites) in
+servers_set version s later server h =
+    let name = set_is s.server_name server.name (h.name) in
+    let methods = set_is s.server_methods server.methods (h.methods) in
+    let nonces = nonces_set s.server_nonces server.nonce later (h.nonces.given) in
+    let suites = set_or s.server_suites both_suites server.suites (h.suites) in
     let users : s.users ≡ server.users = sym (append-nil s.users) ∙ h.users in
-    let expanded = set-or s.server_expanded false server.expanded (h.expanded) in
+    let expanded = set_or s.server_expanded false server.expanded (h.expanded) in
     rw (name, methods, nonces, suites, users, expanded) refl
 
-later-set : (s : Settings) (setup : Setup) → MakesSetup s.version (joined s no_values) setup → later_of s ≡ setup.later
-later-set s setup h =
-    let peer = nonces-set s.peer_nonces setup.peer.nonce setup.later.peer (h.peer.nonces.given) in
-    let server = nonces-set s.server_nonces setup.server.nonce setup.later.server (h.server.nonces.given) in
+later_set : (s : Settings) (setup : Setup) → MakesSetup s.version (joined s no_values) setup → later_of s ≡ setup.later
+later_set s setup h =
+    let peer = nonces_set s.peer_nonces setup.peer.nonce setup.later.peer (h.peer.nonces.given) in
+    let server = nonces_set s.server_nonces setup.server.nonce setup.later.server (h.server.nonces.given) in
     let number = sym (h.number) in
     rw (number, peer, server) refl
 
-pub all-set : (s : Settings) (setup : Setup) → MakesSetup s.version (joined s no_values) setup → setup_of s ≡ Ok setup
+pub all_set : (s : Settings) (setup : Setup) → MakesSetup s.version (joined s no_values) setup → setup_of s ≡ Ok setup
 unfolding setup_of
-all-set s setup h =
-    let mode = set-is s.mode setup.mode (h.mode) in
-    let first_id = set-or s.first_id 0 setup.first_id (h.first_id) in
-    let max_retrans = set-or s.max_retrans 4 setup.max_retrans (h.max_retrans) in
-    let peer = peers-set s.version s setup.later.peer setup.peer (h.peer) in
-    let server = servers-set s.version s setup.later.server setup.server (h.server) in
-    rw (peer, server, mode, first_id, max_retrans) (ap (λ (x : Later). Ok (record setup { later = x })) (later-set s setup h))
+all_set s setup h =
+    let mode = set_is s.mode setup.mode (h.mode) in
+    let first_id = set_or s.first_id 0 setup.first_id (h.first_id) in
+    let max_retrans = set_or s.max_retrans 4 setup.max_retrans (h.max_retrans) in
+    let peer = peers_set s.version s setup.later.peer setup.peer (h.peer) in
+    let server = servers_set s.version s setup.later.server setup.server (h.server) in
+    rw (peer, server, mode, first_id, max_retrans) (ap (λ (x : Later). Ok (record setup { later = x })) (later_set s setup h))
 
 -- the first version has no later nonces
-no-more : (later : List (List ℕ)) → length later ≤ 0 → later ≡ []
-no-more [] h = refl
-no-more (nonce ∷ rest) h = absurd (omega arith)
+no_more : (later : List (List ℕ)) → length later ≤ 0 → later ≡ []
+no_more [] h = refl
+no_more (nonce ∷ rest) h = absurd (omega arith)
 
-pub none-later : (v : Values) (setup : Setup) → MakesSetup First v setup → setup.later ≡ no_later
-none-later v setup h =
+pub none_later : (v : Values) (setup : Setup) → MakesSetup First v setup → setup.later ≡ no_later
+none_later v setup h =
     let number : setup.later.version ≡ 1 = h.number in
-    ap₂ (λ p s. record { version = setup.later.version; peer = p; server = s }) (no-more setup.later.peer (h.peer.nonces.few)) (no-more setup.later.server (h.server.nonces.few))
+    ap₂ (λ p s. record { version = setup.later.version; peer = p; server = s }) (no_more setup.later.peer (h.peer.nonces.few)) (no_more setup.later.server (h.server.nonces.few))
     ∙ ap (λ n. record { version = n; peer = []; server = [] }) number

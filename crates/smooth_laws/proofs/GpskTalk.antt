@@ -12,7 +12,7 @@ use Rattle.octet_lists.specs.Suite.{ks_of}
 use Rattle.login_setup.specs.Users.{user_of}
 use Rattle.gpsk_messages.specs.Message.{Message, mac_of, spelled}
 use Rattle.gpsk_messages.proofs.Grammar.{encodings_are_sized}
-use Rattle.login_keys.proofs.GpskLaws.{ks-le, length_gpsk_tag_of}
+use Rattle.login_keys.proofs.GpskLaws.{ks_le, length_gpsk_tag_of}
 use Rattle.login_policy.specs.Policy.{picked_suite}
 use Rattle.eap_method.specs.GpskPeer as gpsk_peer
 use Rattle.eap_method.specs.GpskServer as gpsk_server
@@ -90,7 +90,7 @@ module _ (ends : Ends) (fit : Compatible ends) where
       let size = encodings_are_sized (gpsk_peer.gpsk2_of (peer_login ends) (suite_list ends.own.suites)) in
       let mac : length (mac_of (gpsk_peer.gpsk2_of (peer_login ends) (suite_list ends.own.suites))) ≡ ks_of ends.suite = length_gpsk_tag_of _ _ _ in
       let list = length_suite_list ends.own.suites in
-      let ks = ks-le ends.suite in
+      let ks = ks_le ends.suite in
       let peer_name = fit.peer_name in
       let server_name = fit.server_name in
       let peer_nonce = fit.peer_nonce in
@@ -101,7 +101,7 @@ module _ (ends : Ends) (fit : Compatible ends) where
   check_bounds =
       let size = encodings_are_sized (gpsk_server.gpsk3_of (server_login ends)) in
       let mac : length (mac_of (gpsk_server.gpsk3_of (server_login ends))) ≡ ks_of ends.suite = length_gpsk_tag_of _ _ _ in
-      let ks = ks-le ends.suite in
+      let ks = ks_le ends.suite in
       let server_name = fit.server_name in
       let peer_nonce = fit.peer_nonce in
       let server_nonce = fit.server_nonce in
@@ -111,7 +111,7 @@ module _ (ends : Ends) (fit : Compatible ends) where
   confirm_bounds =
       let size = encodings_are_sized (gpsk_peer.gpsk4_of (peer_login ends)) in
       let mac : length (mac_of (gpsk_peer.gpsk4_of (peer_login ends))) ≡ ks_of ends.suite = length_gpsk_tag_of _ _ _ in
-      let ks = ks-le ends.suite in
+      let ks = ks_le ends.suite in
       omega arith
 
 -- ---- the first Request

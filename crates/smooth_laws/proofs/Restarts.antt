@@ -46,7 +46,7 @@ use Rattle.world_laws.proofs.Conversing.{BothConverse, run_converses}
 use Rattle.smooth_laws.proofs.Beginning.{peer_starts_again, server_starts_again}
 use Rattle.smooth_laws.proofs.Moves.{packet_to, parties_at}
 use Rattle.smooth_laws.proofs.Opening.{in_mode}
-use Rattle.smooth_laws.proofs.Settings.{AreSet, IsIdle, restart-same, run_is_set, run_is_idle}
+use Rattle.smooth_laws.proofs.Settings.{AreSet, IsIdle, restart_same, run_is_set, run_is_idle}
 use Rattle.smooth_laws.specs.Restarts.{StartAnew, HasRestarted, RestartsStartAnew, are_new}
 use Rattle.smooth_laws.specs.Restarts.{peer_server, server_peer, peer_server_pass, peer_pass_server, server_peer_pass, server_pass_peer, pass_peer_server, pass_server_peer}
 use Rattle.world_laws.specs.Runs.{initial_peer, initial_server, run_of, server_views_started}
@@ -295,7 +295,7 @@ module _ (w a : WorldNow) (runs : Mode) (of : Role) (id : ℕ) (h : Fits w runs 
 
   server_matches : (nonce : List ℕ) → Renews w a (server_anew nonce) more → Fits a runs of id
   server_matches nonce r =
-      let same = restart-same w.parties.server nonce in
+      let same = restart_same w.parties.server nonce in
       record {
         is_mode = ap (λ (p : Parties). p.mode) r.parties ∙ h.is_mode;
         role = ap (λ (p : Parties). p.server.vars.role) r.parties ∙ (same.role ∙ h.role);

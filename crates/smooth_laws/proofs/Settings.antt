@@ -53,64 +53,64 @@ pub record SameServer (before after : ServerVariables) : Type 0 where
 same_server : (vars : ServerVariables) → SameServer vars vars
 same_server vars = record { role = refl; first_id = refl; max_retrans = refl }
 
-selects-same : (now : ServerNow) (id kind : ℕ) (body : List ℕ) (entered : List State) (vars : ServerVariables) (desired : Option (List ℕ))
+selects_same : (now : ServerNow) (id kind : ℕ) (body : List ℕ) (entered : List State) (vars : ServerVariables) (desired : Option (List ℕ))
     → Selects now id kind body entered vars desired → SameServer now.vars vars
-selects-same now id kind body _ _ _ (after_identity is_id is_identity is_current unawaited) = record { role = refl; first_id = refl; max_retrans = refl }
-selects-same now id kind body _ _ _ (after_nak is_id is_nak waits unawaited) = same_server now.vars
-selects-same now id kind body _ _ _ (first_identity awaited is_identity) = record { role = refl; first_id = refl; max_retrans = refl }
-selects-same now id kind body _ _ _ (first_nak awaited is_nak) = record { role = refl; first_id = refl; max_retrans = refl }
-selects-same now id kind body _ _ _ (first_other awaited no_nak no_identity) = record { role = refl; first_id = refl; max_retrans = refl }
+selects_same now id kind body _ _ _ (after_identity is_id is_identity is_current unawaited) = record { role = refl; first_id = refl; max_retrans = refl }
+selects_same now id kind body _ _ _ (after_nak is_id is_nak waits unawaited) = same_server now.vars
+selects_same now id kind body _ _ _ (first_identity awaited is_identity) = record { role = refl; first_id = refl; max_retrans = refl }
+selects_same now id kind body _ _ _ (first_nak awaited is_nak) = record { role = refl; first_id = refl; max_retrans = refl }
+selects_same now id kind body _ _ _ (first_other awaited no_nak no_identity) = record { role = refl; first_id = refl; max_retrans = refl }
 
-pub restart-same : (now : ServerNow) (nonce : List ℕ) → SameServer now.vars (server_restart now nonce).after.vars
+pub restart_same : (now : ServerNow) (nonce : List ℕ) → SameServer now.vars (server_restart now nonce).after.vars
 unfolding server_restart server_start
-restart-same now nonce =
+restart_same now nonce =
     cond_both (is_backend now.vars) _ _ (λ (out : ServerAnswer). SameServer now.vars out.after.vars)
     (λ _. record { role = refl; first_id = refl; max_retrans = refl }) (λ _. record { role = refl; first_id = refl; max_retrans = refl })
 
-row-same : (now : ServerNow) (input : ServerInput) (out : ServerAnswer) → ServerRow now input out → SameServer now.vars out.after.vars
-row-same now _ _ (ended bytes over) = same_server now.vars
-row-same now _ _ (rests over) = same_server now.vars
-row-same now _ _ (goes_on is_initiated) = same_server now.vars
-row-same now _ _ (drops bytes path c going why) = same_server now.vars
-row-same now _ _ (starts unstarted) = record { role = refl; first_id = refl; max_retrans = refl }
-row-same now _ _ (resends going in_time) = record { role = refl; first_id = refl; max_retrans = refl }
-row-same now _ _ (times_out going late) = record { role = refl; first_id = refl; max_retrans = refl }
-row-same now _ _ (proposes bytes id kind body entered vars desired next packet views heard selects next_is) =
-    let s = selects-same now id kind body entered vars desired selects in record { role = s.role; first_id = s.first_id; max_retrans = s.max_retrans }
-row-same now _ _ (proposes_without bytes id kind body entered vars desired next views heard selects next_is) =
-    let s = selects-same now id kind body entered vars desired selects in record { role = s.role; first_id = s.first_id; max_retrans = s.max_retrans }
-row-same now _ _ (proposes_none bytes id kind body entered vars desired heard selects none) =
-    let s = selects-same now id kind body entered vars desired selects in record { role = s.role; first_id = s.first_id; max_retrans = s.max_retrans }
-row-same now _ _ (requests bytes id kind body packet tags views heard turned) = record { role = refl; first_id = refl; max_retrans = refl }
-row-same now _ _ (succeeds bytes id kind body tags views heard turned) = record { role = refl; first_id = refl; max_retrans = refl }
-row-same now _ _ (method_fails bytes id kind body tags views heard turned) = record { role = refl; first_id = refl; max_retrans = refl }
-row-same now _ _ (begins nonce) = restart-same now nonce
+row_same : (now : ServerNow) (input : ServerInput) (out : ServerAnswer) → ServerRow now input out → SameServer now.vars out.after.vars
+row_same now _ _ (ended bytes over) = same_server now.vars
+row_same now _ _ (rests over) = same_server now.vars
+row_same now _ _ (goes_on is_initiated) = same_server now.vars
+row_same now _ _ (drops bytes path c going why) = same_server now.vars
+row_same now _ _ (starts unstarted) = record { role = refl; first_id = refl; max_retrans = refl }
+row_same now _ _ (resends going in_time) = record { role = refl; first_id = refl; max_retrans = refl }
+row_same now _ _ (times_out going late) = record { role = refl; first_id = refl; max_retrans = refl }
+row_same now _ _ (proposes bytes id kind body entered vars desired next packet views heard selects next_is) =
+    let s = selects_same now id kind body entered vars desired selects in record { role = s.role; first_id = s.first_id; max_retrans = s.max_retrans }
+row_same now _ _ (proposes_without bytes id kind body entered vars desired next views heard selects next_is) =
+    let s = selects_same now id kind body entered vars desired selects in record { role = s.role; first_id = s.first_id; max_retrans = s.max_retrans }
+row_same now _ _ (proposes_none bytes id kind body entered vars desired heard selects none) =
+    let s = selects_same now id kind body entered vars desired selects in record { role = s.role; first_id = s.first_id; max_retrans = s.max_retrans }
+row_same now _ _ (requests bytes id kind body packet tags views heard turned) = record { role = refl; first_id = refl; max_retrans = refl }
+row_same now _ _ (succeeds bytes id kind body tags views heard turned) = record { role = refl; first_id = refl; max_retrans = refl }
+row_same now _ _ (method_fails bytes id kind body tags views heard turned) = record { role = refl; first_id = refl; max_retrans = refl }
+row_same now _ _ (begins nonce) = restart_same now nonce
 
-input-same : (now : ServerNow) (input : ServerInput) → SameServer now.vars (server_answers now input).after.vars
-input-same now input = row-same now input (server_answers now input) (server_answers_are_rows now input)
+input_same : (now : ServerNow) (input : ServerInput) → SameServer now.vars (server_answers now input).after.vars
+input_same now input = row_same now input (server_answers now input) (server_answers_are_rows now input)
 
-wraps-same : (vars : ServerVariables) (out : ServerAnswer) (sent : Option (List ℕ)) → SameServer vars out.after.vars → SameServer vars (wraps_sent out sent).after.vars
-wraps-same vars out None same = same
-wraps-same vars out (Some packet) same =
+wraps_same : (vars : ServerVariables) (out : ServerAnswer) (sent : Option (List ℕ)) → SameServer vars out.after.vars → SameServer vars (wraps_sent out sent).after.vars
+wraps_same vars out None same = same
+wraps_same vars out (Some packet) same =
     cond_both (code_of packet == 1) _ _ (λ (next : ServerAnswer). SameServer vars next.after.vars)
     (λ _. record { role = same.role; first_id = same.first_id; max_retrans = same.max_retrans }) (λ _. same)
 
-bad-same : (now : ServerNow) → SameServer now.vars (discards_bad now).after.vars
-bad-same now =
+bad_same : (now : ServerNow) → SameServer now.vars (discards_bad now).after.vars
+bad_same now =
     cond_both (awaits_first now.vars) _ _ (λ (next : ServerAnswer). SameServer now.vars next.after.vars) (λ _. same_server now.vars) (λ _. same_server now.vars)
 
-receiving-same : (now : ServerNow) (bytes : List ℕ) (out : ServerAnswer) → ServerReceiving now bytes out → SameServer now.vars out.after.vars
-receiving-same now bytes _ as_it_is = input-same now (inputs.octets bytes)
-receiving-same now bytes _ (bad id kind body answers is_bad) = bad-same now
-receiving-same now bytes _ (wrapping id kind body answers good) =
+receiving_same : (now : ServerNow) (bytes : List ℕ) (out : ServerAnswer) → ServerReceiving now bytes out → SameServer now.vars out.after.vars
+receiving_same now bytes _ as_it_is = input_same now (inputs.octets bytes)
+receiving_same now bytes _ (bad id kind body answers is_bad) = bad_same now
+receiving_same now bytes _ (wrapping id kind body answers good) =
     let plain = response_octets now.vars bytes id kind body in
-    wraps-same now.vars (server_deliver now plain) (server_deliver now plain).step.sent (input-same now (inputs.octets plain))
+    wraps_same now.vars (server_deliver now plain) (server_deliver now plain).step.sent (input_same now (inputs.octets plain))
 
-server-same : (now : ServerNow) (input : ServerInput) → SameServer now.vars (server_accepts now input).after.vars
-server-same now inputs.start = input-same now inputs.start
-server-same now inputs.timeout = input-same now inputs.timeout
-server-same now (inputs.octets bytes) = receiving-same now bytes _ (server_receives_so now bytes)
-server-same now (inputs.restart nonce) = restart-same now nonce
+server_same : (now : ServerNow) (input : ServerInput) → SameServer now.vars (server_accepts now input).after.vars
+server_same now inputs.start = input_same now inputs.start
+server_same now inputs.timeout = input_same now inputs.timeout
+server_same now (inputs.octets bytes) = receiving_same now bytes _ (server_receives_so now bytes)
+server_same now (inputs.restart nonce) = restart_same now nonce
 
 -- ---- the pass-through
 
@@ -118,22 +118,22 @@ record SamePass (before after : PassVariables) : Type 0 where
   first_id : after.first_id ≡ before.first_id
   max_retrans : after.max_retrans ≡ before.max_retrans
 
-pass-row-same : (vars : PassVariables) (input : PassInput) (out : PassAnswer) → PassRow vars input out → SamePass vars out.after
+pass_row_same : (vars : PassVariables) (input : PassInput) (out : PassAnswer) → PassRow vars input out → SamePass vars out.after
 unfolding pass_restart pass_start
-pass-row-same vars _ _ (rows.stays input why) = record { first_id = refl; max_retrans = refl }
-pass-row-same vars _ _ (rows.drops_of_peer octets path c why) = record { first_id = refl; max_retrans = refl }
-pass-row-same vars _ _ (rows.drops_of_server octets path c why) = record { first_id = refl; max_retrans = refl }
-pass-row-same vars _ _ (rows.starts unstarted) = record { first_id = refl; max_retrans = refl }
-pass-row-same vars _ _ rows.begins = record { first_id = refl; max_retrans = refl }
-pass-row-same vars _ _ (rows.resends entered stay over place in_time) = record { first_id = refl; max_retrans = refl }
-pass-row-same vars _ _ (rows.times_out entered stay over place late) = record { first_id = refl; max_retrans = refl }
-pass-row-same vars _ _ (rows.loses_server stands) = record { first_id = refl; max_retrans = refl }
-pass-row-same vars _ _ (rows.asks_nothing stands) = record { first_id = refl; max_retrans = refl }
-pass-row-same vars _ _ (rows.passes_identity octets id body stands is_packet is_id) = record { first_id = refl; max_retrans = refl }
-pass-row-same vars _ _ (rows.passes_response octets id kind body stands is_packet is_id) = record { first_id = refl; max_retrans = refl }
-pass-row-same vars _ _ (rows.passes_request octets id kind body stands is_packet) = record { first_id = refl; max_retrans = refl }
-pass-row-same vars _ _ (rows.passes_success octets id stands is_packet) = record { first_id = refl; max_retrans = refl }
-pass-row-same vars _ _ (rows.passes_failure octets id stands is_packet) = record { first_id = refl; max_retrans = refl }
+pass_row_same vars _ _ (rows.stays input why) = record { first_id = refl; max_retrans = refl }
+pass_row_same vars _ _ (rows.drops_of_peer octets path c why) = record { first_id = refl; max_retrans = refl }
+pass_row_same vars _ _ (rows.drops_of_server octets path c why) = record { first_id = refl; max_retrans = refl }
+pass_row_same vars _ _ (rows.starts unstarted) = record { first_id = refl; max_retrans = refl }
+pass_row_same vars _ _ rows.begins = record { first_id = refl; max_retrans = refl }
+pass_row_same vars _ _ (rows.resends entered stay over place in_time) = record { first_id = refl; max_retrans = refl }
+pass_row_same vars _ _ (rows.times_out entered stay over place late) = record { first_id = refl; max_retrans = refl }
+pass_row_same vars _ _ (rows.loses_server stands) = record { first_id = refl; max_retrans = refl }
+pass_row_same vars _ _ (rows.asks_nothing stands) = record { first_id = refl; max_retrans = refl }
+pass_row_same vars _ _ (rows.passes_identity octets id body stands is_packet is_id) = record { first_id = refl; max_retrans = refl }
+pass_row_same vars _ _ (rows.passes_response octets id kind body stands is_packet is_id) = record { first_id = refl; max_retrans = refl }
+pass_row_same vars _ _ (rows.passes_request octets id kind body stands is_packet) = record { first_id = refl; max_retrans = refl }
+pass_row_same vars _ _ (rows.passes_success octets id stands is_packet) = record { first_id = refl; max_retrans = refl }
+pass_row_same vars _ _ (rows.passes_failure octets id stands is_packet) = record { first_id = refl; max_retrans = refl }
 
 -- ---- all parties
 
@@ -146,8 +146,8 @@ pub record AreSet (setup : Setup) (p : Parties) : Type 0 where
   pub pass_max_retrans : p.pass.max_retrans ≡ setup.max_retrans
 
 module _ (setup : Setup) where
-  call-set : (p : Parties) (call : Call) → AreSet setup p → AreSet setup (act_of_call p call).after
-  call-set p (to_peer input) h = record {
+  call_set : (p : Parties) (call : Call) → AreSet setup p → AreSet setup (act_of_call p call).after
+  call_set p (to_peer input) h = record {
     mode = h.mode;
     role = h.role;
     first_id = h.first_id;
@@ -155,8 +155,8 @@ module _ (setup : Setup) where
     pass_first_id = h.pass_first_id;
     pass_max_retrans = h.pass_max_retrans;
   }
-  call-set p (to_server input) h =
-      let s = server-same p.server input in
+  call_set p (to_server input) h =
+      let s = server_same p.server input in
       record {
         mode = h.mode;
         role = s.role ∙ h.role;
@@ -165,8 +165,8 @@ module _ (setup : Setup) where
         pass_first_id = h.pass_first_id;
         pass_max_retrans = h.pass_max_retrans;
       }
-  call-set p (to_pass input) h =
-      let s = pass-row-same p.pass input _ (pass_answers_are_rows p.pass input) in
+  call_set p (to_pass input) h =
+      let s = pass_row_same p.pass input _ (pass_answers_are_rows p.pass input) in
       record {
         mode = h.mode;
         role = h.role;
@@ -176,20 +176,20 @@ module _ (setup : Setup) where
         pass_max_retrans = s.max_retrans ∙ h.pass_max_retrans;
       }
 
-  step-set : (w : WorldNow) (out : WorldOutcome) → Steps w out → AreSet setup w.parties → AreSet setup out.after.parties
-  step-set w _ (skips skip) h = h
-  step-set w _ (calls call later same) h = call-set w.parties call h
-  step-set w _ (peer_restarts one left next) h = call-set w.parties (to_peer (peer_inputs.restart one.nonce)) h
-  step-set w _ (server_restarts one left next) h = call-set w.parties (to_server (inputs.restart one.nonce)) h
+  step_set : (w : WorldNow) (out : WorldOutcome) → Steps w out → AreSet setup w.parties → AreSet setup out.after.parties
+  step_set w _ (skips skip) h = h
+  step_set w _ (calls call later same) h = call_set w.parties call h
+  step_set w _ (peer_restarts one left next) h = call_set w.parties (to_peer (peer_inputs.restart one.nonce)) h
+  step_set w _ (server_restarts one left next) h = call_set w.parties (to_server (inputs.restart one.nonce)) h
 
-start-set : (runs : Mode) (setup : Setup) → AreSet (record setup { mode = runs }) (world_start (initial_world (record setup { mode = runs }))).after.parties
+start_set : (runs : Mode) (setup : Setup) → AreSet (record setup { mode = runs }) (world_start (initial_world (record setup { mode = runs }))).after.parties
 unfolding world_start server_start pass_start
-start-set mode.Alone setup = record { mode = refl; role = refl; first_id = refl; max_retrans = refl; pass_first_id = refl; pass_max_retrans = refl }
-start-set mode.Through setup = record { mode = refl; role = refl; first_id = refl; max_retrans = refl; pass_first_id = refl; pass_max_retrans = refl }
+start_set mode.Alone setup = record { mode = refl; role = refl; first_id = refl; max_retrans = refl; pass_first_id = refl; pass_max_retrans = refl }
+start_set mode.Through setup = record { mode = refl; role = refl; first_id = refl; max_retrans = refl; pass_first_id = refl; pass_max_retrans = refl }
 
 pub run_is_set : (setup : Setup) (events : List Event) → AreSet setup (run_of setup events).parties
 run_is_set setup events =
-    run_preserves (λ (w : WorldNow). AreSet setup w.parties) (step-set setup) (world_start (initial_world setup)).after events (start-set setup.mode setup)
+    run_preserves (λ (w : WorldNow). AreSet setup w.parties) (step_set setup) (world_start (initial_world setup)).after events (start_set setup.mode setup)
 
 -- ---- alone the pass-through stands as it was made
 
@@ -202,84 +202,84 @@ module _ (peer : PeerNow) (server : ServerNow) (vars : PassVariables) where
     mode : out.after.mode ≡ mode.Alone
     pass : out.after.pass ≡ vars
 
-  to-peer-keeps : (skip : Option Skip) (input : peer_inputs.PeerInput) → Preserves (called_unless P skip (Some (to_peer input)))
-  to-peer-keeps None input = record { mode = refl; pass = refl }
-  to-peer-keeps (Some skip) input = record { mode = refl; pass = refl }
+  to_peer_keeps : (skip : Option Skip) (input : peer_inputs.PeerInput) → Preserves (called_unless P skip (Some (to_peer input)))
+  to_peer_keeps None input = record { mode = refl; pass = refl }
+  to_peer_keeps (Some skip) input = record { mode = refl; pass = refl }
 
-  to-server-keeps : (skip : Option Skip) (input : ServerInput) → Preserves (called_unless P skip (Some (to_server input)))
-  to-server-keeps None input = record { mode = refl; pass = refl }
-  to-server-keeps (Some skip) input = record { mode = refl; pass = refl }
+  to_server_keeps : (skip : Option Skip) (input : ServerInput) → Preserves (called_unless P skip (Some (to_server input)))
+  to_server_keeps None input = record { mode = refl; pass = refl }
+  to_server_keeps (Some skip) input = record { mode = refl; pass = refl }
 
-  at-port-keeps : (to : Port) (more : List (Bool × Skip)) (octets : List ℕ)
+  at_port_keeps : (to : Port) (more : List (Bool × Skip)) (octets : List ℕ)
       → Preserves (called_unless P (first_skip ((is_absent mode.Alone to, NoParty) ∷ more)) (Some (call_at to octets)))
-  at-port-keeps port.Peer more octets = to-peer-keeps (first_skip more) (peer_inputs.octets octets)
-  at-port-keeps port.Server more octets = to-server-keeps (first_skip more) (inputs.octets octets)
-  at-port-keeps port.PassPeer more octets = record { mode = refl; pass = refl }
-  at-port-keeps port.PassServer more octets = record { mode = refl; pass = refl }
+  at_port_keeps port.Peer more octets = to_peer_keeps (first_skip more) (peer_inputs.octets octets)
+  at_port_keeps port.Server more octets = to_server_keeps (first_skip more) (inputs.octets octets)
+  at_port_keeps port.PassPeer more octets = record { mode = refl; pass = refl }
+  at_port_keeps port.PassServer more octets = record { mode = refl; pass = refl }
 
-  handed-keeps : (packet : Option Sent) (is_misplaced : Bool) (octets : List ℕ)
+  handed_keeps : (packet : Option Sent) (is_misplaced : Bool) (octets : List ℕ)
       → Preserves (called_unless P (first_skip (packet_skips mode.Alone packet is_misplaced)) (call_with packet octets))
-  handed-keeps None is_misplaced octets = record { mode = refl; pass = refl }
-  handed-keeps (Some packet) is_misplaced octets = at-port-keeps packet.port ((false, Unsent) ∷ (is_misplaced, Place) ∷ []) octets
+  handed_keeps None is_misplaced octets = record { mode = refl; pass = refl }
+  handed_keeps (Some packet) is_misplaced octets = at_port_keeps packet.port ((false, Unsent) ∷ (is_misplaced, Place) ∷ []) octets
 
-  peer-left-keeps : (left : List Waiting)
+  peer_left_keeps : (left : List Waiting)
       → Preserves (called_unless P (first_skip ((has_none left, NoNonce) ∷ [])) (next_call (λ nonce. to_peer (peer_inputs.restart nonce)) left))
-  peer-left-keeps [] = record { mode = refl; pass = refl }
-  peer-left-keeps (one ∷ left) = record { mode = refl; pass = refl }
+  peer_left_keeps [] = record { mode = refl; pass = refl }
+  peer_left_keeps (one ∷ left) = record { mode = refl; pass = refl }
 
-  server-left-keeps : (left : List Waiting)
+  server_left_keeps : (left : List Waiting)
       → Preserves (called_unless P (first_skip ((has_none left, NoNonce) ∷ [])) (next_call (λ nonce. to_server (inputs.restart nonce)) left))
-  server-left-keeps [] = record { mode = refl; pass = refl }
-  server-left-keeps (one ∷ left) = record { mode = refl; pass = refl }
+  server_left_keeps [] = record { mode = refl; pass = refl }
+  server_left_keeps (one ∷ left) = record { mode = refl; pass = refl }
 
-  event-keeps : (all : Conversations) (sent : List Sent) (e : Event) → Preserves (act P all sent e)
+  event_keeps : (all : Conversations) (sent : List Sent) (e : Event) → Preserves (act P all sent e)
   unfolding act
-  event-keeps all sent (event.Deliver n) = handed-keeps (packet_numbered sent n) false (octets_of (packet_numbered sent n))
-  event-keeps all sent (event.Alter n place mask) =
+  event_keeps all sent (event.Deliver n) = handed_keeps (packet_numbered sent n) false (octets_of (packet_numbered sent n))
+  event_keeps all sent (event.Alter n place mask) =
       let packet = packet_numbered sent n in
-      handed-keeps packet (nat_le (length (octets_of packet)) place) (alteration (octets_of packet) place mask)
-  event-keeps all sent (event.Cut n keep) =
+      handed_keeps packet (nat_le (length (octets_of packet)) place) (alteration (octets_of packet) place mask)
+  event_keeps all sent (event.Cut n keep) =
       let packet = packet_numbered sent n in
-      handed-keeps packet (nat_lt (length (octets_of packet)) keep) (take keep (octets_of packet))
-  event-keeps all sent (event.Inject to octets) = at-port-keeps to [] octets
-  event-keeps all sent (event.Timeout party.Peer) = to-server-keeps (first_skip (timer_skips P party.Peer)) inputs.timeout
-  event-keeps all sent (event.Timeout party.Pass) = record { mode = refl; pass = refl }
-  event-keeps all sent (event.Timeout party.Server) = to-server-keeps (first_skip (timer_skips P party.Server)) inputs.timeout
-  event-keeps all sent event.AaaTimeout = record { mode = refl; pass = refl }
-  event-keeps all sent event.AaaNoReq = record { mode = refl; pass = refl }
-  event-keeps all sent event.Idle = to-peer-keeps (first_skip ((is_end peer.vars.state, Ended) ∷ [])) peer_inputs.idle
-  event-keeps all sent event.AltAccept = to-peer-keeps (first_skip ((is_end peer.vars.state, Ended) ∷ [])) peer_inputs.alt_accept
-  event-keeps all sent event.AltReject = to-peer-keeps (first_skip ((is_end peer.vars.state, Ended) ∷ [])) peer_inputs.alt_reject
-  event-keeps all sent (event.Restart party.Peer) = peer-left-keeps all.peer_left
-  event-keeps all sent (event.Restart party.Pass) = record { mode = refl; pass = refl }
-  event-keeps all sent (event.Restart party.Server) = server-left-keeps all.server_left
+      handed_keeps packet (nat_lt (length (octets_of packet)) keep) (take keep (octets_of packet))
+  event_keeps all sent (event.Inject to octets) = at_port_keeps to [] octets
+  event_keeps all sent (event.Timeout party.Peer) = to_server_keeps (first_skip (timer_skips P party.Peer)) inputs.timeout
+  event_keeps all sent (event.Timeout party.Pass) = record { mode = refl; pass = refl }
+  event_keeps all sent (event.Timeout party.Server) = to_server_keeps (first_skip (timer_skips P party.Server)) inputs.timeout
+  event_keeps all sent event.AaaTimeout = record { mode = refl; pass = refl }
+  event_keeps all sent event.AaaNoReq = record { mode = refl; pass = refl }
+  event_keeps all sent event.Idle = to_peer_keeps (first_skip ((is_end peer.vars.state, Ended) ∷ [])) peer_inputs.idle
+  event_keeps all sent event.AltAccept = to_peer_keeps (first_skip ((is_end peer.vars.state, Ended) ∷ [])) peer_inputs.alt_accept
+  event_keeps all sent event.AltReject = to_peer_keeps (first_skip ((is_end peer.vars.state, Ended) ∷ [])) peer_inputs.alt_reject
+  event_keeps all sent (event.Restart party.Peer) = peer_left_keeps all.peer_left
+  event_keeps all sent (event.Restart party.Pass) = record { mode = refl; pass = refl }
+  event_keeps all sent (event.Restart party.Server) = server_left_keeps all.server_left
 
 pub record IsIdle (vars : PassVariables) (p : Parties) : Type 0 where
   pub mode : p.mode ≡ mode.Alone
   pub pass : p.pass ≡ vars
 
-acts-idle : (vars : PassVariables) (runs : Mode) (p : Parties) (all : Conversations) (sent : List Sent) (e : Event) → p.mode ≡ runs → runs ≡ mode.Alone
+acts_idle : (vars : PassVariables) (runs : Mode) (p : Parties) (all : Conversations) (sent : List Sent) (e : Event) → p.mode ≡ runs → runs ≡ mode.Alone
     → p.pass ≡ vars → IsIdle vars (act (record p { mode = runs }) all sent e).after
-acts-idle vars mode.Alone p all sent e same is pass =
-    let k = event-keeps p.peer p.server p.pass all sent e in record { mode = k.mode; pass = k.pass ∙ pass }
-acts-idle vars mode.Through p all sent e same is pass = cc is
+acts_idle vars mode.Alone p all sent e same is pass =
+    let k = event_keeps p.peer p.server p.pass all sent e in record { mode = k.mode; pass = k.pass ∙ pass }
+acts_idle vars mode.Through p all sent e same is pass = cc is
 
-step-idle : (vars : PassVariables) (w : WorldNow) (e : Event) → IsIdle vars w.parties → IsIdle vars (world_step w e).after.parties
+step_idle : (vars : PassVariables) (w : WorldNow) (e : Event) → IsIdle vars w.parties → IsIdle vars (world_step w e).after.parties
 unfolding world_step
-step-idle vars w e h = acts-idle vars w.parties.mode w.parties w.conversations w.sent e refl h.mode h.pass
+step_idle vars w e h = acts_idle vars w.parties.mode w.parties w.conversations w.sent e refl h.mode h.pass
 
-stays-idle : (vars : PassVariables) (w : WorldNow) (events : List Event) → IsIdle vars w.parties → IsIdle vars (run_after w events).parties
+stays_idle : (vars : PassVariables) (w : WorldNow) (events : List Event) → IsIdle vars w.parties → IsIdle vars (run_after w events).parties
 unfolding run_after
-stays-idle vars w [] h = h
-stays-idle vars w (e ∷ rest) h = stays-idle vars (world_step w e).after rest (step-idle vars w e h)
+stays_idle vars w [] h = h
+stays_idle vars w (e ∷ rest) h = stays_idle vars (world_step w e).after rest (step_idle vars w e h)
 
-starts-idle : (runs : Mode) (setup : Setup) → runs ≡ mode.Alone
+starts_idle : (runs : Mode) (setup : Setup) → runs ≡ mode.Alone
     → IsIdle (initial_pass setup.first_id setup.max_retrans) (world_start (initial_world (record setup { mode = runs }))).after.parties
 unfolding world_start server_start
-starts-idle mode.Alone setup is = record { mode = refl; pass = refl }
-starts-idle mode.Through setup is = cc is
+starts_idle mode.Alone setup is = record { mode = refl; pass = refl }
+starts_idle mode.Through setup is = cc is
 
 pub run_is_idle : (setup : Setup) (events : List Event) → setup.mode ≡ mode.Alone
     → IsIdle (initial_pass setup.first_id setup.max_retrans) (run_of setup events).parties
 run_is_idle setup events alone =
-    stays-idle (initial_pass setup.first_id setup.max_retrans) (world_start (initial_world setup)).after events (starts-idle setup.mode setup alone)
+    stays_idle (initial_pass setup.first_id setup.max_retrans) (world_start (initial_world setup)).after events (starts_idle setup.mode setup alone)

@@ -14,14 +14,14 @@ pub empty : {A : Type 0} (slot : Option A) → is_some slot ≡ false → slot �
 empty None e = refl
 empty (Some a) e = absurd cc
 
-room-there : (users : List User) (user : User) → has_room users user ≡ true → HasCapacity max_users users user
-room-there users user e =
+room_there : (users : List User) (user : User) → has_room users user ≡ true → HasCapacity max_users users user
+room_there users user e =
     let found = user_of users user.name user.kind in
     let parts = and_parts (nat_lt (length users) 16) (not (is_some found)) e in
     record { few = ltb-true (length users) 16 (parts.0); bounded = ltb-true (length users) 16 (parts.0); absent = empty found (not-true (is_some found) (parts.1)) }
 
-room-test : (users : List User) (user : User) → HasCapacity max_users users user → has_room users user ≡ true
-room-test users user h =
+room_test : (users : List User) (user : User) → HasCapacity max_users users user → has_room users user ≡ true
+room_test users user h =
     let few : nat_lt (length users) 16 ≡ true = lt-ltb (length users) 16 h.few in
     let absent : user_of users user.name user.kind ≡ None = h.absent in
     rw (few, absent) refl
@@ -30,14 +30,14 @@ room-test users user h =
 pub with_user_is : (users now : List User) (user : User) → (HasCapacity max_users users user → now ≡ users ++ user ∷ []) → ((HasCapacity max_users users user → ⊥) → now ≡ users) → now ≡ with_user users user
 unfolding with_user
 with_user_is users now user added unchanged =
-    cond_both (has_room users user) (users ++ user ∷ []) users (λ then. now ≡ then) (λ e. added (room-there users user e))
-    (λ e. unchanged (λ h. let t : has_room users user ≡ true = room-test users user h in absurd cc))
+    cond_both (has_room users user) (users ++ user ∷ []) users (λ then. now ≡ then) (λ e. added (room_there users user e))
+    (λ e. unchanged (λ h. let t : has_room users user ≡ true = room_test users user h in absurd cc))
 
 -- what holds of the users holds with one more
 pub with_user_satisfies : (P : List User → Type 0) (users : List User) (user : User) → P users → (HasCapacity max_users users user → P (users ++ user ∷ [])) → P (with_user users user)
 unfolding with_user
-with_user_satisfies P users user h more = cond_both (has_room users user) (users ++ user ∷ []) users P (λ e. more (room-there users user e)) (λ e. h)
+with_user_satisfies P users user h more = cond_both (has_room users user) (users ++ user ∷ []) users P (λ e. more (room_there users user e)) (λ e. h)
 
 -- and what holds of each
-pub with_user-all : (P : User → Type 0) (users : List User) (user : User) → All P users → P user → All P (with_user users user)
-with_user-all P users user h k = with_user_satisfies (All P) users user h (λ r. All-push P users user h k)
+pub with_user_all : (P : User → Type 0) (users : List User) (user : User) → All P users → P user → All P (with_user users user)
+with_user_all P users user h k = with_user_satisfies (All P) users user h (λ r. All-push P users user h k)

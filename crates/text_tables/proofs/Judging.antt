@@ -10,7 +10,7 @@ use Rattle.text_tables.specs.Rows.{Row, faults, unless, fault_of_words, keyword_
 use Rattle.text_tables.specs.Laws.{IsFirstOf, Judges}
 use Rattle.text_tables.specs.declared.fault.LineFault.{LineFault}
 use Rattle.text_tables.specs.declared.fault.LineFault.TheVariants as fault
-use Rattle.text_tables.proofs.Bounded.{no_fault, none-found}
+use Rattle.text_tables.proofs.Bounded.{no_fault, none_found}
 
 -- a printable line that begins with a keyword
 pub record StartsAt {K : Type 0} (row : K → Row) (keywords : List K) (line : List ℕ) (k : K) : Type 0 where
@@ -22,20 +22,20 @@ pub record IsBad {K : Type 0} (row : K → Row) (keywords : List K) (line : List
   pub bad : has_bad_word row keywords line ≡ true
   pub is : f ≡ fault.BadWord
 
-found-some : {A : Type 0} (found : Option A) (f : LineFault) (a : A) → ok_or found f ≡ Ok a → found ≡ Some a
-found-some None f a e = absurd cc
-found-some (Some b) f a e = cc
+found_some : {A : Type 0} (found : Option A) (f : LineFault) (a : A) → ok_or found f ≡ Ok a → found ≡ Some a
+found_some None f a e = absurd cc
+found_some (Some b) f a e = cc
 
-found-none : {A : Type 0} (found : Option A) (f e : LineFault) → ok_or found f ≡ Err e → (found ≡ None) × (e ≡ f)
-found-none None f e h = (refl, cc)
-found-none (Some b) f e h = absurd cc
+found_none : {A : Type 0} (found : Option A) (f e : LineFault) → ok_or found f ≡ Err e → (found ≡ None) × (e ≡ f)
+found_none None f e h = (refl, cc)
+found_none (Some b) f e h = absurd cc
 
 module _ {K : Type 0} (row : K → Row) (keywords : List K) (line : List ℕ) where
   pub begins : (k : K) → first_word row keywords line ≡ Ok k → StartsAt row keywords line k
   unfolding first_word
   begins k e =
       elim (cases_Bool (is_printable line)) [
-        | inl p ↦ record { printable = p; found = found-some (keyword_in row keywords (words line)) fault.BadWord k (rw p at e) }
+        | inl p ↦ record { printable = p; found = found_some (keyword_in row keywords (words line)) fault.BadWord k (rw p at e) }
         | inr p ↦ let bad = rw p at e in absurd cc
       ]
 
@@ -44,7 +44,7 @@ module _ {K : Type 0} (row : K → Row) (keywords : List K) (line : List ℕ) wh
   bad_word f e =
       elim (cases_Bool (is_printable line)) [
         | inl p ↦
-            let none = found-none (keyword_in row keywords (words line)) fault.BadWord f (rw p at e) in
+            let none = found_none (keyword_in row keywords (words line)) fault.BadWord f (rw p at e) in
             let found = none.0 in
             record { bad = rw (p, found) refl; is = none.1 }
         | inr p ↦ let bad = rw p at e in record { bad = rw p refl; is = cc }
@@ -66,11 +66,11 @@ join false false false false false true again before lacks out = refl
 join false false false false false false true before lacks out = refl
 join false false false false false false false before lacks out = refl
 
-unless-either : {A B : Type 0} (c : Bool) (x y : Option LineFault) (told : B) (value : A) (f : B → Result A LineFault) →
+unless_either : {A B : Type 0} (c : Bool) (x y : Option LineFault) (told : B) (value : A) (f : B → Result A LineFault) →
     f told ≡ unless y value → unless (cond c (Some fault.BadCount) (option_or x y)) value ≡ cond c (Err fault.BadCount) (unless x told >>= f)
-unless-either true x y told value f e = refl
-unless-either false None y told value f e = sym e
-unless-either false (Some g) y told value f e = refl
+unless_either true x y told value f e = refl
+unless_either false None y told value f e = sym e
+unless_either false (Some g) y told value f e = refl
 
 -- the first fault of a place; it has none of those that the words alone have
 abbrev pub placed : (LineFault → Bool) → Option LineFault
@@ -90,23 +90,23 @@ module _ {K A : Type 0} (row : K → Row) (keywords : List K) (line : List ℕ) 
   body = cond passed (Ok over) (unless (find has faults) value)
 
   -- no keyword
-  pub body-bad : has_bad_word row keywords line ≡ true → body ≡ Err fault.BadWord
+  pub body_bad : has_bad_word row keywords line ≡ true → body ≡ Err fault.BadWord
   unfolding line_has
-  body-bad h = rw (n, o.0, h) refl
+  body_bad h = rw (n, o.0, h) refl
 
-  pub body-fault : (f : LineFault) → first_word row keywords line ≡ Err f → body ≡ Err f
-  body-fault f e = let b = bad_word row keywords line f e in rw b.is (body-bad b.bad)
+  pub body_fault : (f : LineFault) → first_word row keywords line ≡ Err f → body ≡ Err f
+  body_fault f e = let b = bad_word row keywords line f e in rw b.is (body_bad b.bad)
 
   -- else its words, and then its place
-  body-known : (k : K) → StartsAt row keywords line k →
+  body_known : (k : K) → StartsAt row keywords line k →
       find has faults ≡ cond (place fault.BadCount) (Some fault.BadCount) (option_or (fault_of_words (row k).least (row k).fields (words line)) (placed place))
   unfolding line_has fault_of_words
-  body-known k b = rw (b.printable, b.found, o.0, o.1, o.2, o.3, o.4, o.5) (join _ _ _ _ _ _ _ _ _ _)
+  body_known k b = rw (b.printable, b.found, o.0, o.1, o.2, o.3, o.4, o.5) (join _ _ _ _ _ _ _ _ _ _)
 
-  pub body-words : {B : Type 0} (k : K) → StartsAt row keywords line k → (told : B) (f : B → Result A LineFault) → f told ≡ unless (placed place) value →
+  pub body_words : {B : Type 0} (k : K) → StartsAt row keywords line k → (told : B) (f : B → Result A LineFault) → f told ≡ unless (placed place) value →
       body ≡ cond (place fault.BadCount) (Err fault.BadCount) (unless (fault_of_words (row k).least (row k).fields (words line)) told >>= f)
-  body-words k b told f e =
-      rw (n, body-known k b) (unless-either (place fault.BadCount) (fault_of_words (row k).least (row k).fields (words line)) (placed place) told value f e)
+  body_words k b told f e =
+      rw (n, body_known k b) (unless_either (place fault.BadCount) (fault_of_words (row k).least (row k).fields (words line)) (placed place) told value f e)
 
 -- the first of a list that passes
 found : (has : LineFault → Bool) (list : List LineFault) (f : LineFault) → find has list ≡ Some f → IsFirstOf list has f
@@ -121,30 +121,30 @@ found has (x ∷ rest) f e =
           record { before = x ∷ s.before; after = s.after; order = ap (λ l. x ∷ l) (s.order); met = s.met; none_before = All-cons (λ e. has e ≡ false) x s.before h s.none_before }
     ]
 
-first-found : (has : LineFault → Bool) (before after : List LineFault) (f : LineFault) → has f ≡ true → AllByRecursion (λ e. has e ≡ false) before → find has (before ++ f ∷ after) ≡ Some f
-first-found has [] after f met none = rw met refl
-first-found has (x ∷ before) after f met none = let h = none.0 in rw h (first-found has before after f met (none.1))
+first_found : (has : LineFault → Bool) (before after : List LineFault) (f : LineFault) → has f ≡ true → AllByRecursion (λ e. has e ≡ false) before → find has (before ++ f ∷ after) ≡ Some f
+first_found has [] after f met none = rw met refl
+first_found has (x ∷ before) after f met none = let h = none.0 in rw h (first_found has before after f met (none.1))
 
-refused-by : {A : Type 0} (first : Option LineFault) (value : A) (f : LineFault) → unless first value ≡ Err f → first ≡ Some f
-refused-by None value f e = absurd cc
-refused-by (Some g) value f e = cc
+refused_by : {A : Type 0} (first : Option LineFault) (value : A) (f : LineFault) → unless first value ≡ Err f → first ≡ Some f
+refused_by None value f e = absurd cc
+refused_by (Some g) value f e = cc
 
-taken-by : {A : Type 0} (first : Option LineFault) (value : A) → IsOk (unless first value) → first ≡ None
-taken-by None value e = refl
-taken-by (Some g) value e = absurd cc
+taken_by : {A : Type 0} (first : Option LineFault) (value : A) → IsOk (unless first value) → first ≡ None
+taken_by None value e = refl
+taken_by (Some g) value e = absurd cc
 
 pub judges : {A : Type 0} (answer : Result A LineFault) (has : LineFault → Bool) (value : A) → answer ≡ unless (find has faults) value → Judges answer has value
 judges answer has value is = record {
-  refused = λ f e. found has faults f (refused-by (find has faults) value f (sym is ∙ e));
+  refused = λ f e. found has faults f (refused_by (find has faults) value f (sym is ∙ e));
   first = λ f s.
-      let found : find has faults ≡ Some f = ap (find has) (s.order) ∙ first-found has (s.before) (s.after) f (s.met) (recursion_from_All (λ x. has x ≡ false) (s.before) (s.none_before)) in
+      let found : find has faults ≡ Some f = ap (find has) (s.order) ∙ first_found has (s.before) (s.after) f (s.met) (recursion_from_All (λ x. has x ≡ false) (s.before) (s.none_before)) in
       is ∙ ap (λ first. unless first value) found;
-  taken = λ ok. no_fault has (taken-by (find has faults) value (rw is at ok));
-  faultless = λ none. is ∙ ap (λ first. unless first value) (none-found has faults none);
+  taken = λ ok. no_fault has (taken_by (find has faults) value (rw is at ok));
+  faultless = λ none. is ∙ ap (λ first. unless first value) (none_found has faults none);
 }
 
 -- a line after the first is passed over or not
-pub body-judged : {A : Type 0} (passed : Bool) (has : LineFault → Bool) (over value : A) →
+pub body_judged : {A : Type 0} (passed : Bool) (has : LineFault → Bool) (over value : A) →
     cond passed (Ok over) (unless (find has faults) value) ≡ unless (find (λ f. not passed && has f) faults) (cond passed over value)
-body-judged true has over value = refl
-body-judged false has over value = refl
+body_judged true has over value = refl
+body_judged false has over value = refl

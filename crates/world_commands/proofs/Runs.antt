@@ -9,14 +9,14 @@ use Rattle.eap_world.specs.declared.told.Counts.{Counts}
 use Rattle.eap_world.specs.declared.told.Brief.{Brief}
 use Rattle.world_laws.specs.Runs.{initial_world, run_of}
 
-counted-events : (c : Counts) (a : Action) → (counts_after c a).events ≡ c.events + 1
-counted-events c (Skipped skip) = refl
-counted-events c (Called did) = refl
+counted_events : (c : Counts) (a : Action) → (counts_after c a).events ≡ c.events + 1
+counted_events c (Skipped skip) = refl
+counted_events c (Called did) = refl
 
 -- each event counts
 pub world_step_events : (w : WorldNow) (e : Event) → (world_step w e).after.counts.events ≡ w.counts.events + 1
 unfolding world_step
-world_step_events w e = counted-events w.counts (act w.parties w.conversations w.sent e).action
+world_step_events w e = counted_events w.counts (act w.parties w.conversations w.sent e).action
 
 -- a world that has started, or taken an event, is one that has started
 pub start_starts : (w after : WorldNow) (told : Brief) → world_start w ≡ world_outcome told after → after.started ≡ true
@@ -44,7 +44,7 @@ step_sends : (w : WorldNow) (e : Event) → length w.sent ≤ w.counts.events + 
 unfolding world_step
 step_sends w e h =
     let out = act w.parties w.conversations w.sent e in
-    let counts = counted-events w.counts out.action in
+    let counts = counted_events w.counts out.action in
     let few = more_sent w out.action (w.counts.events + 1) h in
     omega (arith, counts, few)
 

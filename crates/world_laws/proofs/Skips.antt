@@ -5,8 +5,8 @@ use Rattle.world_laws.specs.Laws.{CountsAlone, SkipsChangeNothing}
 use Rattle.eap_world.specs.World.{WorldNow, WorldOutcome, to_pass, to_peer, to_server, world_step}
 use Rattle.world_laws.proofs.Acting.{Steps, skips, calls, peer_restarts, server_restarts, step_steps}
 
-steps-keep : (w : WorldNow) (out : WorldOutcome) → Steps w out → IsSome out.told.skip → CountsAlone w out
-steps-keep w _ (skips skip) is_skip = record {
+steps_keep : (w : WorldNow) (out : WorldOutcome) → Steps w out → IsSome out.told.skip → CountsAlone w out
+steps_keep w _ (skips skip) is_skip = record {
   parties = refl;
   sent = refl;
   book = refl;
@@ -20,11 +20,11 @@ steps-keep w _ (skips skip) is_skip = record {
   nothing = refl;
   unnamed = refl;
 }
-steps-keep w _ (calls (to_peer input) later same) is_skip = cc is_skip
-steps-keep w _ (calls (to_server input) later same) is_skip = cc is_skip
-steps-keep w _ (calls (to_pass input) later same) is_skip = cc is_skip
-steps-keep w _ (peer_restarts one left next) is_skip = cc is_skip
-steps-keep w _ (server_restarts one left next) is_skip = cc is_skip
+steps_keep w _ (calls (to_peer input) later same) is_skip = cc is_skip
+steps_keep w _ (calls (to_server input) later same) is_skip = cc is_skip
+steps_keep w _ (calls (to_pass input) later same) is_skip = cc is_skip
+steps_keep w _ (peer_restarts one left next) is_skip = cc is_skip
+steps_keep w _ (server_restarts one left next) is_skip = cc is_skip
 
 pub skips_change_nothing : SkipsChangeNothing
-skips_change_nothing w e = steps-keep w (world_step w e) (step_steps w e)
+skips_change_nothing w e = steps_keep w (world_step w e) (step_steps w e)

@@ -1,9 +1,9 @@
 use Rattle.std.proofs.Common.{arith, sym, ◌∙◌}
-use Rattle.eax_mode.proofs.Combining.{combined-nil, combined_all, combined_more}
+use Rattle.eax_mode.proofs.Combining.{combined_nil, combined_all, combined_more}
 use Rattle.eax_mode.proofs.combine.Goals as goal
 
 pub octets-init : goal.octets-init
-octets-init c = sym (combined-nil c.args.octets.now)
+octets-init c = sym (combined_nil c.args.octets.now)
 
 pub octets-preserved : goal.octets-preserved
 octets-preserved c =

@@ -2,7 +2,7 @@
 use Rattle.std.proofs.Common.{◌≡◌, ap}
 use Rattle.eapol_capture.specs.Parts.{answer_of}
 use Rattle.eapol_capture.specs.Reading.{Reading}
-use Rattle.eapol_capture.proofs.Waiting.{waits-settled}
+use Rattle.eapol_capture.proofs.Waiting.{waits_settled}
 use Rattle.eapol_capture.proofs.reader.PcapReader.next_record.Goals as goal
 use Rattle.eapol_capture.proofs.reader.PcapReader.next_record.Goals.{in-Ok, in-Err}
 
@@ -13,5 +13,5 @@ returns-clause-waits g c =
       | in-Err w ↦ rw w.in-Err.is w.answer-is
     ] in
     rw same
-    (waits-settled (answer_of c.read_next.result) c.args.self.now c.read_next.new.self c.settle.new.self (g.S.Source.shown.octets c.args.source.now)
+    (waits_settled (answer_of c.read_next.result) c.args.self.now c.read_next.new.self c.settle.new.self (g.S.Source.shown.octets c.args.source.now)
     (ap (λ (r : Reading). r.taken) c.settle.ensures) c.read_next.ensures.waits)

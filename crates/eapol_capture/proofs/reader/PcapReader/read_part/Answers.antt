@@ -1,6 +1,6 @@
 use Rattle.std.proofs.Common.{◌≡◌, ◌+◌, ◌-◌, arith, length-take}
 use Rattle.eapol_capture.specs.Files.{max_stored}
-use Rattle.eapol_capture.proofs.PassDelivery.{Looks, ConsumesSome, in_part, more-part}
+use Rattle.eapol_capture.proofs.PassDelivery.{Looks, ConsumesSome, in_part, more_part}
 use Rattle.eapol_capture.proofs.reader.PcapReader.read_part.Goals as goal
 
 pub loop-missing-init : goal.loop-missing-init
@@ -27,7 +27,7 @@ loop-missing-preserved g c =
     let takes : ConsumesSome n mid after =
     record { keeps = t.preserves; there = t.there; taken = t.consumed; held = t.pending; kept = t.stored; bounded = t.bounded } in
     let fewer : c.loop-missing.missing - n + n ≡ c.loop-missing.missing = omega arith in
-    more-part c.args.count c.loop-missing.missing n (c.loop-missing.missing - n) before now mid after
+    more_part c.args.count c.loop-missing.missing n (c.loop-missing.missing - n) before now mid after
     (g.S.Source.shown.octets c.args.source.now) (g.S.Source.shown.octets c.loop-missing.source) (g.S.Source.shown.octets c.has_more.new.source)
     (g.S.Source.shown.faults c.args.source.now) (g.S.Source.shown.faults c.loop-missing.source) (g.S.Source.shown.faults c.has_more.new.source)
     c.loop-missing.invariant looks takes fewer c.in_ok-has_more.ensures.read

@@ -6,7 +6,7 @@ use Rattle.octet_lists.specs.Suite.{ks_of}
 use Rattle.login_keys.specs.Gpsk.{gkdf, gkdf_block, gkdf_blocks, gpsk_tag_of, two_octets}
 use Rattle.login_keys.proofs.Blocks.{joined_none, joined_push}
 use Rattle.cmac_mac.proofs.Pieces.{joined}
-use Rattle.login_keys.proofs.GpskLaws.{length_gpsk_tag_of, ks-le, before_last, after_last}
+use Rattle.login_keys.proofs.GpskLaws.{length_gpsk_tag_of, ks_le, before_last, after_last}
 use Rattle.login_keys.proofs.gpsk.derivation.derive.Goals as goal
 
 -- a number in the first two octets
@@ -24,7 +24,7 @@ numbers-preserved c =
     let f : ℕ → List ℕ = gkdf_block c.args.suite c.args._key.now z in
     let few : c.numbers.done * ks_of c.args.suite < c.args.size =
     before_last _ _ _ _ _ c.ks.ensures c.div_ceil-done-end.ensures c.numbers-test.true in
-    let small : ks_of c.args.suite ≤ 32 = ks-le c.args.suite in
+    let small : ks_of c.args.suite ≤ 32 = ks_le c.args.suite in
     let so_far = c.numbers.invariant.so_far in
     let whole : length c.numbers.out ≡ c.numbers.done * ks_of c.args.suite = so_far.whole in
     let text = numbered c.numbers.front c.write_u16.new.buf _ z (c.numbers.done + 1) c.numbers.invariant.behind c.write_u16.ensures in

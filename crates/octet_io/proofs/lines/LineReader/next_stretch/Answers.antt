@@ -1,7 +1,7 @@
 use Rattle.std.proofs.Common.{◌≡◌, ◌≤◌, ◌+◌, ◌++◌, ◌==◌, false, length, take, drop, arith}
 use Rattle.std.proofs.lemmas.List.{length-take, length-append}
 use Rattle.std.specs.List.{position_or_len}
-use Rattle.octet_io.proofs.LineLaws.{goes_on, stretch-stops}
+use Rattle.octet_io.proofs.LineLaws.{goes_on, stretch_stops}
 use Rattle.octet_io.proofs.lines.LineReader.next_stretch.Goals as goal
 
 pub returns-clause-lines : goal.returns-clause-lines
@@ -32,4 +32,4 @@ returns-clause-stops c =
     let appended : c.append.new.self ≡ c.self.inside.line ++ take n held = c.append.ensures.appended (omega arith) in
     let longer : length c.append.new.self ≡ length c.self.inside.line + n = rw appended (omega (arith, length-append c.self.inside.line (take n held))) in
     let left : c.skip.new.self ≡ drop n held = cc in
-    rw left (stretch-stops n held c.append.new.self (c.self.inside.taken + n) most (λ less room. omega arith))
+    rw left (stretch_stops n held c.append.new.self (c.self.inside.taken + n) most (λ less room. omega arith))
