@@ -8,7 +8,8 @@ use Rattle.radius_carry.specs.Tags.{IsGoodReply}
 use Rattle.access_point.specs.Naming.{name_in}
 use Rattle.access_point.specs.declared.AccessPoint.{AccessPoint}
 
--- after a packet of the station that goes on: a name in it is the user's, and the request has the next Identifier
+-- after a packet of the station that goes on: a name in it is the user's, and the request has the
+-- next Identifier
 abbrev pub asks : AccessPoint → List ℕ → List ℕ → AccessPoint
 asks point packet authenticator = record point {
   pass = (pass_from_peer point.pass packet).after;
@@ -21,7 +22,8 @@ asks point packet authenticator = record point {
 abbrev pub state_after : AccessPoint → RadiusPacket → List ℕ
 state_after point reply = unwrap_or (first_value 24 reply.attributes) point.state
 
--- a datagram is the reply to the last request, of one who knows the secret, with a State that can be returned
+-- a datagram is the reply to the last request, of one who knows the secret, with a State that can
+-- be returned
 pub record IsReplyTo (point : AccessPoint) (datagram : List ℕ) (reply : RadiusPacket) : Type 0 where
   pub read : packet_of datagram ≡ Ok reply
   pub id : reply.id ≡ point.id

@@ -5,7 +5,8 @@
 ghost use Rattle.std.specs.Prelude.{◌≡◌, ◌↔◌, [], replicate, if◌then◌else◌, IfSome, IfNone, IsSome};
 ghost use Rattle.eap_packet.specs.Fault.{packet_of};
 ghost use Rattle.pass_through.specs.Inputs.{pass_accepts, start};
-ghost use Rattle.pass_through.specs.PassTable.{identity_request, initial_pass, is_started, pass_from_backend, pass_from_peer, without_padding};
+ghost use Rattle.pass_through.specs.PassTable.{identity_request, initial_pass, is_started};
+ghost use Rattle.pass_through.specs.PassTable.{pass_from_backend, pass_from_peer, without_padding};
 ghost use Rattle.radius_carry.specs.Packet.{RadiusPacket, eap_of, spelled};
 ghost use Rattle.radius_carry.specs.Written.{request_of};
 ghost use Rattle.access_point.specs.Naming.{name_in};
@@ -39,7 +40,14 @@ impl AccessPoint {
 
     /// An access point that shares this secret with its server, without a station.
     pub fn new(secret: Secret) -> AccessPoint
-        ensures { result ≡ record { pass = initial_pass 0 4; secret = secret; user = []; state = []; id = 0; authenticator = replicate 16 0 } }
+        ensures { result ≡ record {
+          pass = initial_pass 0 4;
+          secret = secret;
+          user = [];
+          state = [];
+          id = 0;
+          authenticator = replicate 16 0;
+        } }
     {
         AccessPoint {
             pass: PassThrough::new(0, 4),
@@ -54,8 +62,10 @@ impl AccessPoint {
     /// A station is there: the Identity Request for it, or None if one was there before.
     #[tactic(auto, unfolding(pass_through::specs::PassTable::pass_start))]
     pub fn begin(&mut self) -> Option<Packet>
-        ensures once { result ≡ (if is_started self.old.pass.state then None else Some (identity_request self.old.pass.first_id)) }
-        ensures after { self.new ≡ record self.old { pass = (pass_accepts self.old.pass start).after } }
+        ensures once { result ≡ (if is_started self.old.pass.state then None
+            else Some (identity_request self.old.pass.first_id)) }
+        ensures after { self.new
+            ≡ record self.old { pass = (pass_accepts self.old.pass start).after } }
     {
         if self.pass.started() {
             None
@@ -68,10 +78,13 @@ impl AccessPoint {
     /// the packet is silently discarded.
     #[tactic(auto, using(crate::proofs::Forwarding::from_peer_forwards))]
     pub fn from_station(&mut self, packet: &[u8], authenticator: [u8; 16]) -> Option<Injected>
-        ensures passes { IsSome result ↔ IsSome (pass_from_peer self.old.pass packet.now).step.sent }
-        ensures sent { IfSome result (λ datagram. datagram ≡ spelled (request_of self.new.secret self.new.id authenticator
+        ensures passes { IsSome result
+            ↔ IsSome (pass_from_peer self.old.pass packet.now).step.sent }
+        ensures sent { IfSome result
+            (λ datagram. datagram ≡ spelled (request_of self.new.secret self.new.id authenticator
             self.new.user self.new.state (without_padding packet.now))) }
-        ensures after { IfSome result (λ datagram. self.new ≡ asks self.old packet.now authenticator) }
+        ensures after { IfSome result
+            (λ datagram. self.new ≡ asks self.old packet.now authenticator) }
         ensures unchanged { IfNone result (self.new ≡ self.old) }
     {
         let response = self.pass.from_peer(packet).to_server?;
@@ -94,10 +107,12 @@ impl AccessPoint {
     /// who knows the secret and with a State of at most 64 octets, or if what it carries is silently discarded.
     #[tactic(auto, unfolding(radius_carry::specs::Fault::value_of), using(crate::proofs::Forwarding::from_backend_forwards))]
     pub fn from_server(&mut self, datagram: &[u8]) -> Option<Packet>
-        ensures good { IsSome result → (reply : RadiusPacket) × IsReplyTo self.old datagram.now reply }
+        ensures good { IsSome result → (reply : RadiusPacket)
+            × IsReplyTo self.old datagram.now reply }
         ensures sent { (reply : RadiusPacket) → IsReplyTo self.old datagram.now reply
             → result ≡ (pass_from_backend self.old.pass (eap_of reply.attributes)).step.sent }
-        ensures after { (reply : RadiusPacket) → IsReplyTo self.old datagram.now reply → IsSome result → self.new ≡ answered self.old reply }
+        ensures after { (reply : RadiusPacket) → IsReplyTo self.old datagram.now reply
+            → IsSome result → self.new ≡ answered self.old reply }
         ensures unchanged { IfNone result (self.new ≡ self.old) }
     {
         let reply = read_radius(datagram).ok()?;

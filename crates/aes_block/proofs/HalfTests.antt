@@ -1,7 +1,8 @@
 -- The tables of halves, octet by octet: each by a test over all octets, which computes.
 use Rattle.std.proofs.Common.{◌≡◌, ℕ, ◌<◌, ◌||◌, true, leb, ltb, map, refl, bit_xor}
 use Rattle.aes_block.specs.Field.{octets}
-use Rattle.aes_block.specs.Turned.{IsPlace, lower, upper, look, first_sum, second_sum, first_place, second_place}
+use Rattle.aes_block.specs.Turned.{IsPlace, lower, upper, look, first_sum, second_sum, first_place}
+use Rattle.aes_block.specs.Turned.{second_place}
 use Rattle.aes_block.proofs.Octets.{same_at}
 
 -- f gives a place for each octet

@@ -11,7 +11,8 @@ unfolding sub_byte inverse affine times
 s_box_test = refl
 
 pub get_or_S_BOX : (b : ℕ) → b < 256 → get_or S_BOX b 0 ≡ sub_byte b
-get_or_S_BOX b h = ap (λ t. get_or t b 0) (sym s_box_test) ∙ get_or-map-range_with_len sub_byte 0 256 b b 0 h (omega arith)
+get_or_S_BOX b h = ap (λ t. get_or t b 0) (sym s_box_test)
+    ∙ get_or-map-range_with_len sub_byte 0 256 b b 0 h (omega arith)
 
 -- a product with x + 1
 tripled_test : map (λ b. bit_xor (times 2 b) b) octets ≡ map (times 3) octets

@@ -1,11 +1,13 @@
 -- How one round key follows from the one before it.
-use Rattle.std.proofs.Common.{◌≡◌, ℕ, suc, ◌+◌, ◌*◌, ◌/◌, ◌%◌, ◌-◌, ◌<◌, List, [], ◌∷◌, map, refl, bit_xor, get_or, slice_index, ap, ◌∙◌, sym, arith, eqb, false}
+use Rattle.std.proofs.Common.{◌≡◌, ℕ, suc, ◌+◌, ◌*◌, ◌/◌, ◌%◌, ◌-◌, ◌<◌, List, [], ◌∷◌, map, refl}
+use Rattle.std.proofs.Common.{bit_xor, get_or, slice_index, ap, ◌∙◌, sym, arith, eqb, false}
 use Rattle.std.specs.List.{range_with_len}
 use Rattle.std.proofs.lemmas.List.FromFn.{get_or-map-range_with_len}
 use Rattle.std.proofs.lemmas.Bool.{ne_eqb}
 use Rattle.std.specs.Int.Bits.{xor_zero_r}
 use Rattle.aes_block.specs.Field.{times, sub_byte}
-use Rattle.aes_block.specs.KeySchedule.{KeyWords, word_of, xor_words, change_at, power_of_x, key_words, next_words, joined, round_key}
+use Rattle.aes_block.specs.KeySchedule.{KeyWords, word_of, xor_words, change_at, power_of_x}
+use Rattle.aes_block.specs.KeySchedule.{key_words, next_words, joined, round_key}
 use Rattle.aes_block.specs.declared.key_schedule.TheConstants.{ROUND_CONSTANTS}
 
 -- the round constants are the powers of x
@@ -15,7 +17,8 @@ constants_test = refl
 
 pub get_or_ROUND_CONSTANTS : (r : ℕ) → r < 10 → get_or ROUND_CONSTANTS r 0 ≡ power_of_x r
 get_or_ROUND_CONSTANTS r h =
-    ap (λ t. get_or t r 0) (sym constants_test) ∙ get_or-map-range_with_len power_of_x 0 10 r r 0 h (omega arith)
+    ap (λ t. get_or t r 0) (sym constants_test)
+    ∙ get_or-map-range_with_len power_of_x 0 10 r r 0 h (omega arith)
 
 -- four words on from k: the first is at the place i, and only there is a change made
 abbrev four_after : ℕ → KeyWords → KeyWords
@@ -27,7 +30,8 @@ four_after i k =
 
 -- the change at the first word of a round key
 pub change_at_first : (r : ℕ) (w : List ℕ) → change_at (4 * r + 4) w
-    ≡ bit_xor (sub_byte (slice_index w 1)) (power_of_x r) ∷ sub_byte (slice_index w 2) ∷ sub_byte (slice_index w 3) ∷ sub_byte (slice_index w 0) ∷ []
+    ≡ bit_xor (sub_byte (slice_index w 1)) (power_of_x r) ∷ sub_byte (slice_index w 2)
+    ∷ sub_byte (slice_index w 3) ∷ sub_byte (slice_index w 0) ∷ []
 unfolding change_at
 change_at_first r w =
     let edge : (4 * r + 4) % 4 ≡ 0 = omega arith in
@@ -43,7 +47,8 @@ change_at_other r k w low high =
 
 -- the four words after k, where the first of them is at a multiple of four
 next_four : (r : ℕ) (k : KeyWords)
-    → next_words (4 * r + 7) (next_words (4 * r + 6) (next_words (4 * r + 5) (next_words (4 * r + 4) k))) ≡ four_after (4 * r + 4) k
+    → next_words (4 * r + 7) (next_words (4 * r + 6)
+    (next_words (4 * r + 5) (next_words (4 * r + 4) k))) ≡ four_after (4 * r + 4) k
 next_four r k =
     rw (
       change_at_other r 5 (four_after (4 * r + 4) k).first (omega arith) (omega arith),
@@ -53,7 +58,8 @@ next_four r k =
     refl
 
 -- the words of the next round key
-words_on : (key : List ℕ) (r : ℕ) → key_words key (4 * (r + 1)) ≡ four_after (4 * r + 4) (key_words key (4 * r))
+words_on : (key : List ℕ) (r : ℕ)
+    → key_words key (4 * (r + 1)) ≡ four_after (4 * r + 4) (key_words key (4 * r))
 unfolding key_words
 words_on key r =
     let on : 4 * (r + 1) ≡ suc (suc (suc (suc (4 * r)))) = omega arith in
@@ -74,4 +80,5 @@ unfolding round_key
 next_key initial p t a b d e r ep et ea eb ed ee =
     let w : KeyWords = key_words initial (4 * r) in
     rw (ee, ed, eb, ea, et, ep, words_on initial r)
-    (rw (change_at_first r (word_of (λ i. slice_index w.fourth i)), change_at_first r w.fourth) refl)
+    (rw (change_at_first r (word_of (λ i. slice_index w.fourth i)), change_at_first r w.fourth)
+    refl)

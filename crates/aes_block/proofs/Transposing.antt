@@ -1,23 +1,29 @@
 -- The transposition of eight words, which loads states and stores them.
-use Rattle.std.proofs.Common.{◌≡◌, ℕ, ◌+◌, ◌-◌, ◌*◌, ◌%◌, ◌<◌, Bool, true, ◌&&◌, List, [], ◌∷◌, map, get_or, slice_index, eqb, ltb, refl, sym, ap, ◌∙◌, arith, lit<}
+use Rattle.std.proofs.Common.{◌≡◌, ℕ, ◌+◌, ◌-◌, ◌*◌, ◌%◌, ◌<◌, Bool, true, ◌&&◌, List, [], ◌∷◌, map}
+use Rattle.std.proofs.Common.{get_or, slice_index, eqb, ltb, refl, sym, ap, ◌∙◌, arith, lit<}
 use Rattle.std.proofs.lemmas.List.FromFn.{get_or-map-range_with_len}
 use Rattle.std.proofs.lemmas.Bool.{and_parts, ltb-true, eqb-true}
 use Rattle.std.specs.Int.{bit_at}
 use Rattle.std.specs.List.{range_with_len}
 use Rattle.aes_block.specs.Cipher.{state_of}
-use Rattle.aes_block.specs.Slices.{bits_at, at_place, octet_at, octet_in, state_in, state_of_columns, bit_from_x, bit_from_y, word_before, place_before, exchanged}
+use Rattle.aes_block.specs.Slices.{bits_at, at_place, octet_at, octet_in, state_in}
+use Rattle.aes_block.specs.Slices.{state_of_columns, bit_from_x, bit_from_y, word_before}
+use Rattle.aes_block.specs.Slices.{place_before, exchanged}
 use Rattle.aes_block.proofs.SliceBits.{octet_of_same, octet_at_from, bits_listed, octet_in_row}
 
 -- every place
 abbrev places : List ℕ
 places = range_with_len 0 32
 
-at_each_place : {X : Type 0} (f g : ℕ → X) → map f places ≡ map g places → (place : ℕ) → place < 32 → f place ≡ g place
+at_each_place : {X : Type 0} (f g : ℕ → X) → map f places ≡ map g places → (place : ℕ) → place < 32
+    → f place ≡ g place
 at_each_place {X} f g test place h =
-    sym (get_or-map-range_with_len f 0 32 place place (f place) h (omega arith)) ∙ ap (λ (t : List X). get_or t place (f place)) test
+    sym (get_or-map-range_with_len f 0 32 place place (f place) h (omega arith))
+    ∙ ap (λ (t : List X). get_or t place (f place)) test
     ∙ get_or-map-range_with_len g 0 32 place place (f place) h (omega arith)
 
-pub eight_equal : (a b c d e f g h p q r s t u v w : ℕ) → a ≡ p → b ≡ q → c ≡ r → d ≡ s → e ≡ t → f ≡ u → g ≡ v → h ≡ w
+pub eight_equal : (a b c d e f g h p q r s t u v w : ℕ) → a ≡ p → b ≡ q → c ≡ r → d ≡ s → e ≡ t
+    → f ≡ u → g ≡ v → h ≡ w
     → a ∷ b ∷ c ∷ d ∷ e ∷ f ∷ g ∷ h ∷ [] ≡ p ∷ q ∷ r ∷ s ∷ t ∷ u ∷ v ∷ w ∷ []
 eight_equal a b c d e f g h p q r s t u v w ea eb ec ed ee ef eg eh =
     λ i. ea i ∷ eb i ∷ ec i ∷ ed i ∷ ee i ∷ ef i ∷ eg i ∷ eh i ∷ []
@@ -73,14 +79,17 @@ module _ (words : List ℕ) where
 -- ---- one after another
 
 abbrev AreExchanged : ℕ → List ℕ → List ℕ → Type 0
-AreExchanged d words result = (place : ℕ) → place < 32 → at_place result place ≡ exchanged d words place
+AreExchanged d words result =
+    (place : ℕ) → place < 32 → at_place result place ≡ exchanged d words place
 
-one_exchange : (d : ℕ) (words result : List ℕ) → AreExchanged d words result → (k place : ℕ) → k < 8 → place < 32
+one_exchange : (d : ℕ) (words result : List ℕ) → AreExchanged d words result → (k place : ℕ) → k < 8
+    → place < 32
     → bits_at result place k ≡ bits_at words (place_before d k place) (word_before d k place)
 unfolding exchanged
 one_exchange d words result e k place hk hp =
     bits_listed result place k ∙ ap (λ (t : List ℕ). slice_index t k) (e place hp)
-    ∙ get_or-map-range_with_len (λ j. bits_at words (place_before d j place) (word_before d j place)) 0 8 k k 0 hk (omega arith)
+    ∙ get_or-map-range_with_len
+    (λ j. bits_at words (place_before d j place) (word_before d j place)) 0 8 k k 0 hk (omega arith)
 
 abbrev word_two : ℕ → ℕ → ℕ
 word_two k p = word_before 2 (word_before 4 k p) (place_before 4 k p)
@@ -98,19 +107,24 @@ arrives k p =
 
 abbrev holds : ℕ → ℕ → Bool
 holds p k =
-    inside (word_before 4 k p) (place_before 4 k p) && (inside (word_two k p) (place_two k p) && arrives k p)
+    inside (word_before 4 k p) (place_before 4 k
+    p) && (inside (word_two k p) (place_two k p) && arrives k p)
 
-path_test : map (λ p. map (holds p) (range_with_len 0 8)) places ≡ map (λ _. map (λ _. true) (range_with_len 0 8)) places
+path_test : map (λ p. map (holds p) (range_with_len 0 8)) places
+    ≡ map (λ _. map (λ _. true) (range_with_len 0 8)) places
 path_test = refl
 
 path_at : (k p : ℕ) → k < 8 → p < 32 → holds p k ≡ true
 path_at k p hk hp =
     let row : map (holds p) (range_with_len 0 8) ≡ map (λ _. true) (range_with_len 0 8) =
-    at_each_place (λ q. map (holds q) (range_with_len 0 8)) (λ _. map (λ _. true) (range_with_len 0 8)) path_test p hp in
-    sym (get_or-map-range_with_len (holds p) 0 8 k k true hk (omega arith)) ∙ ap (λ t. get_or t k true) row
+    at_each_place (λ q. map (holds q) (range_with_len 0 8))
+    (λ _. map (λ _. true) (range_with_len 0 8)) path_test p hp in
+    sym (get_or-map-range_with_len (holds p) 0 8 k k true hk (omega arith))
+    ∙ ap (λ t. get_or t k true) row
     ∙ get_or-map-range_with_len (λ _. true) 0 8 k k true hk (omega arith)
 
-module _ (words one two result : List ℕ) (e1 : AreExchanged 1 words one) (e2 : AreExchanged 2 one two) (e4 : AreExchanged 4 two result) where
+module _ (words one two result : List ℕ) (e1 : AreExchanged 1 words one)
+    (e2 : AreExchanged 2 one two) (e4 : AreExchanged 4 two result) where
   moved : (k p : ℕ) → k < 8 → p < 32 → bits_at result p k ≡ bits_at words (p - p % 8 + k) (p % 8)
   moved k p hk hp =
       let k4 : ℕ = word_before 4 k p in
@@ -129,28 +143,33 @@ module _ (words one two result : List ℕ) (e1 : AreExchanged 1 words one) (e2 :
       ∙ one_exchange 1 words one e1 k2 p2 (ltb-true k2 8 twos.0) (ltb-true p2 32 twos.1)
       ∙ (λ i. bits_at words (eqb-true p1 (p - p % 8 + k) last.1 i) (eqb-true k1 (p % 8) last.0 i))
 
-  transposed_bit : (row j k : ℕ) → row < 4 → j < 8 → k < 8 → bits_at result (8 * row + j) k ≡ bits_at words (8 * row + k) j
+  transposed_bit : (row j k : ℕ) → row < 4 → j < 8 → k < 8
+      → bits_at result (8 * row + j) k ≡ bits_at words (8 * row + k) j
   transposed_bit row j k hr hj hk =
       let place : 8 * row + j - (8 * row + j) % 8 + k ≡ 8 * row + k = omega arith in
       let word : (8 * row + j) % 8 ≡ j = omega arith in
       moved k (8 * row + j) hk (omega arith) ∙ (λ i. bits_at words (place i) (word i))
 
-  pub loaded_are : (row j : ℕ) → row < 4 → j < 8 → octet_at result (8 * row + j) ≡ octet_in (slice_index words j) row
+  pub loaded_are : (row j : ℕ) → row < 4 → j < 8
+      → octet_at result (8 * row + j) ≡ octet_in (slice_index words j) row
   loaded_are row j hr hj =
-      octet_at_from result (8 * row + j) (λ k. bit_at (slice_index words j) (8 * row + k)) (λ k hk. transposed_bit row j k hr hj hk)
+      octet_at_from result (8 * row + j) (λ k. bit_at (slice_index words j) (8 * row + k))
+      (λ k hk. transposed_bit row j k hr hj hk)
       ∙ octet_in_row (slice_index words j) row hr
 
-  pub stored_are : (row j : ℕ) → row < 4 → j < 8 → octet_in (slice_index result j) row ≡ octet_at words (8 * row + j)
+  pub stored_are : (row j : ℕ) → row < 4 → j < 8 → octet_in (slice_index result j) row
+      ≡ octet_at words (8 * row + j)
   stored_are row j hr hj =
       sym (octet_in_row (slice_index result j) row hr)
-      ∙ octet_of_same (λ k. bit_at (slice_index result j) (8 * row + k)) (bits_at words (8 * row + j))
-      (λ k hk. transposed_bit row k j hr hk hj)
+      ∙ octet_of_same (λ k. bit_at (slice_index result j) (8 * row + k))
+      (bits_at words (8 * row + j)) (λ k hk. transposed_bit row k j hr hk hj)
       ∙ sym (octet_at_from words (8 * row + j) (bits_at words (8 * row + j)) (λ k h. refl))
 
 -- ---- states
 
 -- two states with the same octets in each of the four rows and columns
-pub state_of_within : (f g : ℕ → ℕ → ℕ) → ((row column : ℕ) → row < 4 → column < 4 → f row column ≡ g row column) → state_of f ≡ state_of g
+pub state_of_within : (f g : ℕ → ℕ → ℕ) → ((row column : ℕ) → row < 4 → column < 4
+    → f row column ≡ g row column) → state_of f ≡ state_of g
 state_of_within f g h =
     let at : (row column : ℕ) → row < 4 → column < 4 → f row column ≡ g row column = h in
     rw (
@@ -181,22 +200,28 @@ in_turn a b =
 
 -- the states that were loaded
 pub lane_loaded : (words result : List ℕ)
-    → ((row j : ℕ) → row < 4 → j < 8 → octet_at result (8 * row + j) ≡ octet_in (slice_index words j) row)
-    → (lane : ℕ) → lane < 2 → state_in lane result ≡ state_of (λ row column. octet_in (slice_index words (2 * column + lane)) row)
+    → ((row j : ℕ) → row < 4 → j < 8
+    → octet_at result (8 * row + j) ≡ octet_in (slice_index words j) row)
+    → (lane : ℕ) → lane < 2 → state_in lane result
+    ≡ state_of (λ row column. octet_in (slice_index words (2 * column + lane)) row)
 unfolding state_in
 lane_loaded words result loaded lane h =
-    state_of_within (λ row column. octet_at result (8 * row + 2 * column + lane)) (λ row column. octet_in (slice_index words (2 * column + lane)) row)
+    state_of_within (λ row column. octet_at result (8 * row + 2 * column + lane))
+    (λ row column. octet_in (slice_index words (2 * column + lane)) row)
     (λ row column hr hc.
     let place : 8 * row + 2 * column + lane ≡ 8 * row + (2 * column + lane) = omega arith in
     ap (octet_at result) place ∙ loaded row (2 * column + lane) hr (omega arith))
 
 -- the first state, to be stored
 pub first_stored : (words result : List ℕ)
-    → ((row j : ℕ) → row < 4 → j < 8 → octet_in (slice_index result j) row ≡ octet_at words (8 * row + j))
-    → state_of_columns (slice_index result 0 ∷ slice_index result 2 ∷ slice_index result 4 ∷ slice_index result 6 ∷ []) ≡ state_in 0 words
+    → ((row j : ℕ) → row < 4 → j < 8 → octet_in (slice_index result j) row
+    ≡ octet_at words (8 * row + j))
+    → state_of_columns (slice_index result 0 ∷ slice_index result 2 ∷ slice_index result 4
+    ∷ slice_index result 6 ∷ []) ≡ state_in 0 words
 unfolding state_in
 first_stored words result stored =
-    state_of_within (λ row column. octet_in (slice_index result (2 * column)) row) (λ row column. octet_at words (8 * row + 2 * column + 0))
+    state_of_within (λ row column. octet_in (slice_index result (2 * column)) row)
+    (λ row column. octet_at words (8 * row + 2 * column + 0))
     (λ row column hr hc.
     let place : 8 * row + 2 * column ≡ 8 * row + 2 * column + 0 = omega arith in
     stored row (2 * column) hr (omega arith) ∙ ap (octet_at words) place)

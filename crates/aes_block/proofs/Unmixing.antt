@@ -1,4 +1,5 @@
--- Mixing a column can be undone: the inverse of the matrix (FIPS 197, section 5.3.3), by tests over all octets, which compute.
+-- Mixing a column can be undone: the inverse of the matrix (FIPS 197, section 5.3.3), by tests over
+-- all octets, which compute.
 use Rattle.std.proofs.Common.{◌≡◌, ℕ, ◌<◌, true, [], ◌∷◌, map, refl, ap, ◌∙◌, sym, bit_xor}
 use Rattle.std.proofs.lemmas.Nat.{xor_comm, xor_lt}
 use Rattle.std.proofs.lemmas.Bool.{ltb-true}
@@ -47,9 +48,11 @@ linear_9 : IsLinear by_9
 unfolding by_9
 linear_9 a b = by_bits_xor (0x09 ∷ 0x12 ∷ 0x24 ∷ 0x48 ∷ 0x90 ∷ 0x3b ∷ 0x76 ∷ 0xec ∷ []) a b
 
-of_four : (f : ℕ → ℕ) → IsLinear f → (a b c d : ℕ) → f (sum_of_four a b c d) ≡ sum_of_four (f a) (f b) (f c) (f d)
+of_four : (f : ℕ → ℕ) → IsLinear f → (a b c d : ℕ)
+    → f (sum_of_four a b c d) ≡ sum_of_four (f a) (f b) (f c) (f d)
 of_four f linear a b c d =
-    linear (bit_xor (bit_xor a b) c) d ∙ ap (λ (x : ℕ). bit_xor x (f d)) (linear (bit_xor a b) c ∙ ap (λ (x : ℕ). bit_xor x (f c)) (linear a b))
+    linear (bit_xor (bit_xor a b) c) d ∙ ap (λ (x : ℕ). bit_xor x (f d)) (linear (bit_xor a b) c
+    ∙ ap (λ (x : ℕ). bit_xor x (f c)) (linear a b))
 
 -- the octet that was in the first of four mixed ones
 abbrev pub unmixed : ℕ → ℕ → ℕ → ℕ → ℕ
@@ -57,19 +60,23 @@ unmixed a b c d = sum_of_four (by_14 a) (by_11 b) (by_13 c) (by_9 d)
 
 -- ---- what each octet of the column adds
 
-first_test : map (λ a. sum_of_four (by_14 (times 2 a)) (by_11 a) (by_13 a) (by_9 (times 3 a))) octets ≡ map (λ a. a) octets
+first_test : map (λ a. sum_of_four (by_14 (times 2 a)) (by_11 a) (by_13 a)
+    (by_9 (times 3 a))) octets ≡ map (λ a. a) octets
 unfolding times by_14 by_11 by_13 by_9
 first_test = refl
 
-second_test : map (λ b. sum_of_four (by_14 (times 3 b)) (by_11 (times 2 b)) (by_13 b) (by_9 b)) octets ≡ map (λ _. 0) octets
+second_test : map (λ b. sum_of_four (by_14 (times 3 b)) (by_11 (times 2 b)) (by_13 b)
+    (by_9 b)) octets ≡ map (λ _. 0) octets
 unfolding times by_14 by_11 by_13 by_9
 second_test = refl
 
-third_test : map (λ c. sum_of_four (by_14 c) (by_11 (times 3 c)) (by_13 (times 2 c)) (by_9 c)) octets ≡ map (λ _. 0) octets
+third_test : map (λ c. sum_of_four (by_14 c) (by_11 (times 3 c)) (by_13 (times 2 c))
+    (by_9 c)) octets ≡ map (λ _. 0) octets
 unfolding times by_14 by_11 by_13 by_9
 third_test = refl
 
-fourth_test : map (λ d. sum_of_four (by_14 d) (by_11 d) (by_13 (times 3 d)) (by_9 (times 2 d))) octets ≡ map (λ _. 0) octets
+fourth_test : map (λ d. sum_of_four (by_14 d) (by_11 d) (by_13 (times 3 d))
+    (by_9 (times 2 d))) octets ≡ map (λ _. 0) octets
 unfolding times by_14 by_11 by_13 by_9
 fourth_test = refl
 
@@ -77,21 +84,29 @@ fourth_test = refl
 
 -- the last of four first
 turned_once : (a b c d : ℕ) → sum_of_four a b c d ≡ sum_of_four d a b c
-turned_once a b c d = xor_comm (bit_xor (bit_xor a b) c) d ∙ sym (xor_assoc d (bit_xor a b) c) ∙ ap (λ (x : ℕ). bit_xor x c) (sym (xor_assoc d a b))
+turned_once a b c d = xor_comm (bit_xor (bit_xor a b) c) d ∙ sym (xor_assoc d (bit_xor a b) c)
+    ∙ ap (λ (x : ℕ). bit_xor x c) (sym (xor_assoc d a b))
 
-two_sums : (a b c d e f g h : ℕ) → bit_xor (sum_of_four a b c d) (sum_of_four e f g h) ≡ sum_of_four (bit_xor a e) (bit_xor b f) (bit_xor c g) (bit_xor d h)
+two_sums : (a b c d e f g h : ℕ) → bit_xor (sum_of_four a b c d) (sum_of_four e f g h)
+    ≡ sum_of_four (bit_xor a e) (bit_xor b f) (bit_xor c g) (bit_xor d h)
 two_sums a b c d e f g h =
     xor_pairs (bit_xor (bit_xor a b) c) d (bit_xor (bit_xor e f) g) h
-    ∙ ap (λ (x : ℕ). bit_xor x (bit_xor d h)) (xor_pairs (bit_xor a b) c (bit_xor e f) g ∙ ap (λ (x : ℕ). bit_xor x (bit_xor c g)) (xor_pairs a b e f))
+    ∙ ap (λ (x : ℕ). bit_xor x (bit_xor d h)) (xor_pairs (bit_xor a b) c (bit_xor e f) g
+    ∙ ap (λ (x : ℕ). bit_xor x (bit_xor c g)) (xor_pairs a b e f))
 
 -- the sum of four rows is the sum of four columns
 by_columns : (a b c d e f g h i j k l m n o p : ℕ)
-    → sum_of_four (sum_of_four a b c d) (sum_of_four e f g h) (sum_of_four i j k l) (sum_of_four m n o p)
-    ≡ sum_of_four (sum_of_four a e i m) (sum_of_four b f j n) (sum_of_four c g k o) (sum_of_four d h l p)
+    → sum_of_four (sum_of_four a b c d) (sum_of_four e f g h) (sum_of_four i j k l)
+    (sum_of_four m n o p)
+    ≡ sum_of_four (sum_of_four a e i m) (sum_of_four b f j n) (sum_of_four c g k o)
+    (sum_of_four d h l p)
 by_columns a b c d e f g h i j k l m n o p =
-    ap (λ (x : ℕ). bit_xor (bit_xor x (sum_of_four i j k l)) (sum_of_four m n o p)) (two_sums a b c d e f g h)
-    ∙ ap (λ (x : ℕ). bit_xor x (sum_of_four m n o p)) (two_sums (bit_xor a e) (bit_xor b f) (bit_xor c g) (bit_xor d h) i j k l)
-    ∙ two_sums (bit_xor (bit_xor a e) i) (bit_xor (bit_xor b f) j) (bit_xor (bit_xor c g) k) (bit_xor (bit_xor d h) l) m n o p
+    ap (λ (x : ℕ). bit_xor (bit_xor x (sum_of_four i j k l)) (sum_of_four m n o p))
+    (two_sums a b c d e f g h)
+    ∙ ap (λ (x : ℕ). bit_xor x (sum_of_four m n o p))
+    (two_sums (bit_xor a e) (bit_xor b f) (bit_xor c g) (bit_xor d h) i j k l)
+    ∙ two_sums (bit_xor (bit_xor a e) i) (bit_xor (bit_xor b f) j) (bit_xor (bit_xor c g) k)
+    (bit_xor (bit_xor d h) l) m n o p
 
 -- ---- the column
 
@@ -100,24 +115,32 @@ pub unmixed_mixed : (a b c d : ℕ) → a < 256 → b < 256 → c < 256 → d < 
 unfolding mixed
 unmixed_mixed a b c d ha hb hc hd =
     let row_14 = of_four by_14 linear_14 (times 2 a) (times 3 b) c d in
-    let row_11 = of_four by_11 linear_11 (times 2 b) (times 3 c) d a ∙ turned_once (by_11 (times 2 b)) (by_11 (times 3 c)) (by_11 d) (by_11 a) in
+    let row_11 = of_four by_11 linear_11 (times 2 b) (times 3 c) d a
+    ∙ turned_once (by_11 (times 2 b)) (by_11 (times 3 c)) (by_11 d) (by_11 a) in
     let row_13 =
-    of_four by_13 linear_13 (times 2 c) (times 3 d) a b ∙ turned_once (by_13 (times 2 c)) (by_13 (times 3 d)) (by_13 a) (by_13 b)
+    of_four by_13 linear_13 (times 2 c) (times 3 d) a b
+    ∙ turned_once (by_13 (times 2 c)) (by_13 (times 3 d)) (by_13 a) (by_13 b)
     ∙ turned_once (by_13 b) (by_13 (times 2 c)) (by_13 (times 3 d)) (by_13 a) in
     let row_9 =
     of_four by_9 linear_9 (times 2 d) (times 3 a) b c
     ∙ sym (turned_once (by_9 (times 3 a)) (by_9 b) (by_9 c) (by_9 (times 2 d))) in
-    let first = same_at (λ a. sum_of_four (by_14 (times 2 a)) (by_11 a) (by_13 a) (by_9 (times 3 a))) (λ a. a) a first_test ha in
-    let second = same_at (λ b. sum_of_four (by_14 (times 3 b)) (by_11 (times 2 b)) (by_13 b) (by_9 b)) (λ _. 0) b second_test hb in
-    let third = same_at (λ c. sum_of_four (by_14 c) (by_11 (times 3 c)) (by_13 (times 2 c)) (by_9 c)) (λ _. 0) c third_test hc in
-    let fourth = same_at (λ d. sum_of_four (by_14 d) (by_11 d) (by_13 (times 3 d)) (by_9 (times 2 d))) (λ _. 0) d fourth_test hd in
+    let first = same_at (λ a. sum_of_four (by_14 (times 2 a)) (by_11 a) (by_13 a)
+    (by_9 (times 3 a))) (λ a. a) a first_test ha in
+    let second = same_at (λ b. sum_of_four (by_14 (times 3 b)) (by_11 (times 2 b)) (by_13 b)
+    (by_9 b)) (λ _. 0) b second_test hb in
+    let third = same_at (λ c. sum_of_four (by_14 c) (by_11 (times 3 c)) (by_13 (times 2 c))
+    (by_9 c)) (λ _. 0) c third_test hc in
+    let fourth = same_at (λ d. sum_of_four (by_14 d) (by_11 d) (by_13 (times 3 d))
+    (by_9 (times 2 d))) (λ _. 0) d fourth_test hd in
     rw (
       row_14,
       row_11,
       row_13,
       row_9,
-      by_columns (by_14 (times 2 a)) (by_14 (times 3 b)) (by_14 c) (by_14 d) (by_11 a) (by_11 (times 2 b)) (by_11 (times 3 c)) (by_11 d)
-          (by_13 a) (by_13 b) (by_13 (times 2 c)) (by_13 (times 3 d)) (by_9 (times 3 a)) (by_9 b) (by_9 c) (by_9 (times 2 d)),
+      by_columns (by_14 (times 2 a)) (by_14 (times 3 b)) (by_14 c) (by_14 d) (by_11 a)
+          (by_11 (times 2 b)) (by_11 (times 3 c)) (by_11 d)
+          (by_13 a) (by_13 b) (by_13 (times 2 c)) (by_13 (times 3 d)) (by_9 (times 3 a)) (by_9 b)
+          (by_9 c) (by_9 (times 2 d)),
       first,
       second,
       third,
@@ -137,11 +160,14 @@ unfolding times
 thrice_test = refl
 
 pub times_two_lt : (b : ℕ) → b < 256 → times 2 b < 256
-times_two_lt b h = ltb-true (times 2 b) 256 (same_at (λ b. nat_lt (times 2 b) 256) (λ _. true) b twice_test h)
+times_two_lt b h =
+    ltb-true (times 2 b) 256 (same_at (λ b. nat_lt (times 2 b) 256) (λ _. true) b twice_test h)
 
 pub mixed_lt : (a b c d : ℕ) → a < 256 → b < 256 → c < 256 → d < 256 → mixed a b c d < 256
 unfolding mixed
 mixed_lt a b c d ha hb hc hd =
-    let thrice = ltb-true (times 3 b) 256 (same_at (λ b. nat_lt (times 3 b) 256) (λ _. true) b thrice_test hb) in
+    let thrice =
+    ltb-true (times 3 b) 256 (same_at (λ b. nat_lt (times 3 b) 256) (λ _. true) b thrice_test hb) in
     xor_lt 8 (bit_xor (bit_xor (times 2 a) (times 3 b)) c) d
-    (xor_lt 8 (bit_xor (times 2 a) (times 3 b)) c (xor_lt 8 (times 2 a) (times 3 b) (times_two_lt a ha) thrice) hc) hd
+    (xor_lt 8 (bit_xor (times 2 a) (times 3 b)) c
+    (xor_lt 8 (times 2 a) (times 3 b) (times_two_lt a ha) thrice) hc) hd

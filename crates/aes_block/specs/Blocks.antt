@@ -13,4 +13,5 @@ EncryptionsAreBlocks = (key block : List ℕ) → IsBlock key → IsBlock (aes12
 
 -- no two blocks have one encryption under a key
 abbrev pub EncryptionsDiffer : Type 0
-EncryptionsDiffer = (key one other : List ℕ) → IsBlock key → IsBlock one → IsBlock other → aes128 key one ≡ aes128 key other → one ≡ other
+EncryptionsDiffer = (key one other : List ℕ) → IsBlock key → IsBlock one → IsBlock other
+    → aes128 key one ≡ aes128 key other → one ≡ other

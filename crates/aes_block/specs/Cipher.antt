@@ -31,16 +31,19 @@ mixed a b c d = bit_xor (bit_xor (bit_xor (times 2 a) (times 3 b)) c) d
 
 -- a column times this matrix
 abbrev pub mixed_column : List ℕ → List ℕ
-mixed_column column = word_of (λ row. mixed (slice_index column row) (slice_index column ((row + 1) % 4))
+mixed_column column =
+    word_of (λ row. mixed (slice_index column row) (slice_index column ((row + 1) % 4))
     (slice_index column ((row + 2) % 4)) (slice_index column ((row + 3) % 4)))
 
 -- MIXCOLUMNS: each column times the matrix (5.1.3)
 unfoldable pub mix_columns : List ℕ → List ℕ
-mix_columns state = state_of (λ row column. slice_index (mixed_column (word_of (λ i. entry state i column))) row)
+mix_columns state =
+    state_of (λ row column. slice_index (mixed_column (word_of (λ i. entry state i column))) row)
 
 -- ADDROUNDKEY (5.1.4)
 unfoldable pub add_round_key : List ℕ → List ℕ → List ℕ
-add_round_key state key = state_of (λ row column. bit_xor (entry state row column) (entry key row column))
+add_round_key state key =
+    state_of (λ row column. bit_xor (entry state row column) (entry key row column))
 
 -- one of the nine rounds that mix the columns, with its round key (5.1)
 abbrev pub full_round_of : List ℕ → List ℕ → List ℕ

@@ -1,5 +1,6 @@
 -- The S-box as a circuit of sums and products of single bits (J. Boyar and R. Peralta, A new
--- combinational logic minimization technique with applications to cryptology, 2010), in five steps. Its wires have the names that they have there.
+-- combinational logic minimization technique with applications to cryptology, 2010), in five steps.
+-- Its wires have the names that they have there.
 use Rattle.std.specs.Prelude.{ℕ, ◌+◌, ◌%◌, min, List, [], ◌∷◌, slice_index}
 
 -- the sum and the product of two bits
@@ -112,7 +113,8 @@ output_sums products =
     let t66 : ℕ = add (products 1) t63 in
     let t67 : ℕ = add t64 t65 in
     let s3 : ℕ = add t53 t66 in
-    add (add t48 t60) 1 ∷ add (add t56 t62) 1 ∷ add t47 t65 ∷ add t51 t66 ∷ s3 ∷ add (add t55 t67) 1 ∷
+    add (add t48 t60) 1 ∷ add (add t56 t62) 1 ∷ add t47 t65 ∷ add t51 t66 ∷ s3
+    ∷ add (add t55 t67) 1 ∷
     add (add t64 s3) 1 ∷ add t59 t63 ∷ []
 
 -- the whole circuit

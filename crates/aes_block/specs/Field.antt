@@ -1,6 +1,7 @@
--- The field of 256 elements (FIPS 197, section 4). An octet is the polynomial whose coefficients are
--- its bits, taken modulo x^8 + x^4 + x^3 + x + 1. The sum of two elements is `bit_xor`.
-use Rattle.std.specs.Prelude.{◌≡◌, ◌<◌, ℕ, zero, suc, ◌+◌, ◌*◌, ◌/◌, ◌%◌, ◌^◌, ◌==◌, nat_lt, if◌then◌else◌, List, find, unwrap_or, sum_by, bit_xor}
+-- The field of 256 elements (FIPS 197, section 4). An octet is the polynomial whose coefficients
+-- are its bits, taken modulo x^8 + x^4 + x^3 + x + 1. The sum of two elements is `bit_xor`.
+use Rattle.std.specs.Prelude.{◌≡◌, ◌<◌, ℕ, zero, suc, ◌+◌, ◌*◌, ◌/◌, ◌%◌, ◌^◌, ◌==◌, nat_lt}
+use Rattle.std.specs.Prelude.{if◌then◌else◌, List, find, unwrap_or, sum_by, bit_xor}
 use Rattle.std.specs.Int.{bit_at}
 use Rattle.std.specs.List.{range_with_len}
 
@@ -38,7 +39,8 @@ InversesAreUnique = (b : ℕ) → 0 < b → b < 256 → IsTheInverse b (inverse 
 -- bit i of the affine map's answer (5.1.1)
 abbrev pub affine_bit : ℕ → ℕ → ℕ
 affine_bit b i =
-    (bit_at b i + bit_at b ((i + 4) % 8) + bit_at b ((i + 5) % 8) + bit_at b ((i + 6) % 8) + bit_at b ((i + 7) % 8) + bit_at 0x63 i) % 2
+    (bit_at b i + bit_at b ((i + 4) % 8) + bit_at b ((i + 5) % 8) + bit_at b ((i + 6) % 8)
+    + bit_at b ((i + 7) % 8) + bit_at 0x63 i) % 2
 
 -- the octet with these bits
 unfoldable pub affine : ℕ → ℕ

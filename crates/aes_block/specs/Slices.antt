@@ -1,5 +1,6 @@
 -- Two states by slices of bits: eight words of 32 bits, of which word k has bit k of every octet.
-use Rattle.std.specs.Prelude.{ℕ, ◌+◌, ◌-◌, ◌*◌, ◌/◌, ◌%◌, ◌^◌, ◌==◌, nat_lt, if◌then◌else◌, List, map, slice_index}
+use Rattle.std.specs.Prelude.{ℕ, ◌+◌, ◌-◌, ◌*◌, ◌/◌, ◌%◌, ◌^◌, ◌==◌, nat_lt, if◌then◌else◌, List}
+use Rattle.std.specs.Prelude.{map, slice_index}
 use Rattle.std.specs.Int.{bit_at, to_le_bytes, w32}
 use Rattle.std.specs.List.{sum_by, range_with_len}
 use Rattle.aes_block.specs.Cipher.{state_of}
@@ -47,7 +48,8 @@ unfoldable pub exchanged : ℕ → List ℕ → ℕ → List ℕ
 exchanged d words place =
     map (λ k. bits_at words (place_before d k place) (word_before d k place)) (range_with_len 0 8)
 
--- the same of two words x and y, where `low` has the places of y: the bits of the one and the other at a place
+-- the same of two words x and y, where `low` has the places of y: the bits of the one and the other
+-- at a place
 abbrev pub bit_from_y : ℕ → ℕ → ℕ → ℕ → ℕ → ℕ
 bit_from_y x y low d place =
     if nat_lt place d then bit_at x place

@@ -1,10 +1,15 @@
--- The S-box by halves of octets, as the code looks it up. In a turned basis of the field an octet is a
--- pair of elements of the field of 16 elements, and its inverse comes from inverses of such elements.
-use Rattle.std.specs.Prelude.{ℕ, ◌≡◌, ◌<◌, ◌+◌, ◌-◌, ◌/◌, ◌%◌, ◌*◌, nat_le, nat_lt, ◌||◌, IsTrue, if◌then◌else◌, List, [], ◌∷◌, slice_index, slice_index_or, bit_and, bit_xor}
+-- The S-box by halves of octets, as the code looks it up. In a turned basis of the field an octet
+-- is a pair of elements of the field of 16 elements, and its inverse comes from inverses of such
+-- elements.
+use Rattle.std.specs.Prelude.{ℕ, ◌≡◌, ◌<◌, ◌+◌, ◌-◌, ◌/◌, ◌%◌, ◌*◌, nat_le, nat_lt, ◌||◌, IsTrue}
+use Rattle.std.specs.Prelude.{if◌then◌else◌, List, [], ◌∷◌, slice_index, slice_index_or, bit_and}
+use Rattle.std.specs.Prelude.{bit_xor}
 use Rattle.aes_block.specs.KeySchedule.{round_key}
 use Rattle.aes_block.specs.Cipher.{entry, state_of}
 use Rattle.aes_block.specs.declared.key_schedule.TurnedKey.{TurnedKey}
-use Rattle.aes_block.specs.declared.lanes.TheConstants.{TURN_LOWER, TURN_UPPER, INVERSES, QUOTIENTS, ONCE_FIRST, ONCE_SECOND, TWICE_FIRST, TWICE_SECOND, PLAIN_FIRST, PLAIN_SECOND}
+use Rattle.aes_block.specs.declared.lanes.TheConstants.{TURN_LOWER, TURN_UPPER, INVERSES, QUOTIENTS}
+use Rattle.aes_block.specs.declared.lanes.TheConstants.{ONCE_FIRST, ONCE_SECOND, TWICE_FIRST}
+use Rattle.aes_block.specs.declared.lanes.TheConstants.{TWICE_SECOND, PLAIN_FIRST, PLAIN_SECOND}
 
 -- each octet of a state through f
 abbrev pub all : (ℕ → ℕ) → List ℕ → List ℕ
@@ -46,8 +51,8 @@ by_bits (image ∷ images) b = bit_xor (b % 2 * image) (by_bits images (b / 2))
 unfoldable pub plain : ℕ → ℕ
 plain b = by_bits (0x60 ∷ 0xb6 ∷ 0x29 ∷ 0x08 ∷ 0xec ∷ 0xbc ∷ 0x51 ∷ 0xe0 ∷ []) b
 
--- the two halves of the inverse of an octet in the turned basis, each as a place in a table: from the
--- inverses of its upper half and of the sum of its halves, and the lower half's quotient
+-- the two halves of the inverse of an octet in the turned basis, each as a place in a table: from
+-- the inverses of its upper half and of the sum of its halves, and the lower half's quotient
 unfoldable pub first_sum : ℕ → ℕ
 first_sum b = bit_xor (look INVERSES (upper b)) (look QUOTIENTS (lower b))
 
@@ -80,7 +85,8 @@ twice b = looked TWICE_FIRST TWICE_SECOND b
 unfoldable pub plain_box : ℕ → ℕ
 plain_box b = looked PLAIN_FIRST PLAIN_SECOND b
 
--- an octet of a round key, which is kept in the turned basis with the constant of the affine map added
+-- an octet of a round key, which is kept in the turned basis with the constant of the affine map
+-- added
 abbrev pub of_turned : ℕ → ℕ
 of_turned b = bit_xor (plain b) 0x63
 
@@ -96,21 +102,26 @@ mixed_lanes once twice = state_of (λ row column. bit_xor
 
 -- the state that is n columns before, with zeros in the first n columns
 abbrev pub columns_on : ℕ → List ℕ → List ℕ
-columns_on n state = state_of (λ row column. if nat_lt column n then 0 else entry state row (column - n))
+columns_on n state =
+    state_of (λ row column. if nat_lt column n then 0 else entry state row (column - n))
 
 -- each column added to those before it, in two steps
 abbrev pub sums_of_two : List ℕ → List ℕ
-sums_of_two state = state_of (λ row column. bit_xor (entry state row column) (entry (columns_on 1 state) row column))
+sums_of_two state = state_of
+    (λ row column. bit_xor (entry state row column) (entry (columns_on 1 state) row column))
 
 abbrev pub sums_of_four : List ℕ → List ℕ
-sums_of_four state = state_of (λ row column. bit_xor (entry (sums_of_two state) row column) (entry (columns_on 2 (sums_of_two state)) row column))
+sums_of_four state = state_of (λ row column. bit_xor (entry (sums_of_two state) row column)
+    (entry (columns_on 2 (sums_of_two state)) row column))
 
 -- the state with this column four times
 abbrev pub each_column : (ℕ → ℕ) → List ℕ
 each_column octet = state_of (λ row column. octet row)
 
--- these are the key's round keys, as they are kept: the first as it is, then those of the nine full rounds and the last
+-- these are the key's round keys, as they are kept: the first as it is, then those of the nine full
+-- rounds and the last
 pub record AreTurned (key : List ℕ) (full : List TurnedKey) (last : List ℕ) : Type 0 where
   pub first_is : round_key key 0 ≡ key
-  pub full_are : (r : ℕ) → r < 9 → (d : TurnedKey) → all of_turned (slice_index_or full r d).lanes ≡ round_key key (r + 1)
+  pub full_are : (r : ℕ) → r < 9 → (d : TurnedKey) → all of_turned (slice_index_or full r d).lanes
+      ≡ round_key key (r + 1)
   pub last_is : all of_last last ≡ round_key key 10

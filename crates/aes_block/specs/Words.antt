@@ -21,8 +21,8 @@ state_of_words words = state_of (λ row column. octet (slice_index words column)
 abbrev pub diagonal : ℕ → ℕ → ℕ → ℕ → List ℕ
 diagonal a b c d = octet a 0 ∷ octet b 1 ∷ octet c 2 ∷ octet d 3 ∷ []
 
--- what an octet adds to its column when that is mixed: its products, beginning with the one at the place r,
--- round about
+-- what an octet adds to its column when that is mixed: its products, beginning with the one at the
+-- place r, round about
 abbrev pub added : ℕ → ℕ → List ℕ
 added r octet =
     let products : List ℕ = times 2 octet ∷ octet ∷ octet ∷ times 3 octet ∷ [] in
@@ -30,4 +30,5 @@ added r octet =
 
 -- the first n of these are the keys of the rounds from 0 on, as words
 abbrev pub AreWordKeys : List ℕ → List (List ℕ) → ℕ → Type 0
-AreWordKeys key keys n = (r : ℕ) → r < n → state_of_words (slice_index_or keys r []) ≡ round_key key r
+AreWordKeys key keys n =
+    (r : ℕ) → r < n → state_of_words (slice_index_or keys r []) ≡ round_key key r

@@ -1,10 +1,12 @@
 // The key expansion on sixteen lanes (FIPS 197, section 5.2).
 
-ghost use Rattle.std.specs.Prelude.{◌≡◌, ℕ, ◌+◌, ◌*◌, ◌%◌, ◌<◌, ◌==◌, if◌then◌else◌, List, slice_index};
+ghost use Rattle.std.specs.Prelude.{◌≡◌, ℕ, ◌+◌, ◌*◌, ◌%◌, ◌<◌, ◌==◌, if◌then◌else◌, List};
+ghost use Rattle.std.specs.Prelude.{slice_index};
 ghost use Rattle.aes_block.specs.Field.{sub_byte};
 ghost use Rattle.aes_block.specs.KeySchedule.{word_of, change_at, round_key};
 ghost use Rattle.aes_block.specs.Cipher.{entry};
-ghost use Rattle.aes_block.specs.Turned.{all, of_turned, of_last, columns_on, sums_of_four, each_column, AreTurned};
+ghost use Rattle.aes_block.specs.Turned.{all, of_turned, of_last, columns_on, sums_of_four};
+ghost use Rattle.aes_block.specs.Turned.{each_column, AreTurned};
 
 use crate::lanes::{invert, turn};
 use std::simd::prelude::*;
@@ -48,7 +50,8 @@ fn in_first_row(constant: u8) -> u8x16
 #[inline(always)]
 fn change(round: usize, key: u8x16) -> u8x16
     requires { round < 10 }
-    ensures { result ≡ each_column (slice_index (change_at (4 * round + 4) (word_of (λ i. entry key i 3)))) }
+    ensures { result
+        ≡ each_column (slice_index (change_at (4 * round + 4) (word_of (λ i. entry key i 3)))) }
 {
     substitute(rotated_word(key)) ^ in_first_row(ROUND_CONSTANTS[round])
 }
@@ -88,7 +91,8 @@ fn add_columns(state: u8x16) -> u8x16
 #[inline(always)]
 pub(crate) fn next_round_key(round: usize, key: u8x16) -> u8x16
     requires { round < 10 }
-    ensures { (initial : List ℕ) → key ≡ round_key initial round → result ≡ round_key initial (round + 1) }
+    ensures { (initial : List ℕ) → key ≡ round_key initial round
+        → result ≡ round_key initial (round + 1) }
 {
     add_columns(key) ^ change(round, key)
 }

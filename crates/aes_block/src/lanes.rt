@@ -119,7 +119,8 @@ impl Halves {
     // The sums of what two tables have at the halves.
     #[inline(always)]
     fn look_both(self, first: [u8; 16], second: [u8; 16]) -> u8x16
-        ensures { (octets : List ℕ) → AreHalves octets self.first self.second → result ≡ all (spec.looked first second) octets }
+        ensures { (octets : List ℕ) → AreHalves octets self.first self.second
+            → result ≡ all (spec.looked first second) octets }
     {
         look(first, self.first) ^ look(second, self.second)
     }
@@ -127,7 +128,8 @@ impl Halves {
     // The S-box without its constant, in the turned basis.
     #[inline(always)]
     pub(crate) fn once(self) -> u8x16
-        ensures { (octets : List ℕ) → AreHalves octets self.first self.second → result ≡ all spec.once octets }
+        ensures { (octets : List ℕ) → AreHalves octets self.first self.second
+            → result ≡ all spec.once octets }
     {
         self.look_both(ONCE_FIRST, ONCE_SECOND)
     }
@@ -135,7 +137,8 @@ impl Halves {
     // The same times x.
     #[inline(always)]
     pub(crate) fn twice(self) -> u8x16
-        ensures { (octets : List ℕ) → AreHalves octets self.first self.second → result ≡ all spec.twice octets }
+        ensures { (octets : List ℕ) → AreHalves octets self.first self.second
+            → result ≡ all spec.twice octets }
     {
         self.look_both(TWICE_FIRST, TWICE_SECOND)
     }
@@ -143,7 +146,8 @@ impl Halves {
     // The S-box without its constant, in the standard's basis.
     #[inline(always)]
     pub(crate) fn plain(self) -> u8x16
-        ensures { (octets : List ℕ) → AreHalves octets self.first self.second → result ≡ all spec.plain_box octets }
+        ensures { (octets : List ℕ) → AreHalves octets self.first self.second
+            → result ≡ all spec.plain_box octets }
     {
         self.look_both(PLAIN_FIRST, PLAIN_SECOND)
     }

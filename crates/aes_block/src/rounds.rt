@@ -3,7 +3,8 @@
 
 ghost use Rattle.std.specs.Prelude.{◌≡◌};
 ghost use Rattle.aes_block.specs.Cipher as cipher;
-ghost use Rattle.aes_block.specs.Cipher.{state_of, add_round_key, full_round_of, last_round_of, aes128};
+ghost use Rattle.aes_block.specs.Cipher.{state_of, add_round_key, full_round_of, last_round_of};
+ghost use Rattle.aes_block.specs.Cipher.{aes128};
 ghost use Rattle.aes_block.specs.Turned.{all, plain, of_turned, of_last, mixed_lanes, AreTurned};
 ghost use Rattle.aes_block.specs.Turned as turned;
 

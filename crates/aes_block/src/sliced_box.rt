@@ -19,7 +19,8 @@ pub(crate) fn substitute(words: [u32; 8]) -> [u32; 8]
 // y0 to y21, of which y0 is bit 0 itself.
 #[inline(always)]
 fn linear_sums(words: [u32; 8]) -> [u32; 22]
-    ensures { (place : ℕ) → place < 32 → at_place result place ≡ circuit.linear_sums (bits_at words place) }
+    ensures { (place : ℕ) → place < 32
+        → at_place result place ≡ circuit.linear_sums (bits_at words place) }
 {
     let y14 = words[4] ^ words[2];
     let y13 = words[7] ^ words[1];
@@ -53,7 +54,8 @@ fn linear_sums(words: [u32; 8]) -> [u32; 22]
 // t21 to t24, an element of the field of 16 elements.
 #[inline(always)]
 fn inner_values(sums: [u32; 22]) -> [u32; 4]
-    ensures { (place : ℕ) → place < 32 → at_place result place ≡ circuit.inner_values (bits_at sums place) }
+    ensures { (place : ℕ) → place < 32
+        → at_place result place ≡ circuit.inner_values (bits_at sums place) }
 {
     let t2 = sums[12] & sums[15];
     let t4 = (sums[3] & sums[6]) ^ t2;
@@ -75,7 +77,8 @@ fn inner_values(sums: [u32; 22]) -> [u32; 4]
 // Its inverse t29, t33, t37 and t40, and the sums t41 to t45.
 #[inline(always)]
 fn inner_inverse(values: [u32; 4]) -> [u32; 9]
-    ensures { (place : ℕ) → place < 32 → at_place result place ≡ circuit.inner_inverse (bits_at values place) }
+    ensures { (place : ℕ) → place < 32
+        → at_place result place ≡ circuit.inner_inverse (bits_at values place) }
 {
     let t25 = values[0] ^ values[1];
     let t26 = values[0] & values[2];
@@ -101,7 +104,8 @@ fn inner_inverse(values: [u32; 4]) -> [u32; 9]
 // z0 to z17.
 #[inline(always)]
 fn products_of(sums: [u32; 22], factors: [u32; 9]) -> [u32; 18]
-    ensures { (place : ℕ) → place < 32 → at_place result place ≡ circuit.products_of (bits_at sums place) (bits_at factors place) }
+    ensures { (place : ℕ) → place < 32
+        → at_place result place ≡ circuit.products_of (bits_at sums place) (bits_at factors place) }
 {
     [
         factors[7] & sums[15],
@@ -128,7 +132,8 @@ fn products_of(sums: [u32; 22], factors: [u32; 9]) -> [u32; 18]
 // The bits of the answer.
 #[inline(always)]
 fn output_sums(products: [u32; 18]) -> [u32; 8]
-    ensures { (place : ℕ) → place < 32 → at_place result place ≡ circuit.output_sums (bits_at products place) }
+    ensures { (place : ℕ) → place < 32
+        → at_place result place ≡ circuit.output_sums (bits_at products place) }
 {
     let t46 = products[15] ^ products[16];
     let t47 = products[10] ^ products[11];

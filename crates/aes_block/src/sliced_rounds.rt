@@ -16,7 +16,8 @@ use std::simd::prelude::*;
 // SUBBYTES.
 #[inline(always)]
 fn sub_bytes(words: [u32; 8]) -> [u32; 8]
-    ensures { (lane : ℕ) → lane < 2 → state_in lane result ≡ cipher.sub_bytes (state_in lane words) }
+    ensures { (lane : ℕ) → lane < 2
+        → state_in lane result ≡ cipher.sub_bytes (state_in lane words) }
 {
     substitute(words)
 }
@@ -24,7 +25,8 @@ fn sub_bytes(words: [u32; 8]) -> [u32; 8]
 // Each row of a slice is an octet, two bits a column: that of row r rotated by r columns.
 #[inline(never)]
 fn shift_slice(word: u32) -> u32
-    ensures { (row k : ℕ) → row < 4 → k < 8 → bit_at result (8 * row + k) ≡ bit_at word (8 * row + (k + 2 * row) % 8) }
+    ensures { (row k : ℕ) → row < 4 → k < 8
+        → bit_at result (8 * row + k) ≡ bit_at word (8 * row + (k + 2 * row) % 8) }
 {
     let [first, second, third, fourth] = word.to_le_bytes();
     from_octets([
@@ -38,7 +40,8 @@ fn shift_slice(word: u32) -> u32
 // SHIFTROWS.
 #[inline(never)]
 fn shift_rows(words: [u32; 8]) -> [u32; 8]
-    ensures { (lane : ℕ) → lane < 2 → state_in lane result ≡ cipher.shift_rows (state_in lane words) }
+    ensures { (lane : ℕ) → lane < 2
+        → state_in lane result ≡ cipher.shift_rows (state_in lane words) }
 {
     [
         shift_slice(words[0]),
@@ -57,7 +60,8 @@ fn shift_rows(words: [u32; 8]) -> [u32; 8]
 fn slice_below(word: u32, rows: u32) -> u32
     requires some { 0 < rows }
     requires few { rows < 4 }
-    ensures { (row k : ℕ) → row < 4 → k < 8 → bit_at result (8 * row + k) ≡ bit_at word (8 * ((row + rows) % 4) + k) }
+    ensures { (row k : ℕ) → row < 4 → k < 8
+        → bit_at result (8 * row + k) ≡ bit_at word (8 * ((row + rows) % 4) + k) }
 {
     word.rotate_right(8 * rows)
 }
@@ -67,7 +71,8 @@ fn slice_below(word: u32, rows: u32) -> u32
 fn below(words: [u32; 8], rows: u32) -> [u32; 8]
     requires some { 0 < rows }
     requires few { rows < 4 }
-    ensures { (row j : ℕ) → row < 4 → j < 8 → octet_at result (8 * row + j) ≡ octet_at words (8 * ((row + rows) % 4) + j) }
+    ensures { (row j : ℕ) → row < 4 → j < 8
+        → octet_at result (8 * row + j) ≡ octet_at words (8 * ((row + rows) % 4) + j) }
 {
     [
         slice_below(words[0], rows),
@@ -102,7 +107,8 @@ fn times_x(words: [u32; 8]) -> [u32; 8]
 // MIXCOLUMNS: twice an octet and the one below it, that one, and the next two.
 #[inline(always)]
 fn mix_columns(words: [u32; 8]) -> [u32; 8]
-    ensures { (lane : ℕ) → lane < 2 → state_in lane result ≡ cipher.mix_columns (state_in lane words) }
+    ensures { (lane : ℕ) → lane < 2
+        → state_in lane result ≡ cipher.mix_columns (state_in lane words) }
 {
     let next = below(words, 1);
     let sums = add(words, next);
@@ -112,7 +118,8 @@ fn mix_columns(words: [u32; 8]) -> [u32; 8]
 // ADDROUNDKEY, of one key to both states.
 #[inline(never)]
 fn add_round_key(words: [u32; 8], key: u8x16) -> [u32; 8]
-    ensures { (lane : ℕ) → lane < 2 → state_in lane result ≡ cipher.add_round_key (state_in lane words) key }
+    ensures { (lane : ℕ) → lane < 2
+        → state_in lane result ≡ cipher.add_round_key (state_in lane words) key }
 {
     add(words, load(key, key))
 }
@@ -120,7 +127,8 @@ fn add_round_key(words: [u32; 8], key: u8x16) -> [u32; 8]
 // One of the nine rounds that mix the columns.
 #[inline(always)]
 fn full_round(words: [u32; 8], key: u8x16) -> [u32; 8]
-    ensures { (lane : ℕ) → lane < 2 → state_in lane result ≡ full_round_of (state_in lane words) key }
+    ensures { (lane : ℕ) → lane < 2
+        → state_in lane result ≡ full_round_of (state_in lane words) key }
 {
     add_round_key(mix_columns(shift_rows(sub_bytes(words))), key)
 }
@@ -128,7 +136,8 @@ fn full_round(words: [u32; 8], key: u8x16) -> [u32; 8]
 // The tenth round, which doesn't.
 #[inline(always)]
 fn last_round(words: [u32; 8], key: u8x16) -> [u32; 8]
-    ensures { (lane : ℕ) → lane < 2 → state_in lane result ≡ last_round_of (state_in lane words) key }
+    ensures { (lane : ℕ) → lane < 2
+        → state_in lane result ≡ last_round_of (state_in lane words) key }
 {
     add_round_key(shift_rows(sub_bytes(words)), key)
 }

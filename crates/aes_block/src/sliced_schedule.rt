@@ -33,7 +33,8 @@ fn change(round: usize, last: u32) -> u32
 #[inline(never)]
 fn next_columns(round: usize, key: [u32; 4]) -> [u32; 4]
     requires { round < 10 }
-    ensures { (initial : List ℕ) → state_of_columns key ≡ round_key initial round → state_of_columns result ≡ round_key initial (round + 1) }
+    ensures { (initial : List ℕ) → state_of_columns key ≡ round_key initial round
+        → state_of_columns result ≡ round_key initial (round + 1) }
 {
     let first = key[0] ^ change(round, key[3]);
     let second = key[1] ^ first;

@@ -1,9 +1,11 @@
 // Two states by slices of bits: eight words, of which word k has bit k of every octet. For processors that
 // don't shuffle octets in a register.
 
-ghost use Rattle.std.specs.Prelude.{◌≡◌, ℕ, ◌+◌, ◌-◌, ◌*◌, ◌<◌, ◌==◌, if◌then◌else◌, List, slice_index, nat_lt, bit_xor};
+ghost use Rattle.std.specs.Prelude.{◌≡◌, ℕ, ◌+◌, ◌-◌, ◌*◌, ◌<◌, ◌==◌, if◌then◌else◌, List};
+ghost use Rattle.std.specs.Prelude.{slice_index, nat_lt, bit_xor};
 ghost use Rattle.std.specs.Int.{bit_at, to_le_bytes, w32};
-ghost use Rattle.aes_block.specs.Slices.{at_place, exchanged, octet_at, octet_in, state_in, state_of_columns};
+ghost use Rattle.aes_block.specs.Slices.{at_place, exchanged, octet_at, octet_in, state_in};
+ghost use Rattle.aes_block.specs.Slices.{state_of_columns};
 ghost use Rattle.aes_block.specs.Slices as slices;
 
 use std::simd::prelude::*;
@@ -12,8 +14,10 @@ use std::simd::prelude::*;
 #[inline(always)]
 fn exchange(x: u32, y: u32, low: u32, by: u32) -> [u32; 2]
     requires { by < 32 }
-    ensures first { (place : ℕ) → place < 32 → bit_at (slice_index result 0) place ≡ slices.bit_from_y x y low by place }
-    ensures second { (place : ℕ) → place < 32 → bit_at (slice_index result 1) place ≡ slices.bit_from_x x y low by place }
+    ensures first { (place : ℕ) → place < 32 → bit_at (slice_index result 0) place
+        ≡ slices.bit_from_y x y low by place }
+    ensures second { (place : ℕ) → place < 32 → bit_at (slice_index result 1) place
+        ≡ slices.bit_from_x x y low by place }
 {
     let differing = (x >> by ^ y) & low;
     [x ^ differing << by, y ^ differing]
@@ -56,8 +60,10 @@ fn exchange_fours(words: [u32; 8]) -> [u32; 8]
 // and the other way round.
 #[inline(never)]
 pub(crate) fn transpose(words: [u32; 8]) -> [u32; 8]
-    ensures loaded { (row j : ℕ) → row < 4 → j < 8 → octet_at result (8 * row + j) ≡ octet_in (slice_index words j) row }
-    ensures stored { (row j : ℕ) → row < 4 → j < 8 → octet_in (slice_index result j) row ≡ octet_at words (8 * row + j) }
+    ensures loaded { (row j : ℕ) → row < 4 → j < 8
+        → octet_at result (8 * row + j) ≡ octet_in (slice_index words j) row }
+    ensures stored { (row j : ℕ) → row < 4 → j < 8 → octet_in (slice_index result j) row
+        ≡ octet_at words (8 * row + j) }
 {
     exchange_fours(exchange_twos(exchange_ones(words)))
 }
@@ -119,7 +125,8 @@ pub(crate) fn first_state(words: [u32; 8]) -> u8x16
 // The sums of the octets at each place.
 #[inline(always)]
 pub(crate) fn add(words: [u32; 8], others: [u32; 8]) -> [u32; 8]
-    ensures { (place : ℕ) → octet_at result place ≡ bit_xor (octet_at words place) (octet_at others place) }
+    ensures { (place : ℕ)
+        → octet_at result place ≡ bit_xor (octet_at words place) (octet_at others place) }
 {
     [
         words[0] ^ others[0],

@@ -243,7 +243,8 @@ fn by_fourth_row(octet: usize) -> u32
 // One column after a full round, from the four columns beginning with the one in its place.
 #[inline(always)]
 pub(crate) fn full_column(a: u32, b: u32, c: u32, d: u32, key: u32) -> u32
-    ensures { octets_of result ≡ xor_words (mixed_column (sub_word (diagonal a b c d))) (octets_of key) }
+    ensures { octets_of result
+        ≡ xor_words (mixed_column (sub_word (diagonal a b c d))) (octets_of key) }
 {
     by_first_row(octet(a, 0))
         ^ by_second_row(octet(b, 1))

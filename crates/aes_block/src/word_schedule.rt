@@ -23,7 +23,8 @@ fn change(round: usize, last: u32) -> u32
 // The round key after `key`, which is that of `round`.
 pub(crate) fn next_word_key(round: usize, key: [u32; 4]) -> [u32; 4]
     requires { round < 10 }
-    ensures { (initial : List ℕ) → state_of_words key ≡ round_key initial round → state_of_words result ≡ round_key initial (round + 1) }
+    ensures { (initial : List ℕ) → state_of_words key ≡ round_key initial round
+        → state_of_words result ≡ round_key initial (round + 1) }
 {
     let first = key[0] ^ change(round, key[3]);
     let second = key[1] ^ first;

@@ -19,14 +19,17 @@ psk_within (Ok other) = refl
 
 long_plain : (long : PskLong) → plain starts_result true (long_text long) ≡ true
 long_plain long =
-    join starts_result (hex_line (codes "ak") long.ak) (hex_line (codes "kdk") long.kdk) true (hex_line_plain (codes "ak") long.ak refl) (hex_line_plain (codes "kdk") long.kdk refl)
+    join starts_result (hex_line (codes "ak") long.ak) (hex_line (codes "kdk") long.kdk) true
+    (hex_line_plain (codes "ak") long.ak refl) (hex_line_plain (codes "kdk") long.kdk refl)
 
 session_plain : (keys : PskKeys) → plain starts_result true (session_text keys) ≡ true
 session_plain keys =
-    join starts_result (hex_line (codes "tek") keys.tek) (exported_text keys.msk keys.emsk) true (hex_line_plain (codes "tek") keys.tek refl) (exported_plain keys.msk keys.emsk)
+    join starts_result (hex_line (codes "tek") keys.tek) (exported_text keys.msk keys.emsk) true
+    (hex_line_plain (codes "tek") keys.tek refl) (exported_plain keys.msk keys.emsk)
 
 pub psk_plain : (psk rand_p : List ℕ) → plain starts_result true (psk_text psk rand_p) ≡ true
 psk_plain psk rand_p =
     let long = psk_long_of psk in
     let keys = psk_keys_of long.kdk rand_p in
-    join starts_result (long_text long) (session_text keys) true (long_plain long) (session_plain keys)
+    join starts_result (long_text long) (session_text keys) true (long_plain long)
+    (session_plain keys)

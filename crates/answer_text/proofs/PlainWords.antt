@@ -16,7 +16,8 @@ pub state_within : (s : State) → is_within (state_word s) ≡ true
 state_within state.Initialize = refl
 state_within other = refl
 
-pub either_within : (t : Bool) (xs ys : List ℕ) → is_within xs ≡ true → is_within ys ≡ true → is_within (cond t xs ys) ≡ true
+pub either_within : (t : Bool) (xs ys : List ℕ) → is_within xs ≡ true → is_within ys ≡ true
+    → is_within (cond t xs ys) ≡ true
 either_within true xs ys p q = p
 either_within false xs ys p q = q
 

@@ -24,7 +24,8 @@ sealed = refl
 
 -- a line that stands after another
 second_line : HasLine (codes "tags honest") (codes "discards 0\ntags honest\nresult agree\n")
-second_line = later (codes "discards 0") (codes "tags honest\nresult agree\n") (first (codes "result agree\n"))
+second_line = later (codes "discards 0") (codes "tags honest\nresult agree\n")
+    (first (codes "result agree\n"))
 
 -- neither the end of a line nor its front is that line
 no_end : HasLine (codes "honest") (codes "tags honest\n") → ⊥

@@ -29,6 +29,7 @@ key_text (asked.Aes key block) = hex_line (codes "aes") (aes128 key block)
 key_text (asked.Cmac key text) = hex_line (codes "cmac") (aes_cmac key text)
 key_text (asked.Hmac key text) = hex_line (codes "hmac") (hmac_sha256 key text)
 key_text (asked.Eax key nonce header text) = sealed_text (eax_sealed key nonce header text)
-key_text (asked.Gpsk suite psk rand_p id_p rand_s id_s) = gpsk_text (gpsk_keys_of suite psk rand_p id_p rand_s id_s)
+key_text (asked.Gpsk suite psk rand_p id_p rand_s id_s) =
+    gpsk_text (gpsk_keys_of suite psk rand_p id_p rand_s id_s)
 key_text (asked.Psk psk rand_p) = psk_text psk rand_p
 key_text (asked.Name key) = hex_line (codes "name") (key_name_of key)

@@ -21,4 +21,5 @@ gpsk_note (Ok (protected_fail code mac)) = concat (codes "gpsk-protected-fail " 
 -- the keys of a login
 abbrev pub gpsk_text : GpskKeys → List ℕ
 gpsk_text keys = hex_line (codes "mk") keys.mk
-    ++ (exported_text keys.msk keys.emsk ++ (hex_line (codes "sk") keys.sk ++ hex_line (codes "pk") keys.pk))
+    ++ (exported_text keys.msk keys.emsk ++ (hex_line (codes "sk") keys.sk ++ hex_line (codes
+    "pk") keys.pk))

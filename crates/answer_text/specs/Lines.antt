@@ -18,4 +18,5 @@ pub data HasLine (line : List ℕ) : List ℕ → Type 0 where
 
 -- the last line of a refused input: the number of the line, and why
 abbrev pub refused_text : ℕ → List ℕ → List ℕ
-refused_text number word = concat (codes "refused line " ∷ decimal number ∷ codes " " ∷ word ∷ codes "\n" ∷ [])
+refused_text number word =
+    concat (codes "refused line " ∷ decimal number ∷ codes " " ∷ word ∷ codes "\n" ∷ [])

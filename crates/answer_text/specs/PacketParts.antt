@@ -12,7 +12,8 @@ number_text b = concat (codes " " ∷ decimal b ∷ [])
 -- a line up to what the Type-Data says
 unfoldable pub head_text : ℕ → List ℕ → ℕ → ℕ → ℕ → ℕ → List ℕ
 head_text number code id kind whole octets = concat (
-    decimal number ∷ codes " " ∷ code ∷ codes " " ∷ decimal id ∷ codes " type " ∷ decimal kind ∷ codes " length " ∷ decimal whole ∷
+    decimal number ∷ codes " " ∷ code ∷ codes " " ∷ decimal id ∷ codes " type " ∷ decimal kind
+    ∷ codes " length " ∷ decimal whole ∷
     codes " padding " ∷ decimal (octets - whole) ∷ codes " " ∷ [])
 
 unfoldable pub line_end : List ℕ

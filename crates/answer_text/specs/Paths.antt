@@ -24,4 +24,5 @@ states_line number path = decimal number ++ path_text path
 -- the line of a discard
 abbrev pub cause_text : ℕ → Option Cause → List ℕ
 cause_text event None = []
-cause_text event (Some cause) = concat (decimal event ∷ codes " cause " ∷ cause_word cause ∷ codes "\n" ∷ [])
+cause_text event (Some cause) =
+    concat (decimal event ∷ codes " cause " ∷ cause_word cause ∷ codes "\n" ∷ [])

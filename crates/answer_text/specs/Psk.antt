@@ -27,4 +27,5 @@ session_text keys = hex_line (codes "tek") keys.tek ++ exported_text keys.msk ke
 
 -- the keys under a shared key and a peer's random number
 abbrev pub psk_text : List ℕ → List ℕ → List ℕ
-psk_text psk rand_p = let long = psk_long_of psk in long_text long ++ session_text (psk_keys_of long.kdk rand_p)
+psk_text psk rand_p =
+    let long = psk_long_of psk in long_text long ++ session_text (psk_keys_of long.kdk rand_p)

@@ -22,14 +22,16 @@ fn put_code<W: Sink>(
     name: &str,
     code: u32,
 ) -> Result<(), Failed>
-    ensures { Puts W.shown result sink.old sink.new line.old line.new (concat (name.now ∷ decimal code ∷ [])) }
+    ensures { Puts W.shown result sink.old sink.new line.old line.new
+        (concat (name.now ∷ decimal code ∷ [])) }
 {
     put_pieces(sink, line, &[Number(name.as_bytes(), u64::from(code))])
 }
 
 /// Puts the name of a message, or why it is none.
 pub fn put_note<W: Sink>(sink: &mut W, line: &mut LineBuffer, body: &[u8]) -> Result<(), Failed>
-    ensures { Puts W.shown result sink.old sink.new line.old line.new (gpsk_note (read_of None body.now)) }
+    ensures { Puts W.shown result sink.old sink.new line.old line.new
+        (gpsk_note (read_of None body.now)) }
 {
     match read_gpsk_message(body, None) {
         Ok(GpskMessage::M1(_)) => put_pieces(sink, line, &[Text(b"gpsk-1")]),

@@ -35,7 +35,8 @@ fn write_sealed<W: Sink>(
     header: &[u8],
     text: &mut [u8],
 ) -> Result<(), Failed>
-    ensures { Appends W.shown result sink.old sink.new (sealed_text (eax_sealed key.now nonce.now header.now text.old)) }
+    ensures { Appends W.shown result sink.old sink.new
+        (sealed_text (eax_sealed key.now nonce.now header.now text.old)) }
 {
     let tag = eax_seal(key, nonce, header, text);
     write_tagged(sink, text, &tag)
@@ -49,7 +50,8 @@ pub fn write_eax<W: Sink>(
     header: &Injected,
     text: &Injected,
 ) -> Result<(), Failed>
-    ensures { Appends W.shown result sink.old sink.new (sealed_text (eax_sealed key.now nonce.now header.now text.now)) }
+    ensures { Appends W.shown result sink.old sink.new
+        (sealed_text (eax_sealed key.now nonce.now header.now text.now)) }
 {
     let mut room = [0; 2000];
     let copy = &mut room[..text.len()];

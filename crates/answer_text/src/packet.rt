@@ -8,7 +8,8 @@ ghost use Rattle.answer_text.specs.Writes.{Appends, Puts};
 ghost use Rattle.answer_text.specs.Pieces.{hex_text};
 ghost use Rattle.eap_packet.specs.Packet.{value_of};
 ghost use Rattle.eap_packet.specs.Expanded.{expanded_of};
-ghost use Rattle.answer_text.specs.Packets.{numbers_text, expanded_note, note_text, typed_text, end_line_text};
+ghost use Rattle.answer_text.specs.Packets.{numbers_text, expanded_note, note_text, typed_text};
+ghost use Rattle.answer_text.specs.Packets.{end_line_text};
 ghost use Rattle.answer_text.specs.Packets.{malformed_text, value_text, packet_text, packets_text};
 ghost use Rattle.answer_text.specs.PacketParts.{nak_word, number_text, head_text, line_end};
 
@@ -49,7 +50,8 @@ fn put_numbers<W: Sink>(sink: &mut W, line: &mut LineBuffer, octets: &[u8]) -> R
 /// Puts the methods that a Nak desires.
 #[tactic(auto, using(crate::proofs::Putting::puts_both, crate::proofs::Putting::puts_front))]
 fn put_nak<W: Sink>(sink: &mut W, line: &mut LineBuffer, desired: &[u8]) -> Result<(), Failed>
-    ensures { Puts W.shown result sink.old sink.new line.old line.new (nak_word ++ numbers_text desired.now) }
+    ensures { Puts W.shown result sink.old sink.new line.old line.new
+        (nak_word ++ numbers_text desired.now) }
 {
     put_nak_word(sink, line)?;
     put_numbers(sink, line, desired)
@@ -69,7 +71,8 @@ fn put_expanded<W: Sink>(
     view: &PacketView,
 ) -> Result<(), Failed>
     requires { view.now.kind ≡ expanded_kind }
-    ensures { Puts W.shown result sink.old sink.new line.old line.new (expanded_note (expanded_of view.now.body.now)) }
+    ensures { Puts W.shown result sink.old sink.new line.old line.new
+        (expanded_note (expanded_of view.now.body.now)) }
 {
     match read_expanded(view) {
         None => put_pieces(sink, line, &[Text(Cause::BadExpanded.word().as_bytes())]),
@@ -89,7 +92,8 @@ fn put_expanded<W: Sink>(
 #[tactic(auto, unfolding(crate::specs::Packets::note_text, crate::specs::PacketParts::nak_word))]
 fn put_note<W: Sink>(sink: &mut W, line: &mut LineBuffer, view: &PacketView) -> Result<(), Failed>
     requires { length view.now.body.now ≤ max_packet }
-    ensures { Puts W.shown result sink.old sink.new line.old line.new (note_text view.now.kind view.now.body.now) }
+    ensures { Puts W.shown result sink.old sink.new line.old line.new
+        (note_text view.now.kind view.now.body.now) }
 {
     match view.kind {
         IDENTITY => put_identity(sink, line, view.body),
@@ -168,7 +172,8 @@ fn put_typed<W: Sink>(
     requires whole { length view.now.whole.now ≤ octets }
     requires body { length view.now.body.now ≤ max_packet }
     ensures { Puts W.shown result sink.old sink.new line.old line.new
-        (typed_text number code.now view.now.id view.now.kind view.now.body.now (length view.now.whole.now) octets) }
+        (typed_text number code.now view.now.id view.now.kind view.now.body.now
+        (length view.now.whole.now) octets) }
 {
     put_parts(sink, line, number, code, view, octets)
 }
@@ -206,7 +211,8 @@ fn put_malformed<W: Sink>(
     number: u32,
     cause: Cause,
 ) -> Result<(), Failed>
-    ensures { Puts W.shown result sink.old sink.new line.old line.new (malformed_text number cause) }
+    ensures { Puts W.shown result sink.old sink.new line.old line.new
+        (malformed_text number cause) }
 {
     put_pieces(
         sink,
@@ -246,7 +252,8 @@ fn put_packet<W: Sink>(
     number: u32,
     octets: &[u8],
 ) -> Result<(), Failed>
-    ensures { Puts W.shown result sink.old sink.new line.old line.new (packet_text number octets.now) }
+    ensures { Puts W.shown result sink.old sink.new line.old line.new
+        (packet_text number octets.now) }
 {
     match decode(octets) {
         Ok(view) => put_view(sink, line, number, &view, octets.len()),

@@ -1,7 +1,8 @@
 //! The states that an end entered, and the cause of a discard. States have their names of RFC 4137.
 
 ghost use Rattle.answer_text.specs.Writes.{Appends, Puts};
-ghost use Rattle.answer_text.specs.Paths.{state_text, states_text, path_text, states_line, cause_text};
+ghost use Rattle.answer_text.specs.Paths.{state_text, states_text, path_text, states_line};
+ghost use Rattle.answer_text.specs.Paths.{cause_text};
 
 use crate::line_buffer::LineBuffer;
 use crate::pieces::Piece::{Leading, Text};
@@ -49,7 +50,8 @@ fn put_states_line<W: Sink>(
     number: u32,
     path: &[State],
 ) -> Result<(), Failed>
-    ensures { Puts W.shown result sink.old sink.new line.old line.new (states_line number path.now) }
+    ensures { Puts W.shown result sink.old sink.new line.old line.new
+        (states_line number path.now) }
 {
     put_number(sink, line, u64::from(number))?;
     put_path(sink, line, path)

@@ -134,7 +134,8 @@ fn put_hex<W: Sink>(
     front: &[u8],
     octets: &[u8],
 ) -> Result<(), Failed>
-    ensures { Puts W.shown result sink.old sink.new line.old line.new (front.now ++ hex_text octets.now) }
+    ensures { Puts W.shown result sink.old sink.new line.old line.new
+        (front.now ++ hex_text octets.now) }
 {
     put_short(sink, line, front)?;
     put_hex_text(sink, line, octets)
@@ -167,7 +168,8 @@ fn put_numbered<W: Sink>(
     front: &[u8],
     number: u64,
 ) -> Result<(), Failed>
-    ensures { Puts W.shown result sink.old sink.new line.old line.new (front.now ++ decimal number) }
+    ensures { Puts W.shown result sink.old sink.new line.old line.new
+        (front.now ++ decimal number) }
 {
     put_short(sink, line, front)?;
     put_number(sink, line, number)
@@ -181,7 +183,8 @@ fn put_leading<W: Sink>(
     number: u64,
     octets: &[u8],
 ) -> Result<(), Failed>
-    ensures { Puts W.shown result sink.old sink.new line.old line.new (decimal number ++ octets.now) }
+    ensures { Puts W.shown result sink.old sink.new line.old line.new
+        (decimal number ++ octets.now) }
 {
     put_number(sink, line, number)?;
     put_text(sink, line, octets)
@@ -195,7 +198,8 @@ fn put_last<W: Sink>(
     front: &[u8],
     number: u64,
 ) -> Result<(), Failed>
-    ensures { Puts W.shown result sink.old sink.new line.old line.new ((front.now ++ decimal number) ++ codes "\n") }
+    ensures { Puts W.shown result sink.old sink.new line.old line.new
+        ((front.now ++ decimal number) ++ codes "\n") }
 {
     put_numbered(sink, line, front, number)?;
     put_text(sink, line, b"\n")

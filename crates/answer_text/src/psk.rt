@@ -29,7 +29,8 @@ fn name_of(body: &[u8]) -> &'static str
 
 /// Puts the name of a message, or why it is none.
 pub fn put_note<W: Sink>(sink: &mut W, line: &mut LineBuffer, body: &[u8]) -> Result<(), Failed>
-    ensures { Puts W.shown result sink.old sink.new line.old line.new (psk_note (read_of body.now)) }
+    ensures { Puts W.shown result sink.old sink.new line.old line.new
+        (psk_note (read_of body.now)) }
 {
     put_pieces(sink, line, &[Text(name_of(body).as_bytes())])
 }

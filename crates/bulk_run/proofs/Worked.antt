@@ -8,7 +8,8 @@ use Rattle.bulk_run.specs.Conversation.{choice, chosen, deliveries}
 use Rattle.bulk_run.specs.Draws.{state_at, octets_after}
 
 -- the first octets of 0 and of 1, computed elsewhere
-from_zero : octets_after 0 0 12 ≡ 60 ∷ 71 ∷ 209 ∷ 170 ∷ 98 ∷ 159 ∷ 87 ∷ 163 ∷ 129 ∷ 148 ∷ 203 ∷ 188 ∷ []
+from_zero : octets_after 0 0 12
+    ≡ 60 ∷ 71 ∷ 209 ∷ 170 ∷ 98 ∷ 159 ∷ 87 ∷ 163 ∷ 129 ∷ 148 ∷ 203 ∷ 188 ∷ []
 unfolding state_at octets_after
 from_zero = refl
 
@@ -21,7 +22,8 @@ later : octets_after 1 10 2 ≡ 64 ∷ 108 ∷ []
 unfolding state_at octets_after
 later = refl
 
-seven : deliveries 7 ≡ Deliver 1 ∷ Deliver 2 ∷ Deliver 3 ∷ Deliver 4 ∷ Deliver 5 ∷ Deliver 6 ∷ Deliver 7 ∷ []
+seven : deliveries 7
+    ≡ Deliver 1 ∷ Deliver 2 ∷ Deliver 3 ∷ Deliver 4 ∷ Deliver 5 ∷ Deliver 6 ∷ Deliver 7 ∷ []
 unfolding deliveries
 seven = refl
 
@@ -49,7 +51,8 @@ delivers_too = refl
 
 -- the last packet's octets count, not those of the first
 two : List Sent
-two = record { port = port.Peer; octets = 1 ∷ 0 ∷ 0 ∷ 5 ∷ 1 ∷ [] } ∷ record { port = port.Server; octets = 3 ∷ 2 ∷ 0 ∷ 4 ∷ [] } ∷ []
+two = record { port = port.Peer; octets = 1 ∷ 0 ∷ 0 ∷ 5 ∷ 1 ∷ [] }
+    ∷ record { port = port.Server; octets = 3 ∷ 2 ∷ 0 ∷ 4 ∷ [] } ∷ []
 
 alters_last : chosen two 2 7 ≡ Some (Alter 2 3 1)
 unfolding two chosen

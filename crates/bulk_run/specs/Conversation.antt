@@ -1,5 +1,6 @@
 -- A conversation: its settings and its events, from the octets that are drawn after a place.
-use Rattle.std.specs.Prelude.{ℕ, zero, suc, ◌+◌, ◌*◌, ◌%◌, ◌==◌, List, [], ◌∷◌, ◌++◌, length, false, if◌then◌else◌, Option, Some, None, codes}
+use Rattle.std.specs.Prelude.{ℕ, zero, suc, ◌+◌, ◌*◌, ◌%◌, ◌==◌, List, [], ◌∷◌, ◌++◌, length, false}
+use Rattle.std.specs.Prelude.{if◌then◌else◌, Option, Some, None, codes}
 use Rattle.login_setup.specs.declared.event.Event.{Event}
 use Rattle.login_setup.specs.declared.event.Event.TheVariants.{Deliver, Alter, Timeout}
 use Rattle.login_setup.specs.declared.setup.Party.TheVariants as party
@@ -28,15 +29,22 @@ known_with key = record { name = codes "alice"; kind = gpsk_kind; psk = key; bar
 
 -- the server, which knows her alone
 abbrev pub srv : List ℕ → List ℕ → ServerSetup
-srv nonce key = record plain_server { methods = login_methods; users = known_with key ∷ []; nonce = nonce }
+srv nonce key = record plain_server {
+  methods = login_methods;
+  users = known_with key ∷ [];
+  nonce = nonce;
+}
 
 abbrev pub setup_with : List ℕ → List ℕ → List ℕ → Setup
-setup_with peer_nonce server_nonce key = record plain_setup { peer = alice peer_nonce key; server = srv server_nonce key }
+setup_with peer_nonce server_nonce
+    key = record plain_setup { peer = alice peer_nonce key; server = srv server_nonce key }
 
--- the settings of the conversation that begins after a place: 32 octets for each nonce and 32 for the key
+-- the settings of the conversation that begins after a place: 32 octets for each nonce and 32 for
+-- the key
 unfoldable pub setup_at : ℕ → ℕ → Setup
 setup_at number place =
-    setup_with (octets_after number place 32) (octets_after number (place + 32) 32) (octets_after number (place + 64) 32)
+    setup_with (octets_after number place 32) (octets_after number (place + 32) 32)
+    (octets_after number (place + 64) 32)
 
 -- packets 1, 2 and on, so many of them, each comes to its port once
 unfoldable pub deliveries : ℕ → List Event
@@ -59,10 +67,11 @@ abbrev pub with_event : List Event → Option Event → List Event
 with_event events None = events
 with_event events (Some event) = events ++ event ∷ []
 
--- the events of so many turns, of which each draws two octets: they choose by the packets that were sent in the
--- run of the events before
+-- the events of so many turns, of which each draws two octets: they choose by the packets that were
+-- sent in the run of the events before
 unfoldable pub chances : Setup → ℕ → ℕ → ℕ → List Event
 chances setup number place zero = []
 chances setup number place (suc turns) =
     let before = chances setup number place turns in
-    with_event before (chosen (run_of setup before).sent (octet_at number (place + 2 * turns + 1)) (octet_at number (place + 2 * turns + 2)))
+    with_event before (chosen (run_of setup before).sent (octet_at number (place + 2 * turns + 1))
+    (octet_at number (place + 2 * turns + 2)))

@@ -1,4 +1,5 @@
--- Octets drawn from a number: the high octet of each state of a linear congruential generator modulo 2^32.
+-- Octets drawn from a number: the high octet of each state of a linear congruential generator
+-- modulo 2^32.
 use Rattle.std.specs.Prelude.{ℕ, zero, suc, ◌+◌, ◌*◌, ◌/◌, ◌%◌, ◌^◌, List, [], ◌∷◌, ◌++◌}
 
 -- the state after another
@@ -20,4 +21,5 @@ octet_at number place = high_octet (state_at number place)
 -- so many octets drawn after a place
 unfoldable pub octets_after : ℕ → ℕ → ℕ → List ℕ
 octets_after number place zero = []
-octets_after number place (suc count) = octets_after number place count ++ octet_at number (place + suc count) ∷ []
+octets_after number place (suc count) =
+    octets_after number place count ++ octet_at number (place + suc count) ∷ []

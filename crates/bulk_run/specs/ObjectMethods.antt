@@ -11,15 +11,23 @@ pub record ObjectMethods : Type 0 where
   pub peer : List peers.Method
   pub server : List servers.Method
 
-abbrev pub methods_of : {P S : Type 0} → (P → PeerShown) → (S → ServerShown) → List P → List S → ObjectMethods
+abbrev pub methods_of : {P S : Type 0} → (P → PeerShown) → (S → ServerShown) → List P → List S
+    → ObjectMethods
 methods_of peer_shown server_shown peer server =
-    record { peer = peer_methods (map peer_shown peer); server = server_methods (map server_shown server) }
+    record {
+      peer = peer_methods (map peer_shown peer);
+      server = server_methods (map server_shown server);
+    }
 
 -- the objects of both ends are of the same methods before and after
-abbrev pub HaveSameMethods : {P S : Type 0} → (P → PeerShown) → (S → ServerShown) → List P → List S → List P → List S → Type 0
+abbrev pub HaveSameMethods : {P S : Type 0} → (P → PeerShown) → (S → ServerShown) → List P → List S
+    → List P → List S → Type 0
 HaveSameMethods peer_shown server_shown peer server peer_after server_after =
-    methods_of peer_shown server_shown peer_after server_after ≡ methods_of peer_shown server_shown peer server
+    methods_of peer_shown server_shown peer_after server_after
+    ≡ methods_of peer_shown server_shown peer server
 
-abbrev pub PreservesMethods : {P S : Type 0} → (P → PeerShown) → (S → ServerShown) → WorldValue P S → WorldValue P S → Type 0
+abbrev pub PreservesMethods : {P S : Type 0} → (P → PeerShown) → (S → ServerShown) → WorldValue P S
+    → WorldValue P S → Type 0
 PreservesMethods peer_shown server_shown before after =
-    HaveSameMethods peer_shown server_shown before.peer.methods before.server.methods after.peer.methods after.server.methods
+    HaveSameMethods peer_shown server_shown before.peer.methods before.server.methods
+    after.peer.methods after.server.methods

@@ -1,5 +1,6 @@
 -- The summary of the conversations of a number.
-use Rattle.std.specs.Prelude.{◌≡◌, ◌≤◌, ℕ, zero, suc, ◌+◌, ◌*◌, ◌%◌, ◌==◌, List, Bool, true, false, if◌then◌else◌}
+use Rattle.std.specs.Prelude.{◌≡◌, ◌≤◌, ℕ, zero, suc, ◌+◌, ◌*◌, ◌%◌, ◌==◌, List, Bool, true, false}
+use Rattle.std.specs.Prelude.{if◌then◌else◌}
 use Rattle.login_setup.specs.declared.event.Event.{Event}
 use Rattle.login_setup.specs.declared.setup.Setup.{Setup}
 use Rattle.tag_book.specs.Book.{tags_verdict}
@@ -13,12 +14,13 @@ use Rattle.bulk_run.specs.Conversation.{setup_at, deliveries, chances}
 use Rattle.bulk_run.specs.declared.summary.Summary.{Summary}
 use Rattle.world_laws.specs.Runs.{run_of}
 
--- over an odd number the first packets are delivered in order, over an even one drawn octets choose the events
+-- over an odd number the first packets are delivered in order, over an even one drawn octets choose
+-- the events
 abbrev pub is_even : ℕ → Bool
 is_even number = number % 2 == 0
 
--- how many octets a conversation draws: two for each of its 40 turns if the number is even, and 96 before them
--- for its settings
+-- how many octets a conversation draws: two for each of its 40 turns if the number is even, and 96
+-- before them for its settings
 abbrev pub drawn_for_events : ℕ → ℕ
 drawn_for_events number = if is_even number then 80 else 0
 
@@ -27,11 +29,13 @@ drawn_each number = 96 + drawn_for_events number
 
 -- the events of a conversation, for which octets are drawn after a place
 abbrev pub events_of : Setup → ℕ → ℕ → List Event
-events_of setup number place = if is_even number then chances setup number place 40 else deliveries 7
+events_of setup number place =
+    if is_even number then chances setup number place 40 else deliveries 7
 
 -- the end of the run of the conversation that begins after a place
 unfoldable pub ended_at : ℕ → ℕ → WorldNow
-ended_at number place = run_of (setup_at number place) (events_of (setup_at number place) number (place + 96))
+ended_at number place =
+    run_of (setup_at number place) (events_of (setup_at number place) number (place + 96))
 
 -- what one conversation counts
 abbrev pub is_agree : Verdict → Bool
@@ -58,7 +62,15 @@ counts_of w = record {
 }
 
 abbrev pub nothing_counted : Summary
-nothing_counted = record { conversations = 0; agree = 0; unfinished = 0; apart = 0; broken = 0; deliveries = 0; discards = 0 }
+nothing_counted = record {
+  conversations = 0;
+  agree = 0;
+  unfinished = 0;
+  apart = 0;
+  broken = 0;
+  deliveries = 0;
+  discards = 0;
+}
 
 abbrev pub plus : Summary → Summary → Summary
 plus one other = record {
@@ -74,7 +86,8 @@ plus one other = record {
 -- the sum over so many conversations, each of which begins where the one before has stopped drawing
 unfoldable pub summary_of : ℕ → ℕ → Summary
 summary_of number zero = nothing_counted
-summary_of number (suc k) = plus (summary_of number k) (counts_of (ended_at number (k * drawn_each number)))
+summary_of number (suc k) =
+    plus (summary_of number k) (counts_of (ended_at number (k * drawn_each number)))
 
 -- what is counted is small
 pub record IsAtMost (s : Summary) (most : ℕ) : Type 0 where

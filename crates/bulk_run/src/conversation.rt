@@ -8,10 +8,12 @@ ghost use Rattle.eap_method.specs.Peer.{peer_kinds, have_each};
 ghost use Rattle.eap_method.specs.Server.{server_kinds};
 ghost use Rattle.eap_world.specs.World.{HasObjects, now_of};
 ghost use Rattle.bulk_run.specs.ObjectMethods.{PreservesMethods, HaveSameMethods};
-ghost use Rattle.bulk_run.specs.Conversation.{login_methods, alice, known_with, deliveries, chances};
+ghost use Rattle.bulk_run.specs.Conversation.{login_methods, alice, known_with, deliveries};
+ghost use Rattle.bulk_run.specs.Conversation.{chances};
 ghost use Rattle.bulk_run.specs.Draws.{state_at};
 ghost use Rattle.bulk_run.specs.RunningEnd.{AreFew};
-ghost use Rattle.bulk_run.specs.Summing.{counts_of, drawn_each, drawn_for_events, ended_at, events_of, IsAtMost};
+ghost use Rattle.bulk_run.specs.Summing.{counts_of, drawn_each, drawn_for_events, ended_at};
+ghost use Rattle.bulk_run.specs.Summing.{events_of, IsAtMost};
 ghost use Rattle.world_laws.specs.Runs.{initial_world, run_of};
 
 use crate::draws::Draws;
@@ -39,11 +41,14 @@ pub fn converse<P: PeerMethod, S: ServerMethod>(
     methods: Methods<P, S>,
     counts: &mut Summary,
 ) -> Result<Methods<P, S>, Memory>
-    requires peer_objects { have_each (peer_kinds (map P.peer_shown methods.peer.items)) login_methods ≡ true }
-    requires server_objects { have_each (server_kinds (map S.server_shown methods.server.items)) login_methods ≡ true }
+    requires peer_objects { have_each (peer_kinds
+        (map P.peer_shown methods.peer.items)) login_methods ≡ true }
+    requires server_objects { have_each (server_kinds
+        (map S.server_shown methods.server.items)) login_methods ≡ true }
     requires both_peers { both_peers.are_both (map P.peer_shown methods.peer.items) ≡ true }
     requires both_servers { both_servers.are_both (map S.server_shown methods.server.items) ≡ true }
-    ensures counts { IfOk result (λ after. (place : ℕ) → draws.old.state ≡ state_at number place → counts.new ≡ counts_of (ended_at number place)) }
+    ensures counts { IfOk result (λ after. (place : ℕ) → draws.old.state ≡ state_at number place
+        → counts.new ≡ counts_of (ended_at number place)) }
     ensures small { IfOk result (λ after. IsAtMost counts.new 40) }
     ensures state { IfOk result (λ after. (place : ℕ) → draws.old.state ≡ state_at number place
         → draws.new.state ≡ state_at number (place + drawn_each number)) }
@@ -115,12 +120,15 @@ fn talk<P: PeerMethod, S: ServerMethod>(
     requires few { AreFew world.old.counts 0 }
     requires objects { HasObjects P.peer_shown S.server_shown world.old }
     ensures run { IfOk result (λ done. (setup : Setup) (place : ℕ)
-        → now_of P.peer_shown S.server_shown world.old ≡ initial_world setup → draws.old.state ≡ state_at number place
-        → now_of P.peer_shown S.server_shown world.new ≡ run_of setup (events_of setup number place)) }
+        → now_of P.peer_shown S.server_shown world.old ≡ initial_world setup
+        → draws.old.state ≡ state_at number place
+        → now_of P.peer_shown S.server_shown world.new
+        ≡ run_of setup (events_of setup number place)) }
     ensures state { IfOk result (λ done. (place : ℕ) → draws.old.state ≡ state_at number place
         → draws.new.state ≡ state_at number (place + drawn_for_events number)) }
     ensures few { IfOk result (λ done. AreFew world.new.counts 40) }
-    ensures methods { IfOk result (λ done. PreservesMethods P.peer_shown S.server_shown world.old world.new) }
+    ensures methods { IfOk result
+        (λ done. PreservesMethods P.peer_shown S.server_shown world.old world.new) }
 {
     let mut packets = start_run(world)?;
     if number % 2 == 0 {
@@ -139,10 +147,12 @@ fn deliver_all<P: PeerMethod, S: ServerMethod>(
     requires few { AreFew world.old.counts 0 }
     requires objects { HasObjects P.peer_shown S.server_shown world.old }
     requires packets { packets.old ≡ length world.old.sent }
-    ensures run { IfOk result (λ done. (setup : Setup) → now_of P.peer_shown S.server_shown world.old ≡ run_of setup []
+    ensures run { IfOk result
+        (λ done. (setup : Setup) → now_of P.peer_shown S.server_shown world.old ≡ run_of setup []
         → now_of P.peer_shown S.server_shown world.new ≡ run_of setup (deliveries 7)) }
     ensures few { IfOk result (λ done. AreFew world.new.counts 7) }
-    ensures methods { IfOk result (λ done. PreservesMethods P.peer_shown S.server_shown world.old world.new) }
+    ensures methods { IfOk result
+        (λ done. PreservesMethods P.peer_shown S.server_shown world.old world.new) }
 {
     for passed in 0..7_u32 {
         step_event(world, packets, &Event::Deliver { number: passed + 1 })?;
@@ -161,12 +171,16 @@ fn step_by_chance<P: PeerMethod, S: ServerMethod>(
     requires objects { HasObjects P.peer_shown S.server_shown world.old }
     requires packets { packets.old ≡ length world.old.sent }
     ensures run { IfOk result (λ done. (setup : Setup) (number place : ℕ)
-        → now_of P.peer_shown S.server_shown world.old ≡ run_of setup [] → draws.old.state ≡ state_at number place
-        → now_of P.peer_shown S.server_shown world.new ≡ run_of setup (chances setup number place 40)) }
-    ensures state { IfOk result (λ done. (number place : ℕ) → draws.old.state ≡ state_at number place
+        → now_of P.peer_shown S.server_shown world.old ≡ run_of setup []
+        → draws.old.state ≡ state_at number place
+        → now_of P.peer_shown S.server_shown world.new
+        ≡ run_of setup (chances setup number place 40)) }
+    ensures state { IfOk result
+        (λ done. (number place : ℕ) → draws.old.state ≡ state_at number place
         → draws.new.state ≡ state_at number (place + 80)) }
     ensures few { IfOk result (λ done. AreFew world.new.counts 40) }
-    ensures methods { IfOk result (λ done. PreservesMethods P.peer_shown S.server_shown world.old world.new) }
+    ensures methods { IfOk result
+        (λ done. PreservesMethods P.peer_shown S.server_shown world.old world.new) }
 {
     for _ in 0..40_u32 {
         let v = draws.octet();

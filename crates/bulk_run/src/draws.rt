@@ -22,8 +22,10 @@ impl Draws {
 
     /// The next octet: the high one of the next state.
     pub fn octet(&mut self) -> u8
-        ensures state { (number place : ℕ) → self.old.state ≡ state_at number place → self.new.state ≡ state_at number (place + 1) }
-        ensures octet { (number place : ℕ) → self.old.state ≡ state_at number place → result ≡ octet_at number (place + 1) }
+        ensures state { (number place : ℕ) → self.old.state ≡ state_at number place
+            → self.new.state ≡ state_at number (place + 1) }
+        ensures octet { (number place : ℕ) → self.old.state ≡ state_at number place
+            → result ≡ octet_at number (place + 1) }
     {
         self.go_on();
         (self.state / (1 << 24)) as u8
@@ -39,8 +41,10 @@ impl Draws {
 
     /// The next 32 octets.
     pub fn octets(&mut self) -> [u8; 32]
-        ensures state { (number place : ℕ) → self.old.state ≡ state_at number place → self.new.state ≡ state_at number (place + 32) }
-        ensures octets { (number place : ℕ) → self.old.state ≡ state_at number place → result ≡ octets_after number place 32 }
+        ensures state { (number place : ℕ) → self.old.state ≡ state_at number place
+            → self.new.state ≡ state_at number (place + 32) }
+        ensures octets { (number place : ℕ) → self.old.state ≡ state_at number place
+            → result ≡ octets_after number place 32 }
     {
         let mut drawn: Octets<32> = Octets::new();
         for _ in 0..32_u32 {

@@ -28,8 +28,10 @@ pub fn run_all<P: PeerMethod, S: ServerMethod>(
     methods: Methods<P, S>,
 ) -> Result<Summary, Memory>
     requires few { count ≤ 1000 }
-    requires peer_objects { have_each (peer_kinds (map P.peer_shown methods.peer.items)) login_methods ≡ true }
-    requires server_objects { have_each (server_kinds (map S.server_shown methods.server.items)) login_methods ≡ true }
+    requires peer_objects { have_each (peer_kinds
+        (map P.peer_shown methods.peer.items)) login_methods ≡ true }
+    requires server_objects { have_each (server_kinds
+        (map S.server_shown methods.server.items)) login_methods ≡ true }
     requires both_peers { both_peers.are_both (map P.peer_shown methods.peer.items) ≡ true }
     requires both_servers { both_servers.are_both (map S.server_shown methods.server.items) ≡ true }
     ensures { IfOk result (λ summary. summary ≡ summary_of number count) }

@@ -20,7 +20,8 @@ pub fn start_run<P: PeerMethod, S: ServerMethod>(world: &mut World<P, S>) -> Res
     requires unstarted { world.old.started ≡ false }
     requires unsent { world.old.sent ≡ [] }
     requires objects { HasObjects P.peer_shown S.server_shown world.old }
-    ensures run { IfOk result (λ packets. StartsRun P.peer_shown S.server_shown world.old world.new) }
+    ensures run { IfOk result
+        (λ packets. StartsRun P.peer_shown S.server_shown world.old world.new) }
     ensures methods { PreservesMethods P.peer_shown S.server_shown world.old world.new }
     ensures objects { HasObjects P.peer_shown S.server_shown world.new }
     ensures started { IfOk result (λ packets. world.new.started ≡ true) }
@@ -42,12 +43,14 @@ pub fn step_event<P: PeerMethod, S: ServerMethod>(
     requires capacity { world.old.counts.events < MAX_EVENTS }
     requires packets { packets.old ≡ length world.old.sent }
     requires objects { HasObjects P.peer_shown S.server_shown world.old }
-    ensures run { IfOk result (λ done. HasContinued P.peer_shown S.server_shown event.now world.old world.new) }
+    ensures run { IfOk result
+        (λ done. HasContinued P.peer_shown S.server_shown event.now world.old world.new) }
     ensures methods { PreservesMethods P.peer_shown S.server_shown world.old world.new }
     ensures objects { HasObjects P.peer_shown S.server_shown world.new }
     ensures started { IfOk result (λ done. world.new.started ≡ true) }
     ensures packets { IfOk result (λ done. packets.new ≡ length world.new.sent) }
-    ensures few { IfOk result (λ done. (most : ℕ) → AreFew world.old.counts most → AreFew world.new.counts (most + 1)) }
+    ensures few { IfOk result (λ done. (most : ℕ) → AreFew world.old.counts most
+        → AreFew world.new.counts (most + 1)) }
 {
     let told = world.step_brief(event)?;
     *packets = sent_after(*packets, &told);
@@ -75,13 +78,16 @@ pub fn step_chosen<P: PeerMethod, S: ServerMethod>(
     requires capacity { world.old.counts.events < MAX_EVENTS }
     requires packets { packets.old ≡ length world.old.sent }
     requires objects { HasObjects P.peer_shown S.server_shown world.old }
-    ensures run { IfOk result (λ done. (setup : Setup) (events : List Event) → now_of P.peer_shown S.server_shown world.old ≡ run_of setup events
-        → now_of P.peer_shown S.server_shown world.new ≡ run_of setup (with_event events (chosen world.old.sent v u))) }
+    ensures run { IfOk result (λ done. (setup : Setup) (events : List Event)
+        → now_of P.peer_shown S.server_shown world.old ≡ run_of setup events
+        → now_of P.peer_shown S.server_shown world.new
+        ≡ run_of setup (with_event events (chosen world.old.sent v u))) }
     ensures methods { PreservesMethods P.peer_shown S.server_shown world.old world.new }
     ensures objects { HasObjects P.peer_shown S.server_shown world.new }
     ensures started { IfOk result (λ done. world.new.started ≡ true) }
     ensures packets { IfOk result (λ done. packets.new ≡ length world.new.sent) }
-    ensures few { IfOk result (λ done. (most : ℕ) → AreFew world.old.counts most → AreFew world.new.counts (most + 1)) }
+    ensures few { IfOk result (λ done. (most : ℕ) → AreFew world.old.counts most
+        → AreFew world.new.counts (most + 1)) }
 {
     match choose(world, *packets, v, u) {
         None => Ok(()),

@@ -11,7 +11,8 @@ use Rattle.capture_check.specs.Gpsk.{last_gpsk2}
 use Rattle.capture_check.specs.Psk.{psk_starts, psk4_follows, last_psk1, last_psk2}
 use Rattle.capture_check.specs.CaptureContext.{context_of}
 use Rattle.capture_check.specs.Finding.{finding_in, finding_of}
-use Rattle.capture_check.specs.declared.finding.Finding.TheVariants.{Good, Malformed, NoKey, NoContext}
+use Rattle.capture_check.specs.declared.finding.Finding.TheVariants.{Good, Malformed, NoKey}
+use Rattle.capture_check.specs.declared.finding.Finding.TheVariants.{NoContext}
 
 sent : List ℕ → Captured
 sent octets = record { to_peer = true; octets = octets }
@@ -21,7 +22,12 @@ received octets = record { to_peer = false; octets = octets }
 
 -- the user alice of EAP-PSK
 alice : List User
-alice = record { name = 97 ∷ 108 ∷ 105 ∷ 99 ∷ 101 ∷ []; kind = 47; psk = replicate 16 7; barred = false } ∷ []
+alice = record {
+  name = 97 ∷ 108 ∷ 105 ∷ 99 ∷ 101 ∷ [];
+  kind = 47;
+  psk = replicate 16 7;
+  barred = false;
+} ∷ []
 
 -- an Identity Request, three octets, the Request from a peer
 asks : List ℕ
@@ -43,8 +49,10 @@ turned_finding = refl
 psk4 : List ℕ
 psk4 = 2 ∷ 1 ∷ 0 ∷ 43 ∷ 47 ∷ 192 ∷ replicate 16 34 ++ replicate 21 0
 
-psk4_finding : finding_of alice (sent asks ∷ received (1 ∷ 2 ∷ 3 ∷ []) ∷ received asks ∷ []) false psk4 ≡ NoContext
-unfolding finding_of finding_in classified_of packet_of fault alice asks psk4 sent received context_of last_psk1 last_gpsk2 last_psk2 last_shown psk.read_of psk4_follows
+psk4_finding : finding_of alice (sent asks ∷ received (1 ∷ 2 ∷ 3 ∷ []) ∷ received asks
+    ∷ []) false psk4 ≡ NoContext
+unfolding finding_of finding_in classified_of packet_of fault alice asks psk4 sent received
+    context_of last_psk1 last_gpsk2 last_psk2 last_shown psk.read_of psk4_follows
 psk4_finding = refl
 
 -- a Type that no method here has, both ways; a Success from the peer
@@ -61,11 +69,13 @@ fail : ℕ → List ℕ
 fail code = code ∷ 1 ∷ 0 ∷ 10 ∷ 51 ∷ 5 ∷ 0 ∷ 0 ∷ 0 ∷ 1 ∷ []
 
 fail_sent : finding_of [] [] true (fail 1) ≡ Good
-unfolding finding_of finding_in classified_of packet_of fault fail gpsk.read_of gpsk.loose_of gpsk.fields_at gpsk.fail_at gpsk.code_at gpsk.exact_at gpsk.and_then
+unfolding finding_of finding_in classified_of packet_of fault fail gpsk.read_of gpsk.loose_of
+    gpsk.fields_at gpsk.fail_at gpsk.code_at gpsk.exact_at gpsk.and_then
 fail_sent = refl
 
 fail_received : finding_of [] [] false (fail 2) ≡ Good
-unfolding finding_of finding_in classified_of packet_of fault fail gpsk.read_of gpsk.loose_of gpsk.fields_at gpsk.fail_at gpsk.code_at gpsk.exact_at gpsk.and_then
+unfolding finding_of finding_in classified_of packet_of fault fail gpsk.read_of gpsk.loose_of
+    gpsk.fields_at gpsk.fail_at gpsk.code_at gpsk.exact_at gpsk.and_then
 fail_received = refl
 
 -- PSK-1 with this RAND_S, and one that the peer sends
@@ -82,12 +92,15 @@ psk1_turned = refl
 
 -- PSK-2 of a user that isn't known, after its PSK-1, and after a PSK-1 with another RAND_S
 psk2 : List ℕ
-psk2 = 2 ∷ 1 ∷ 0 ∷ 57 ∷ 47 ∷ 64 ∷ replicate 16 34 ++ (replicate 16 17 ++ (replicate 16 0 ++ (98 ∷ 111 ∷ 98 ∷ [])))
+psk2 = 2 ∷ 1 ∷ 0 ∷ 57 ∷ 47 ∷ 64
+    ∷ replicate 16 34 ++ (replicate 16 17 ++ (replicate 16 0 ++ (98 ∷ 111 ∷ 98 ∷ [])))
 
 psk2_unknown : finding_of alice (sent (psk1 1 34) ∷ []) false psk2 ≡ NoKey
-unfolding finding_of finding_in classified_of packet_of fault alice psk1 psk2 sent psk.read_of context_of last_psk1 last_gpsk2 last_psk2 last_shown psk_starts
+unfolding finding_of finding_in classified_of packet_of fault alice psk1 psk2 sent psk.read_of
+    context_of last_psk1 last_gpsk2 last_psk2 last_shown psk_starts
 psk2_unknown = refl
 
 psk2_late : finding_of alice (sent (psk1 1 34) ∷ sent (psk1 1 35) ∷ []) false psk2 ≡ NoContext
-unfolding finding_of finding_in classified_of packet_of fault alice psk1 psk2 sent psk.read_of context_of last_psk1 last_gpsk2 last_psk2 last_shown psk_starts
+unfolding finding_of finding_in classified_of packet_of fault alice psk1 psk2 sent psk.read_of
+    context_of last_psk1 last_gpsk2 last_psk2 last_shown psk_starts
 psk2_late = refl

@@ -12,11 +12,13 @@ use Rattle.capture_check.specs.declared.finding.Finding.TheVariants.{Good, Malfo
 abbrev pub classified_finding : List User → CaptureContext → List ℕ → Classified → Finding
 classified_finding users kept octets (malformed cause) = Malformed cause
 classified_finding users kept octets plain = Good
-classified_finding users kept octets (typed to_peer kind body) = typed_finding users kept octets to_peer kind body
+classified_finding users kept octets (typed to_peer kind body) =
+    typed_finding users kept octets to_peer kind body
 
 -- the finding of a packet after packets of which this is kept, and what is kept then
 unfoldable pub finding_in : List User → CaptureContext → Bool → List ℕ → Finding
-finding_in users kept to_peer octets = classified_finding users kept octets (classified_of to_peer octets)
+finding_in users kept to_peer octets =
+    classified_finding users kept octets (classified_of to_peer octets)
 
 unfoldable pub kept_next : List User → CaptureContext → Bool → List ℕ → CaptureContext
 kept_next users kept to_peer octets = context_after users kept (classified_of to_peer octets)

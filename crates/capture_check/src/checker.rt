@@ -8,7 +8,8 @@ ghost use Rattle.capture_check.specs.Captured.{Captured};
 ghost use Rattle.capture_check.specs.Classified.{classified_of, packet_class};
 ghost use Rattle.capture_check.specs.Gpsk.{HasKey};
 ghost use Rattle.capture_check.specs.CaptureContext.{context_after, no_context_yet};
-ghost use Rattle.capture_check.specs.Finding.{finding_in, finding_of, classified_finding, kept_next, IsStateAfter};
+ghost use Rattle.capture_check.specs.Finding.{finding_in, finding_of, classified_finding};
+ghost use Rattle.capture_check.specs.Finding.{kept_next, IsStateAfter};
 
 use crate::finding::Finding;
 use crate::gpsk::GpskLogin;
@@ -75,7 +76,8 @@ impl Judge {
         ensures finding { (packets : List Captured) → IsStateAfter self.old users.now packets
             → result ≡ finding_of users.now packets to_peer octets.now }
         ensures state { (packets : List Captured) → IsStateAfter self.old users.now packets
-            → IsStateAfter self.new users.now (packets ++ (record { to_peer = to_peer; octets = octets.now }) ∷ []) }
+            → IsStateAfter self.new users.now
+            (packets ++ (record { to_peer = to_peer; octets = octets.now }) ∷ []) }
 
         // The same by what it keeps.
         ensures judged { result ≡ finding_in users.now self.old to_peer octets.now }
@@ -121,10 +123,13 @@ impl Checker {
     pub fn packet(&mut self, to_peer: bool, octets: &[u8]) -> Finding
         // If it has seen a list of packets, the answer is the finding of the packet after these, and then
         // it has seen the list with the packet.
-        ensures finding { (packets : List Captured) → IsStateAfter self.old.kept self.old.users packets
+        ensures finding { (packets : List Captured)
+            → IsStateAfter self.old.kept self.old.users packets
             → result ≡ finding_of self.old.users packets to_peer octets.now }
-        ensures state { (packets : List Captured) → IsStateAfter self.old.kept self.old.users packets
-            → IsStateAfter self.new.kept self.old.users (packets ++ (record { to_peer = to_peer; octets = octets.now }) ∷ []) }
+        ensures state { (packets : List Captured)
+            → IsStateAfter self.old.kept self.old.users packets
+            → IsStateAfter self.new.kept self.old.users
+            (packets ++ (record { to_peer = to_peer; octets = octets.now }) ∷ []) }
         ensures users { self.new.users ≡ self.old.users }
     {
         self.judge.packet(&self.users, to_peer, octets)
@@ -136,8 +141,10 @@ impl Checker {
 fn judge_octets(kept: &mut CaptureContext, users: &Users, to_peer: bool, octets: &[u8]) -> Finding
     requires keys { All (λ user. IsTrue (is_valid_for user.kind user.psk)) users.now }
     requires key { HasKey kept.old.gpsk }
-    ensures finding { result ≡ classified_finding users.now kept.old octets.now (classified_of to_peer octets.now) }
-    ensures stored { kept.new ≡ context_after users.now kept.old (classified_of to_peer octets.now) }
+    ensures finding { result
+        ≡ classified_finding users.now kept.old octets.now (classified_of to_peer octets.now) }
+    ensures stored { kept.new
+        ≡ context_after users.now kept.old (classified_of to_peer octets.now) }
     ensures key_after { HasKey kept.new.gpsk }
 {
     match decode(octets) {
@@ -158,8 +165,10 @@ fn judge_packet(
     requires key { HasKey kept.old.gpsk }
     requires plain { IsPlain packet.now.code packet.now.kind packet.now.body.now }
     requires size { length packet.now.body.now ≤ max_type_data }
-    ensures finding { result ≡ classified_finding users.now kept.old octets.now (packet_class to_peer (value_of packet.now)) }
-    ensures stored { kept.new ≡ context_after users.now kept.old (packet_class to_peer (value_of packet.now)) }
+    ensures finding { result ≡ classified_finding users.now kept.old octets.now (packet_class
+        to_peer (value_of packet.now)) }
+    ensures stored { kept.new
+        ≡ context_after users.now kept.old (packet_class to_peer (value_of packet.now)) }
     ensures key_after { HasKey kept.new.gpsk }
 {
     // Only Responses come from a peer, and none goes to it (RFC 3748 section 4).

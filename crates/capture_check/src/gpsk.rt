@@ -7,7 +7,9 @@ ghost use Rattle.login_setup.specs.Setup.{is_valid_for};
 ghost use Rattle.octet_lists.specs.Suite.{ks_of};
 ghost use Rattle.octet_lists.specs.Sizes.{max_name};
 ghost use Rattle.gpsk_messages.specs.Message.{message_of, spelled, IsGpsk};
-ghost use Rattle.capture_check.specs.Gpsk.{gpsk2_of, gpsk_finding, gpsk_follows, gpsk_login_in, gpsk_read, gpsk_tag_finding, gpsk_verdict, is_gpsk_astray, is_tagged_in, login_starts, HasKey};
+ghost use Rattle.capture_check.specs.Gpsk.{gpsk2_of, gpsk_finding, gpsk_follows, gpsk_login_in};
+ghost use Rattle.capture_check.specs.Gpsk.{gpsk_read, gpsk_tag_finding, gpsk_verdict};
+ghost use Rattle.capture_check.specs.Gpsk.{is_gpsk_astray, is_tagged_in, login_starts, HasKey};
 
 use crate::finding::Finding;
 use eap_packet::Cause;
@@ -83,7 +85,8 @@ fn begin(kept: &mut Option<GpskLogin>, login: GpskLogin, view: &GpskMessage, bod
     requires key_before { HasKey kept.old }
     requires spelled { body.now ≡ spelled (message_of view.now) }
     ensures finding { result ≡ gpsk_verdict (login_starts (Some login) (message_of view.now)) }
-    ensures stored { kept.new ≡ option_or (result_ok (login_starts (Some login) (message_of view.now))) kept.old }
+    ensures stored { kept.new
+        ≡ option_or (result_ok (login_starts (Some login) (message_of view.now))) kept.old }
     ensures key_after { HasKey kept.new }
 {
     if !is_tagged(&login, view, body) {
@@ -115,7 +118,8 @@ fn judge(login: &mut Option<GpskLogin>, users: &Users, view: &GpskMessage, body:
     requires key { HasKey login.old }
     requires read { IsGpsk None (message_of view.now) body.now }
     ensures finding { result ≡ gpsk_tag_finding users.now login.old (message_of view.now) }
-    ensures stored { login.new ≡ option_or (gpsk2_of users.now (Ok (message_of view.now))) login.old }
+    ensures stored { login.new
+        ≡ option_or (gpsk2_of users.now (Ok (message_of view.now))) login.old }
     ensures key_after { HasKey login.new }
 {
     match view {
@@ -141,7 +145,8 @@ pub fn judge_body(
     requires keys { All (λ user. IsTrue (is_valid_for user.kind user.psk)) users.now }
     requires key { HasKey login.old }
     ensures finding { result ≡ gpsk_finding users.now login.old (gpsk_read to_peer body.now) }
-    ensures stored { login.new ≡ option_or (gpsk2_of users.now (gpsk_read to_peer body.now)) login.old }
+    ensures stored { login.new
+        ≡ option_or (gpsk2_of users.now (gpsk_read to_peer body.now)) login.old }
     ensures key_after { HasKey login.new }
 {
     match read_gpsk_message(body, None) {

@@ -6,7 +6,9 @@ ghost use Rattle.login_setup.specs.Setup.{is_valid_for};
 ghost use Rattle.login_keys.specs.Psk.{psk_long_of};
 ghost use Rattle.psk_messages.specs.Message.{message_of, AreFields};
 ghost use Rattle.eap_method.specs.PskTags.{header_of, is_sealed};
-ghost use Rattle.capture_check.specs.Psk.{follows_in, is_psk_astray, psk1_of, psk2_of, psk3_follows, psk4_follows, psk_starts, psk_finding, psk_login_of, psk_read, psk_tag_finding, user_starts};
+ghost use Rattle.capture_check.specs.Psk.{follows_in, is_psk_astray, psk1_of, psk2_of};
+ghost use Rattle.capture_check.specs.Psk.{psk3_follows, psk4_follows, psk_starts, psk_finding};
+ghost use Rattle.capture_check.specs.Psk.{psk_login_of, psk_read, psk_tag_finding, user_starts};
 
 use crate::finding::Finding;
 use cmac_mac::CmacKey;
@@ -176,7 +178,8 @@ fn judge(kept: &mut PskContext, users: &Users, header: &[u8], view: &PskMessage)
     requires fields { AreFields (message_of view.now) }
     ensures finding { result ≡ psk_tag_finding users.now kept.old header.now (message_of view.now) }
     ensures first { kept.new.psk1 ≡ option_or (psk1_of (Ok (message_of view.now))) kept.old.psk1 }
-    ensures login { kept.new.psk2 ≡ option_or (psk2_of users.now kept.old.psk1 (Ok (message_of view.now))) kept.old.psk2 }
+    ensures login { kept.new.psk2
+        ≡ option_or (psk2_of users.now kept.old.psk1 (Ok (message_of view.now))) kept.old.psk2 }
 {
     match view {
         PskMessage::P1(psk1) => {
@@ -216,9 +219,11 @@ pub fn judge_body(
     body: &[u8],
 ) -> Finding
     requires keys { All (λ user. IsTrue (is_valid_for user.kind user.psk)) users.now }
-    ensures finding { result ≡ psk_finding users.now kept.old octets.now (psk_read to_peer body.now) }
+    ensures finding { result
+        ≡ psk_finding users.now kept.old octets.now (psk_read to_peer body.now) }
     ensures first { kept.new.psk1 ≡ option_or (psk1_of (psk_read to_peer body.now)) kept.old.psk1 }
-    ensures login { kept.new.psk2 ≡ option_or (psk2_of users.now kept.old.psk1 (psk_read to_peer body.now)) kept.old.psk2 }
+    ensures login { kept.new.psk2
+        ≡ option_or (psk2_of users.now kept.old.psk1 (psk_read to_peer body.now)) kept.old.psk2 }
 {
     match read_psk_message(body) {
         Err(cause) => Finding::Malformed(cause),

@@ -8,7 +8,8 @@ pub mod PcapDriving
 pub mod PcapFound
 -- No line of `pcap` begins as the line of honest tags does.
 pub mod PcapQuiet
--- The users that the words `pcap NAME KIND HEX ..` name have keys of their methods' sizes, and names within a line.
+-- The users that the words `pcap NAME KIND HEX ..` name have keys of their methods' sizes, and
+-- names within a line.
 pub mod PcapUsers
 -- No line of `radius` begins as the line of honest tags does.
 pub mod RadiusQuiet

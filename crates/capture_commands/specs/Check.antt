@@ -1,5 +1,6 @@
 -- The command check: each packet of a capture is judged by the users and by all packets before it.
-use Rattle.std.specs.Prelude.{ℕ, ◌+◌, List, [], ◌∷◌, ◌++◌, length, Bool, true, false, ◌==◌, if◌then◌else◌, Result, Ok, Err}
+use Rattle.std.specs.Prelude.{ℕ, ◌+◌, List, [], ◌∷◌, ◌++◌, length, Bool, true, false, ◌==◌}
+use Rattle.std.specs.Prelude.{if◌then◌else◌, Result, Ok, Err}
 use Rattle.octet_io.specs.Lines.{lines}
 use Rattle.text_tables.specs.Words.{fault_word}
 use Rattle.request_text.specs.Captures.{Capture, CaptureLine, read_line, finish_of}
@@ -10,14 +11,16 @@ use Rattle.text_tables.specs.declared.fault.LineFault.{LineFault}
 use Rattle.capture_check.specs.Captured.{Captured}
 use Rattle.capture_check.specs.Finding.{finding_of}
 use Rattle.capture_check.specs.declared.finding.Finding.{Finding}
-use Rattle.capture_check.specs.declared.finding.Finding.TheVariants.{Good, Malformed, TagBad, TagGood, NoKey, NoContext}
+use Rattle.capture_check.specs.declared.finding.Finding.TheVariants.{Good, Malformed, TagBad}
+use Rattle.capture_check.specs.declared.finding.Finding.TheVariants.{TagGood, NoKey, NoContext}
 use Rattle.answer_text.specs.Findings.{finding_text, findings_text}
 use Rattle.command_driver.specs.Answers.{Answer}
 use Rattle.command_driver.specs.Commands.{LineResult, Closing, goes, refuses, ends, misses, answer}
 use Rattle.command_driver.specs.declared.status.Status.{Status}
 use Rattle.command_driver.specs.declared.status.Status.TheVariants as status
 
--- a capture so far: what has been read of it, its packets, and how many of them are malformed or have a bad tag
+-- a capture so far: what has been read of it, its packets, and how many of them are malformed or
+-- have a bad tag
 pub record CheckNow : Type 0 where
   pub reader : Capture
   pub before : List Captured
@@ -41,7 +44,11 @@ abbrev pub packet_result_of : CheckNow → Capture → Captured → Finding → 
 packet_result_of c reader packet finding = record {
   text = finding_text (length c.before + 1) finding;
   ruling = goes;
-  after = record { reader = reader; before = c.before ++ packet ∷ []; findings = with_finding c.findings finding };
+  after = record {
+    reader = reader;
+    before = c.before ++ packet ∷ [];
+    findings = with_finding c.findings finding;
+  };
 }
 
 -- nothing is written
@@ -52,11 +59,13 @@ abbrev pub item_result_of : CheckNow → Capture → CaptureItemKind → LineRes
 item_result_of c reader item.Nothing = silent c reader
 item_result_of c reader item.Ready = silent c reader
 item_result_of c reader (item.Packet to_peer octets) =
-    packet_result_of c reader (record { to_peer = to_peer; octets = octets }) (finding_of reader.users c.before to_peer octets)
+    packet_result_of c reader (record { to_peer = to_peer; octets = octets })
+    (finding_of reader.users c.before to_peer octets)
 item_result_of c reader item.End = silent c reader
 
 abbrev pub line_result_of : CheckNow → Result CaptureLine LineFault → LineResult CheckNow
-line_result_of c (Err fault) = record { text = []; ruling = refuses (fault_word fault) status.Refused; after = c }
+line_result_of c (Err
+    fault) = record { text = []; ruling = refuses (fault_word fault) status.Refused; after = c }
 line_result_of c (Ok line) = item_result_of c line.after line.item
 
 -- the result of a line
@@ -69,14 +78,19 @@ check_status findings = if findings == 0 then status.Done else status.Findings
 
 abbrev pub check_end : ℕ → ℕ → Result (Unit {0}) LineFault → Closing
 check_end packets findings (Err fault) = record { text = []; closed = misses (fault_word fault) }
-check_end packets findings (Ok done) = record { text = findings_text packets findings; closed = ends (check_status findings) }
+check_end packets findings (Ok
+    done) = record { text = findings_text packets findings; closed = ends (check_status findings) }
 
 -- the end of the input
 unfoldable pub check_closing : CheckNow → Closing
 check_closing c = check_end (length c.before) c.findings (finish_of c.reader)
 
 abbrev pub nothing_checked : CheckNow
-nothing_checked = record { reader = record { phase = Unread; users = [] }; before = []; findings = 0 }
+nothing_checked = record {
+  reader = record { phase = Unread; users = [] };
+  before = [];
+  findings = 0;
+}
 
 -- what a capture answers
 abbrev pub check_answer : List ℕ → Answer

@@ -15,7 +15,12 @@ use Rattle.capture_commands.specs.declared.check.Check.{Check}
 use Rattle.command_driver.specs.declared.status.Status.TheVariants as status
 
 abbrev pub first_check : Check
-first_check = record { reader = record { phase = Unread; users = [] }; checker = no_context_yet; packets = 0; findings = 0 }
+first_check = record {
+  reader = record { phase = Unread; users = [] };
+  checker = no_context_yet;
+  packets = 0;
+  findings = 0;
+}
 
 -- a packet is judged
 abbrev pub packet_step : Check → Capture → Bool → List ℕ → LineResult Check
@@ -42,7 +47,8 @@ item_step c reader (item.Packet to_peer octets) = packet_step c reader to_peer o
 item_step c reader item.End = silent_step c reader
 
 abbrev pub line_step : Check → Result CaptureLine LineFault → LineResult Check
-line_step c (Err fault) = record { text = []; ruling = refuses (fault_word fault) status.Refused; after = c }
+line_step c (Err
+    fault) = record { text = []; ruling = refuses (fault_word fault) status.Refused; after = c }
 line_step c (Ok line) = item_step c line.after line.item
 
 -- the result of a line
@@ -64,4 +70,9 @@ pub record HasJudged (c : Check) (count : ℕ) : Type 0 where
 
 -- what is kept of a capture with its packets
 abbrev pub kept_in : CheckNow → Check
-kept_in c = record { reader = c.reader; checker = context_of c.reader.users c.before; packets = length c.before; findings = c.findings }
+kept_in c = record {
+  reader = c.reader;
+  checker = context_of c.reader.users c.before;
+  packets = length c.before;
+  findings = c.findings;
+}

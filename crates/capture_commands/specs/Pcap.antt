@@ -1,6 +1,7 @@
--- The words `pcap NAME KIND HEX ..`: each EAP packet of a file of captured frames is judged by the users that the words
--- name and by all packets before it.
-use Rattle.std.specs.Prelude.{ℕ, ◌+◌, List, [], ◌∷◌, ◌++◌, length, Bool, true, ◌==◌, not, if◌then◌else◌, codes, decimal, Option, Some, None}
+-- The words `pcap NAME KIND HEX ..`: each EAP packet of a file of captured frames is judged by the
+-- users that the words name and by all packets before it.
+use Rattle.std.specs.Prelude.{ℕ, ◌+◌, List, [], ◌∷◌, ◌++◌, length, Bool, true, ◌==◌, not}
+use Rattle.std.specs.Prelude.{if◌then◌else◌, codes, decimal, Option, Some, None}
 use Rattle.std.specs.List.{concat}
 use Rattle.std.specs.Str.{bytes_eq}
 use Rattle.login_setup.specs.declared.users.User.{User}
@@ -22,7 +23,8 @@ abbrev pub pcap_users : List (List ℕ) → Option (List User)
 pcap_users [] = None
 pcap_users (word ∷ rest) = if bytes_eq word (codes "pcap") then users_named (Some []) rest else None
 
--- a packet whose first octet is 2, the code of a Response, is from the peer, every other one is to the peer
+-- a packet whose first octet is 2, the code of a Response, is from the peer, every other one is to
+-- the peer
 abbrev pub is_to_peer : List ℕ → Bool
 is_to_peer [] = true
 is_to_peer (code ∷ rest) = not (code == 2)
@@ -31,15 +33,17 @@ is_to_peer (code ∷ rest) = not (code == 2)
 unfoldable pub cut_text : ℕ → List ℕ
 cut_text number = concat (decimal number ∷ codes " eapol-cut\n" ∷ [])
 
--- the last line: how many records there were, how many of them had an EAP packet, and how many packets are malformed,
--- have a bad tag or are cut
+-- the last line: how many records there were, how many of them had an EAP packet, and how many
+-- packets are malformed, have a bad tag or are cut
 unfoldable pub records_text : ℕ → ℕ → ℕ → List ℕ
 records_text records packets findings =
-    concat (codes "records " ∷ decimal records ∷ codes " eap " ∷ decimal packets ∷ codes " findings " ∷ decimal findings ∷ codes "\n" ∷ [])
+    concat (codes "records " ∷ decimal records ∷ codes " eap " ∷ decimal packets
+    ∷ codes " findings " ∷ decimal findings ∷ codes "\n" ∷ [])
 
 -- the last line of a file that is refused: the number of the record last begun, and why
 unfoldable pub refused_record_text : ℕ → List ℕ → List ℕ
-refused_record_text number word = concat (codes "refused record " ∷ decimal number ∷ codes " " ∷ word ∷ codes "\n" ∷ [])
+refused_record_text number word =
+    concat (codes "refused record " ∷ decimal number ∷ codes " " ∷ word ∷ codes "\n" ∷ [])
 
 -- why a file is refused
 abbrev pub file_word : NextRecord → List ℕ
@@ -58,11 +62,16 @@ file_status answer.TooMuch = status.TooMuch
 file_status a = status.Refused
 
 abbrev pub file_refusal : ℕ → NextRecord → Answer
-file_refusal number a = record { text = refused_record_text number (file_word a); status = file_status a }
+file_refusal number
+    a = record { text = refused_record_text number (file_word a); status = file_status a }
 
--- the answer to a file's end, if the last record begun has this number; no file ends with Record or Read
+-- the answer to a file's end, if the last record begun has this number; no file ends with Record or
+-- Read
 abbrev pub file_end : ℕ → ℕ → ℕ → NextRecord → Answer
-file_end number packets findings answer.End = record { text = records_text number packets findings; status = check_status findings }
+file_end number packets findings answer.End = record {
+  text = records_text number packets findings;
+  status = check_status findings;
+}
 file_end number packets findings a = file_refusal number a
 
 -- a file so far: how many records it has, the EAP packets in them, and how many findings count

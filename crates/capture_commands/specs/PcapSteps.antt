@@ -18,7 +18,8 @@ pub record RecordStep : Type 0 where
 
 unfoldable pub record_step : List User → PcapTotals → ℕ → Carried → RecordStep
 record_step users f number other = record { text = []; after = f }
-record_step users f number cut = record { text = cut_text number; after = record f { findings = f.findings + 1 } }
+record_step users f number
+    cut = record { text = cut_text number; after = record f { findings = f.findings + 1 } }
 record_step users f number (eap octets) =
     let finding = finding_in users f.checker (is_to_peer octets) octets in
     record {
@@ -35,7 +36,8 @@ unfoldable pub answer_from : List User → ℕ → PcapTotals → Contents → A
 answer_from users number f (ends begun a) = file_end (number + begun) f.packets f.findings a
 answer_from users number f (record_of frame rest) =
     after_text (record_step users f (number + 1) (contents_of frame)).text
-    (answer_from users (number + 1) (record_step users f (number + 1) (contents_of frame)).after rest)
+    (answer_from users (number + 1)
+    (record_step users f (number + 1) (contents_of frame)).after rest)
 
 abbrev pub nothing_found : PcapTotals
 nothing_found = record { checker = no_context_yet; packets = 0; findings = 0 }
@@ -47,4 +49,8 @@ pub record HasFound (f : PcapTotals) (number : ℕ) : Type 0 where
 
 -- what is kept of a file with its packets
 abbrev pub found_in : List User → PcapNow → PcapTotals
-found_in users f = record { checker = context_of users f.before; packets = length f.before; findings = f.findings }
+found_in users f = record {
+  checker = context_of users f.before;
+  packets = length f.before;
+  findings = f.findings;
+}

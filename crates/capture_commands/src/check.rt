@@ -69,7 +69,8 @@ impl Check {
     /// The end of the input, after the line `end`.
     #[tactic(auto, unfolding(answer_text::specs::Writes::Appends))]
     fn end<W: Sink>(&self, sink: &mut W) -> Result<Close, Failed>
-        ensures { AnswersEnd W.shown result sink.old sink.new (check_end self.now.packets self.now.findings (Ok tt)) }
+        ensures { AnswersEnd W.shown result sink.old sink.new
+            (check_end self.now.packets self.now.findings (Ok tt)) }
     {
         write_finding_counts(sink, self.packets, self.findings)?;
         if self.findings == 0 {
@@ -82,7 +83,8 @@ impl Check {
 
 impl Command for Check {
     ghost use Rattle.capture_commands.specs.declared.check.Check.{Check};
-    ghost use Rattle.capture_commands.specs.CheckSteps.{check_step, step_closing, step_lacks, HasJudged};
+    ghost use Rattle.capture_commands.specs.CheckSteps.{check_step, step_closing, step_lacks};
+    ghost use Rattle.capture_commands.specs.CheckSteps.{HasJudged};
 
     ghost Seen = { Check };
 
@@ -121,7 +123,8 @@ impl Command for Check {
 /// Reads a capture and writes the finding of each packet. The status is `Findings` if the capture was read to its
 /// end and a packet is malformed or has a bad tag. It allocates no memory.
 pub fn check_capture<S: Source, W: Sink>(source: &mut S, sink: &mut W) -> Status
-    ensures { Responds S.shown W.shown (reading check_answer never) result source.old source.new sink.old sink.new }
+    ensures { Responds S.shown W.shown (reading check_answer never)
+        result source.old source.new sink.old sink.new }
 {
     drive(&mut Check::new(), source, sink)
 }

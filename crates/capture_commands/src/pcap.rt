@@ -1,13 +1,15 @@
 //! The command `pcap`: judges the tags of the EAP packets in a file of captured Ethernet frames.
 
-ghost use Rattle.std.specs.Prelude.{◌≡◌, ◌<◌, ◌^◌, ℕ, List, Option, [], map, string_bytes, All, IsTrue};
+ghost use Rattle.std.specs.Prelude.{◌≡◌, ◌<◌, ◌^◌, ℕ, List, Option, [], map, string_bytes, All};
+ghost use Rattle.std.specs.Prelude.{IsTrue};
 ghost use Rattle.login_setup.specs.Setup.{is_valid_for};
 ghost use Rattle.eapol_capture.specs.Frames.{contents_of};
 ghost use Rattle.eapol_capture.specs.Reading.{Exhausts};
 ghost use Rattle.text_tables.specs.UserWords.{read_as};
 ghost use Rattle.command_driver.specs.Answers.{Finishes, Drains, IsRefusal};
 ghost use Rattle.command_driver.specs.Responding.{Responds, reading, never};
-ghost use Rattle.capture_commands.specs.Pcap.{pcap_users, pcap_answer, is_to_peer, cut_text, records_text, refused_record_text};
+ghost use Rattle.capture_commands.specs.Pcap.{pcap_users, pcap_answer, is_to_peer, cut_text};
+ghost use Rattle.capture_commands.specs.Pcap.{records_text, refused_record_text};
 ghost use Rattle.capture_commands.specs.Pcap.{file_word, file_status, file_refusal, file_end};
 ghost use Rattle.answer_text.specs.Writes.{Appends};
 
@@ -83,7 +85,8 @@ impl PcapTotals {
         requires findings { self.old.findings < 2 ^ 31 }
         ensures appends { Appends W.shown result sink.old sink.new
             (record_step users.now self.old number (contents_of frame.now)).text }
-        ensures after { self.new ≡ (record_step users.now self.old number (contents_of frame.now)).after }
+        ensures after { self.new
+            ≡ (record_step users.now self.old number (contents_of frame.now)).after }
     {
         match contents_of_frame(frame) {
             FrameContents::Other => Ok(()),

@@ -7,7 +7,8 @@ ghost use Rattle.radius_carry.specs.Fault.{value_of};
 ghost use Rattle.answer_text.specs.Writes.{Appends};
 ghost use Rattle.command_driver.specs.Responding.{Responds, reading, never};
 ghost use Rattle.capture_commands.specs.Radius.{radius_answer};
-ghost use Rattle.capture_commands.specs.Radius.{code_of, good_or_bad, judgement_of, context_after, kind_word, judgement_word, packet_line, read_text};
+ghost use Rattle.capture_commands.specs.Radius.{code_of, good_or_bad, judgement_of, context_after};
+ghost use Rattle.capture_commands.specs.Radius.{kind_word, judgement_word, packet_line, read_text};
 ghost use Rattle.capture_commands.specs.Radius.{reply_judged, word_line};
 
 use answer_text::Piece::{Hex, Number, Text};
@@ -160,7 +161,8 @@ fn judged_reply(secret: &[u8], asked: &Option<PendingRequest>, view: &RadiusView
 }
 
 impl Radius {
-    ghost use Rattle.capture_commands.specs.Radius.{nothing_asked, reply_step, read_result_of, item_result_of};
+    ghost use Rattle.capture_commands.specs.Radius.{nothing_asked, reply_step, read_result_of};
+    ghost use Rattle.capture_commands.specs.Radius.{item_result_of};
     ghost use Rattle.radius_carry.specs.Fault.{packet_of};
     ghost use Rattle.command_driver.specs.Commands.{AnswersLine};
     ghost use Rattle.request_text.specs.declared.radius_line.RadiusItem.TheVariants as item;
@@ -181,7 +183,9 @@ impl Radius {
     fn judge(&mut self, view: &RadiusView) -> Judgement
         requires { IsRadius (value_of view.now) view.now.whole.now }
         ensures judged { result ≡ judgement_of self.old.secret self.old.asked (value_of view.now) }
-        ensures stored { self.new ≡ record self.old { asked = context_after self.old.secret self.old.asked (value_of view.now) } }
+        ensures stored { self.new ≡ record self.old {
+          asked = context_after self.old.secret self.old.asked (value_of view.now);
+        } }
     {
         match view.kind {
             RadiusKind::Request => {
@@ -209,7 +213,8 @@ impl Radius {
         eap: &Packet,
     ) -> Result<Next, Trouble>
         ensures answers { AnswersLine W.shown result sink.old sink.new
-            (item_result_of self.old (item.Request asked.id asked.authenticator user.now state.now eap.now)) false self.new }
+            (item_result_of self.old
+            (item.Request asked.id asked.authenticator user.now state.now eap.now)) false self.new }
     {
         let packet = write_request(
             self.secret.as_slice(),
@@ -329,7 +334,8 @@ impl Command for Radius {
 /// Reads a text of RADIUS packets, writes requests and replies, and says what packets are. It allocates no memory.
 #[tactic(auto, using(command_driver::proofs::Responding::never_lacks))]
 pub fn answer_radius<S: Source, W: Sink>(source: &mut S, sink: &mut W) -> Status
-    ensures { Responds S.shown W.shown (reading radius_answer never) result source.old source.new sink.old sink.new }
+    ensures { Responds S.shown W.shown (reading radius_answer never)
+        result source.old source.new sink.old sink.new }
 {
     drive(&mut Radius::new(), source, sink)
 }

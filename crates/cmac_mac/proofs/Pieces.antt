@@ -1,5 +1,6 @@
 -- A text that is fed piece by piece.
-use Rattle.std.proofs.Common.{◌≡◌, ℕ, ◌+◌, ◌<◌, ◌≤◌, List, [], ◌∷◌, ◌++◌, length, take, map, get_or, Bor, refl, sym, ap, subst, ◌∙◌, append_assoc, append-nil}
+use Rattle.std.proofs.Common.{◌≡◌, ℕ, ◌+◌, ◌<◌, ◌≤◌, List, [], ◌∷◌, ◌++◌, length, take, map, get_or}
+use Rattle.std.proofs.Common.{Bor, refl, sym, ap, subst, ◌∙◌, append_assoc, append-nil}
 use Rattle.std.specs.List.{concat}
 use Rattle.std.proofs.lemmas.List.{take_all, take_more}
 
@@ -9,7 +10,8 @@ joined pieces = concat (map (λ p. p.now) pieces)
 
 joined_append : (xs ys : List (Bor (List ℕ))) → joined (xs ++ ys) ≡ joined xs ++ joined ys
 joined_append [] ys = refl
-joined_append (x ∷ xs) ys = ap (λ l. x.now ++ l) (joined_append xs ys) ∙ sym (append_assoc x.now (joined xs) (joined ys))
+joined_append (x ∷ xs) ys =
+    ap (λ l. x.now ++ l) (joined_append xs ys) ∙ sym (append_assoc x.now (joined xs) (joined ys))
 
 -- one piece more
 joined_more : (pieces : List (Bor (List ℕ))) (i : ℕ) (d : Bor (List ℕ)) → i < length pieces
@@ -24,10 +26,13 @@ pub fed_none : (P : List ℕ → Type 0) (front : List ℕ) → P front → P (f
 fed_none P front h = subst P (sym (append-nil front)) h
 
 -- after one piece more
-pub fed_more : (P : List ℕ → Type 0) (front : List ℕ) (pieces : List (Bor (List ℕ))) (i : ℕ) (d : Bor (List ℕ)) → i < length pieces
-    → P ((front ++ joined (take i pieces)) ++ (get_or pieces i d).now) → P (front ++ joined (take (i + 1) pieces))
+pub fed_more : (P : List ℕ → Type 0) (front : List ℕ) (pieces : List (Bor (List ℕ))) (i : ℕ)
+    (d : Bor (List ℕ)) → i < length pieces
+    → P ((front ++ joined (take i pieces)) ++ (get_or pieces i d).now)
+    → P (front ++ joined (take (i + 1) pieces))
 fed_more P front pieces i d h fed =
-    subst P (append_assoc front (joined (take i pieces)) (get_or pieces i d).now ∙ ap (λ l. front ++ l) (sym (joined_more pieces i d h))) fed
+    subst P (append_assoc front (joined (take i pieces)) (get_or pieces i d).now
+    ∙ ap (λ l. front ++ l) (sym (joined_more pieces i d h))) fed
 
 -- after all pieces
 pub fed_all : (front : List ℕ) (pieces : List (Bor (List ℕ))) (i : ℕ) → length pieces ≤ i

@@ -1,5 +1,7 @@
 -- AES-CMAC (RFC 4493) of a whole text. A block is a list of sixteen octets.
-use Rattle.std.specs.Prelude.{ℕ, zero, suc, ◌-◌, ◌*◌, ◌/◌, ◌%◌, ◌^◌, ◌==◌, nat_lt, if◌then◌else◌, List, [], ◌∷◌, ◌++◌, length, take, drop, replicate, slice_index, bit_xor}
+use Rattle.std.specs.Prelude.{ℕ, zero, suc, ◌-◌, ◌*◌, ◌/◌, ◌%◌, ◌^◌, ◌==◌, nat_lt, if◌then◌else◌}
+use Rattle.std.specs.Prelude.{List, [], ◌∷◌, ◌++◌, length, take, drop, replicate, slice_index}
+use Rattle.std.specs.Prelude.{bit_xor}
 use Rattle.std.specs.Int.{w128, from_be_bytes, to_be_bytes}
 use Rattle.aes_block.specs.Cipher.{aes128}
 
@@ -36,8 +38,8 @@ first_subkey key = doubled (aes128 key zero_block)
 abbrev pub second_subkey : List ℕ → List ℕ
 second_subkey key = doubled (first_subkey key)
 
--- the last octets of a text, made a block: a whole block is combined with K1, any other is padded by
--- one bit 1 and zeros and combined with K2 (2.4)
+-- the last octets of a text, made a block: a whole block is combined with K1, any other is padded
+-- by one bit 1 and zeros and combined with K2 (2.4)
 unfoldable pub last_block : List ℕ → List ℕ → List ℕ
 last_block key end = if length end == 16
     then xor_blocks end (first_subkey key)
@@ -59,4 +61,5 @@ chain key text (suc n) = aes128 key (xor_blocks (chain key text n) (block_at tex
 -- the tag of a text (2.4)
 unfoldable pub aes_cmac : List ℕ → List ℕ → List ℕ
 aes_cmac key text =
-    aes128 key (xor_blocks (chain key text (inner_count text)) (last_block key (drop (16 * inner_count text) text)))
+    aes128 key (xor_blocks (chain key text (inner_count text))
+    (last_block key (drop (16 * inner_count text) text)))

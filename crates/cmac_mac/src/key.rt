@@ -94,7 +94,8 @@ impl CmacKey {
 
     // The tag of what is taken in.
     pub(crate) fn finish(&self, taken: &ChainState) -> [u8; 16]
-        ensures { (text : List ℕ) → HasChained taken.now self.now text → result ≡ aes_cmac self.now text }
+        ensures { (text : List ℕ) → HasChained taken.now self.now text
+            → result ≡ aes_cmac self.now text }
     {
         let last = self.last_block(&taken.held, taken.count);
         self.cipher.encrypt(&xor_blocks(&taken.chain, &last))
@@ -102,7 +103,8 @@ impl CmacKey {
 
     // The last block (section 2.4), made of the first `count` octets of what is held; zeros follow them.
     fn last_block(&self, held: &[u8; 16], count: usize) -> [u8; 16]
-        ensures { (end : List ℕ) → IsPending held.now count end → result ≡ spec.last_block self.now end }
+        ensures { (end : List ℕ) → IsPending held.now count end
+            → result ≡ spec.last_block self.now end }
     {
         if count < 16 {
             let mut padded = *held;

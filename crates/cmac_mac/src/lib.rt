@@ -39,7 +39,8 @@ impl Cmac {
     /// Appends a piece to the text.
     #[tactic(auto, unfolding(crate::specs::Represents::Represents))]
     pub fn update(&mut self, piece: &[u8])
-        ensures { (key text : List ℕ) → Represents self.old key text → Represents self.new key (text ++ piece.now) }
+        ensures { (key text : List ℕ) → Represents self.old key text
+            → Represents self.new key (text ++ piece.now) }
     {
         self.taken.update(&self.key, piece);
     }

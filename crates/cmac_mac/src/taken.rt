@@ -37,7 +37,8 @@ impl ChainState {
 
     // Appends a piece to the text.
     pub(crate) fn update(&mut self, key: &CmacKey, piece: &[u8])
-        ensures { (text : List ℕ) → HasChained self.old key.now text → HasChained self.new key.now (text ++ piece.now) }
+        ensures { (text : List ℕ) → HasChained self.old key.now text
+            → HasChained self.new key.now (text ++ piece.now) }
     {
         let room = BLOCK_LEN - self.count;
         if piece.len() <= room {
@@ -52,7 +53,8 @@ impl ChainState {
     // Appends octets for which the block has room.
     fn append(&mut self, octets: &[u8])
         requires { self.old.count + length octets.now ≤ 16 }
-        ensures chained { (key text : List ℕ) (n : ℕ) → IsInChain self.old.chain self.old.held self.old.count key text n
+        ensures chained { (key text : List ℕ) (n : ℕ)
+            → IsInChain self.old.chain self.old.held self.old.count key text n
             → IsInChain self.new.chain self.new.held self.new.count key (text ++ octets.now) n }
         ensures count { self.new.count ≡ self.old.count + length octets.now }
     {
@@ -65,7 +67,8 @@ impl ChainState {
     fn chain_in(&mut self, cipher: &Aes128, octets: &[u8])
         requires full { self.old.count ≡ 16 }
         requires more { 1 ≤ length octets.now }
-        ensures { (text : List ℕ) (n : ℕ) → IsInChain self.old.chain self.old.held self.old.count cipher.now text n
+        ensures { (text : List ℕ) (n : ℕ)
+            → IsInChain self.old.chain self.old.held self.old.count cipher.now text n
             → HasChained self.new cipher.now (text ++ octets.now) }
     {
         let inner = (octets.len() - 1) / BLOCK_LEN;

@@ -3,7 +3,8 @@ use Rattle.std.proofs.Common.{◌≡◌, ◌≤◌, ℕ, List, Bool, false, Some
 use Rattle.octet_io.specs.Known.{append_known}
 use Rattle.octet_io.specs.Shown.{Shown}
 use Rattle.answer_text.specs.Writes.{WritesFront}
-use Rattle.command_driver.specs.Answers.{Answer, after_text, Ends, cut_short, by_read, by_write, by_memory, Drains, Finishes, IsWritten}
+use Rattle.command_driver.specs.Answers.{Answer, after_text, Ends, cut_short, by_read, by_write}
+use Rattle.command_driver.specs.Answers.{by_memory, Drains, Finishes, IsWritten}
 use Rattle.command_driver.specs.Commands.{SomeLacks}
 use Rattle.command_driver.specs.Responding.{Lacking, MayLack, never, Reads}
 use Rattle.command_driver.specs.declared.status.Status.{Status}
@@ -12,10 +13,13 @@ use Rattle.command_driver.proofs.Endings.{preserves_writes_from, ends_after, end
 
 module _ {S W : Type 0} {source : Shown S} {sink : Shown W} where
   -- by an answer to what was left
-  pub finished : {answer : List ℕ → Answer} {lacking : Lacking} {before now : S} {old mid new : W} {result : Status} {a : Answer}
+  pub finished : {answer : List ℕ → Answer} {lacking : Lacking} {before now : S} {old mid new : W}
+      {result : Status} {a : Answer}
       → Finishes sink result mid new a
-      → ((octets : List ℕ) → source.octets before ≡ Some octets → Ends result (sink.octets old) (sink.octets new) (answer octets))
-      → Drains result (source.octets now) → source.faults now ≡ source.faults before → sink.faults mid ≡ sink.faults old
+      → ((octets : List ℕ) → source.octets before ≡ Some octets
+      → Ends result (sink.octets old) (sink.octets new) (answer octets))
+      → Drains result (source.octets now) → source.faults now ≡ source.faults before
+      → sink.faults mid ≡ sink.faults old
       → Reads source sink answer lacking result before now old new
   finished {result = result} f ends drains same_reads same_writes = record {
     ends = ends;
@@ -29,7 +33,8 @@ module _ {S W : Type 0} {source : Shown S} {sink : Shown W} where
 
   -- by a write that failed
   pub cut : {answer : List ℕ → Answer} {lacking : Lacking} {before now : S} {old new : W} {mid : ℕ}
-      → ((octets : List ℕ) → source.octets before ≡ Some octets → WritesFront (sink.octets old) (sink.octets new) (answer octets).text)
+      → ((octets : List ℕ) → source.octets before ≡ Some octets
+      → WritesFront (sink.octets old) (sink.octets new) (answer octets).text)
       → source.faults now ≡ source.faults before → mid ≡ sink.faults old
       → (sink.faults new ≤ mid → sink.most_faults ≡ Some (sink.faults new))
       → Reads source sink answer lacking status.WriteFault before now old new
@@ -44,9 +49,12 @@ module _ {S W : Type 0} {source : Shown S} {sink : Shown W} where
   }
 
   -- by a read that failed
-  pub unreadable : {answer : List ℕ → Answer} {lacking : Lacking} {before now : S} {old new : W} {mid : ℕ}
-      → ((octets : List ℕ) → source.octets before ≡ Some octets → WritesFront (sink.octets old) (sink.octets new) (answer octets).text)
-      → mid ≡ source.faults before → (source.faults now ≤ mid → source.most_faults ≡ Some (source.faults now)) → sink.faults new ≡ sink.faults old
+  pub unreadable : {answer : List ℕ → Answer} {lacking : Lacking} {before now : S}
+      {old new : W} {mid : ℕ}
+      → ((octets : List ℕ) → source.octets before ≡ Some octets
+      → WritesFront (sink.octets old) (sink.octets new) (answer octets).text)
+      → mid ≡ source.faults before → (source.faults now ≤ mid
+      → source.most_faults ≡ Some (source.faults now)) → sink.faults new ≡ sink.faults old
       → Reads source sink answer lacking status.ReadFault before now old new
   unreadable front same_reads risen same_writes = record {
     ends = λ octets e. cut_short (by_read refl) (front octets e);
@@ -60,8 +68,10 @@ module _ {S W : Type 0} {source : Shown S} {sink : Shown W} where
 
   -- for want of memory
   pub lacked : {answer : List ℕ → Answer} {lacking : Lacking} {before now : S} {old new : W}
-      → ((octets : List ℕ) → source.octets before ≡ Some octets → WritesFront (sink.octets old) (sink.octets new) (answer octets).text)
-      → source.faults now ≡ source.faults before → sink.faults new ≡ sink.faults old → MayLack lacking (source.octets before)
+      → ((octets : List ℕ) → source.octets before ≡ Some octets
+      → WritesFront (sink.octets old) (sink.octets new) (answer octets).text)
+      → source.faults now ≡ source.faults before → sink.faults new ≡ sink.faults old
+      → MayLack lacking (source.octets before)
       → Reads source sink answer lacking status.Memory before now old new
   lacked front same_reads same_writes may = record {
     ends = λ octets e. cut_short (by_memory refl) (front octets e);
@@ -74,14 +84,16 @@ module _ {S W : Type 0} {source : Shown S} {sink : Shown W} where
   }
 
   -- a text was written before, and the answer is another one's after it
-  pub reads_after : {answer whole : List ℕ → Answer} {lacking may : Lacking} {before now : S} {old mid new : W} {result : Status} (front : List ℕ)
+  pub reads_after : {answer whole : List ℕ → Answer} {lacking may : Lacking} {before now : S}
+      {old mid new : W} {result : Status} (front : List ℕ)
       → append_known (sink.octets old) front ≡ sink.octets mid → sink.faults mid ≡ sink.faults old
       → ((octets : List ℕ) → whole octets ≡ after_text front (answer octets))
       → (MayLack lacking (source.octets before) → MayLack may (source.octets before))
       → Reads source sink answer lacking result before now mid new
       → Reads source sink whole may result before now old new
   reads_after {result = result} front text same_writes is may r = record {
-    ends = λ octets e. ends_same result _ _ _ _ (is octets) (ends_after result _ _ _ front _ text (r.ends octets e));
+    ends = λ octets e. ends_same result _ _ _ _ (is octets)
+        (ends_after result _ _ _ front _ text (r.ends octets e));
     drains = r.drains;
     read_fault = r.read_fault;
     write_fault = λ w h. r.write_fault w (omega (arith, h, same_writes));
@@ -91,8 +103,10 @@ module _ {S W : Type 0} {source : Shown S} {sink : Shown W} where
   }
 
   -- the same answer, where no line of a command may lack memory
-  pub never_lacks : {C : Type 0} {lacks : C → List ℕ → Bool} {answer same : List ℕ → Answer} {lacking : Lacking} {before now : S} {old new : W} {result : Status}
-      → ((c : C) (line : List ℕ) → lacks c line ≡ false) → ((octets : List ℕ) → same octets ≡ answer octets)
+  pub never_lacks : {C : Type 0} {lacks : C → List ℕ → Bool} {answer same : List ℕ → Answer}
+      {lacking : Lacking} {before now : S} {old new : W} {result : Status}
+      → ((c : C) (line : List ℕ) → lacks c line ≡ false)
+      → ((octets : List ℕ) → same octets ≡ answer octets)
       → (result ≡ status.Memory → SomeLacks lacks)
       → Reads source sink answer lacking result before now old new
       → Reads source sink same never result before now old new
@@ -103,5 +117,6 @@ module _ {S W : Type 0} {source : Shown S} {sink : Shown W} where
     write_fault = r.write_fault;
     reads = r.reads;
     writes = r.writes;
-    memory = λ w. let some = wanting w in let no = none some.command some.text in let yes = some.wanting in cc;
+    memory = λ w. let some = wanting w in let no = none some.command some.text in
+        let yes = some.wanting in cc;
   }

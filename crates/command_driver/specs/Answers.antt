@@ -29,8 +29,8 @@ pub data IsCutShort (s : Status) : Type 0 where
   by_write : s ≡ status.WriteFault → IsCutShort s
   by_memory : s ≡ status.Memory → IsCutShort s
 
--- how a run ends: the whole text of the answer was written, and the status is the answer's; or the run was cut short,
--- and a prefix of the text was written
+-- how a run ends: the whole text of the answer was written, and the status is the answer's; or the
+-- run was cut short, and a prefix of the text was written
 pub data Ends (s : Status) (before now : Option (List ℕ)) (a : Answer) : Type 0 where
   entire : append_known before a.text ≡ now → a.status ≡ s → Ends s before now a
   cut_short : IsCutShort s → WritesFront before now a.text → Ends s before now a
@@ -62,9 +62,10 @@ KeepsReads s before now = s ≢ status.ReadFault → now ≡ before
 abbrev pub KeepsWrites : Status → ℕ → ℕ → Type 0
 KeepsWrites s before now = s ≢ status.WriteFault → now ≡ before
 
--- how a run ends that only writes an answer: a write failed only if the count of faults rose, or is at its
--- last value, and wherever it rose; that count never falls
-pub record Finishes {S : Type 0} (shown : Shown S) (result : Status) (before now : S) (a : Answer) : Type 0 where
+-- how a run ends that only writes an answer: a write failed only if the count of faults rose, or is
+-- at its last value, and wherever it rose; that count never falls
+pub record Finishes {S : Type 0} (shown : Shown S) (result : Status) (before now : S)
+    (a : Answer) : Type 0 where
   pub ends : Ends result (shown.octets before) (shown.octets now) a
   pub written_only : IsWritten result
   pub counted : result ≡ status.WriteFault → HasRisen shown before now

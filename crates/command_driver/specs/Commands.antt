@@ -1,5 +1,6 @@
 -- A command that reads lines: the result of each line, and of the end of the input.
-use Rattle.std.specs.Prelude.{◌≡◌, ℕ, ◌+◌, List, [], Bool, true, false, ◌||◌, ◌≤◌, Option, Result, Ok, Err, OnOk, OnErr}
+use Rattle.std.specs.Prelude.{◌≡◌, ℕ, ◌+◌, List, [], Bool, true, false, ◌||◌, ◌≤◌, Option, Result}
+use Rattle.std.specs.Prelude.{Ok, Err, OnOk, OnErr}
 use Rattle.octet_io.specs.Known.{append_known}
 use Rattle.octet_io.specs.Lines.{Lines, max_input, ended, too_long, too_much, line}
 use Rattle.octet_io.specs.declared.source.Failed.{Failed}
@@ -59,7 +60,8 @@ module _ {C : Type 0} (took : C → List ℕ → LineResult C) (closing : C → 
   answer n c too_long = overlong (n + 1)
   answer n c too_much = overlong (n + 1)
   answer n c (line l rest) =
-      after_text (took c l).text (after_ruling (n + 1) (took c l).ruling (answer (n + 1) (took c l).after rest))
+      after_text (took c l).text
+      (after_ruling (n + 1) (took c l).ruling (answer (n + 1) (took c l).after rest))
 
 -- whether some line that the command comes to may fail for want of memory
 module _ {C : Type 0} (took : C → List ℕ → LineResult C) (lacks : C → List ℕ → Bool) where
@@ -67,22 +69,26 @@ module _ {C : Type 0} (took : C → List ℕ → LineResult C) (lacks : C → Li
   lacking c ended = false
   lacking c too_long = false
   lacking c too_much = false
-  lacking c (line l rest) = lacks c l || lacking_after (took c l).ruling (lacking (took c l).after rest)
+  lacking c (line l rest) =
+      lacks c l || lacking_after (took c l).ruling (lacking (took c l).after rest)
 
 -- a line was taken, its text written, and the command is as it is after it
-pub record HasContinued {C : Type 0} (t : LineResult C) (before now : Option (List ℕ)) (new : C) : Type 0 where
+pub record HasContinued {C : Type 0} (t : LineResult C) (before now : Option (List ℕ))
+    (new : C) : Type 0 where
   pub ruling : t.ruling ≡ goes
   pub text : append_known before t.text ≡ now
   pub after : t.after ≡ new
 
 -- a line was refused
-pub record Stops {C : Type 0} (t : LineResult C) (before now : Option (List ℕ)) (word : List ℕ) (s : Status) : Type 0 where
+pub record Stops {C : Type 0} (t : LineResult C) (before now : Option (List ℕ)) (word : List ℕ)
+    (s : Status) : Type 0 where
   pub ruling : t.ruling ≡ refuses word s
   pub text : append_known before t.text ≡ now
   pub refusal : IsRefusal s
 
 -- what a command does with one line
-abbrev pub IsLineResult : {C : Type 0} → Result Next Trouble → LineResult C → Option (List ℕ) → Option (List ℕ) → C → Type 0
+abbrev pub IsLineResult : {C : Type 0} → Result Next Trouble → LineResult C → Option (List ℕ)
+    → Option (List ℕ) → C → Type 0
 IsLineResult (Ok Proceed) t before now after = HasContinued t before now after
 IsLineResult (Ok (Refuses word s)) t before now after = Stops t before now word.now s
 IsLineResult (Err trouble) t before now after = WritesFront before now t.text
@@ -118,14 +124,16 @@ PreservesFaults shown (Err trouble.Write) before now = Unit {0}
 PreservesFaults shown (Err trouble.Memory) before now = shown.faults now ≡ shown.faults before
 
 -- what a command does to a sink at one line, by what the sink shows of itself
-pub record AnswersLine {C S : Type 0} (shown : Shown S) (result : Result Next Trouble) (before now : S) (t : LineResult C) (lacks : Bool) (after : C) : Type 0 where
+pub record AnswersLine {C S : Type 0} (shown : Shown S) (result : Result Next Trouble)
+    (before now : S) (t : LineResult C) (lacks : Bool) (after : C) : Type 0 where
   pub takes : IsLineResult result t (shown.octets before) (shown.octets now) after
   pub trouble : Troubles shown result before now lacks
   pub uncounted : PreservesFaults shown result before now
   pub never_falls : shown.faults before ≤ shown.faults now
 
 -- what a command does to a sink at the end of the input
-pub record AnswersEnd {S : Type 0} (shown : Shown S) (result : Result Close Failed) (before now : S) (t : Closing) : Type 0 where
+pub record AnswersEnd {S : Type 0} (shown : Shown S) (result : Result Close Failed) (before now : S)
+    (t : Closing) : Type 0 where
   pub closes : Closes result t (shown.octets before) (shown.octets now)
   pub counted : OnErr result (HasRisen shown before now)
   pub uncounted : OnOk result (shown.faults now ≡ shown.faults before)

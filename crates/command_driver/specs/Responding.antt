@@ -31,21 +31,24 @@ lacking_of (reading answer lacking) = lacking
 lacking_of (unread a lacking) = lacking
 
 -- by what a sink shows of itself: an answer was given that reads nothing from a source
-pub record IsAnswered {W : Type 0} (sink : Shown W) (a : Answer) (lacking : Lacking) (result : Status) (old new : W) : Type 0 where
+pub record IsAnswered {W : Type 0} (sink : Shown W) (a : Answer) (lacking : Lacking)
+    (result : Status) (old new : W) : Type 0 where
   pub ends : Ends result (sink.octets old) (sink.octets new) a
   pub no_read_fault : result ≢ status.ReadFault
   pub write_fault : result ≡ status.WriteFault → HasRisen sink old new
   pub writes : KeepsWrites result (sink.faults old) (sink.faults new)
   pub memory : result ≡ status.Memory → (left : Option (List ℕ)) → MayLack lacking left
 
--- by what a source and a sink show of themselves: what is left and what was written, the counts of faults, and
--- the last values of those counts
+-- by what a source and a sink show of themselves: what is left and what was written, the counts of
+-- faults, and the last values of those counts
 module _ {S W : Type 0} (source : Shown S) (sink : Shown W) where
   -- an input was read and answered
-  pub record Reads (answer : List ℕ → Answer) (lacking : Lacking) (result : Status) (before now : S) (old new : W) : Type 0 where
-    -- with status 0, 1, 2, 6 or 7 the whole text was written and the status is that of the answer; with 3, 4 or 5
-    -- a prefix of the text was
-    pub ends : (octets : List ℕ) → source.octets before ≡ Some octets → Ends result (sink.octets old) (sink.octets new) (answer octets)
+  pub record Reads (answer : List ℕ → Answer) (lacking : Lacking) (result : Status) (before now : S)
+      (old new : W) : Type 0 where
+    -- with status 0, 1, 2, 6 or 7 the whole text was written and the status is that of the answer;
+    -- with 3, 4 or 5 a prefix of the text was
+    pub ends : (octets : List ℕ) → source.octets before ≡ Some octets
+        → Ends result (sink.octets old) (sink.octets new) (answer octets)
     -- with status 0 or 7 nothing is left to read
     pub drains : Drains result (source.octets now)
     -- a fault is answered only if its count rose, or is at its last value, and wherever it rose
@@ -56,11 +59,13 @@ module _ {S W : Type 0} (source : Shown S) (sink : Shown W) where
     pub memory : result ≡ status.Memory → MayLack lacking (source.octets before)
 
   -- an answer was given, and the source is as it was
-  pub record Rests (a : Answer) (lacking : Lacking) (result : Status) (before now : S) (old new : W) : Type 0 where
+  pub record Rests (a : Answer) (lacking : Lacking) (result : Status) (before now : S)
+      (old new : W) : Type 0 where
     pub says : IsAnswered sink a lacking result old new
     pub untouched : now ≡ before
 
   -- either
   abbrev pub Responds : Asked → Status → S → S → W → W → Type 0
-  Responds (reading answer lacking) result before now old new = Reads answer lacking result before now old new
+  Responds (reading answer lacking) result before now old new =
+      Reads answer lacking result before now old new
   Responds (unread a lacking) result before now old new = Rests a lacking result before now old new

@@ -70,9 +70,11 @@ pub trait Command {
     /// Takes a line and writes its answer.
     fn handle_line<W: Sink>(&mut self, sink: &mut W, line: &[u8]) -> Result<Next, Trouble>
         requires { AfterLines is_valid_after self.old }
-        ensures valid_after { IfOk result (λ next. (lines : ℕ) → is_valid_after self.old lines → is_valid_after self.new (lines + 1)) }
+        ensures valid_after { IfOk result (λ next. (lines : ℕ) → is_valid_after self.old lines
+            → is_valid_after self.new (lines + 1)) }
         ensures answers { AnswersLine W.shown result sink.old sink.new
-            (line_result (seen self.old) line.now) (lacks (seen self.old) line.now) (seen self.new) };
+            (line_result (seen self.old) line.now) (lacks (seen self.old) line.now)
+            (seen self.new) };
 
     /// Handles the end of the input and writes its answer.
     fn close<W: Sink>(&self, sink: &mut W) -> Result<Close, Failed>

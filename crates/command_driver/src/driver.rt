@@ -26,7 +26,8 @@ fn refuse<W: Sink>(sink: &mut W, line: u32, word: &str, status: Status) -> Statu
 
 /// Handles the end of the input, if the next line would have the number `line`.
 fn close<C: Command, W: Sink>(command: &C, sink: &mut W, line: u32) -> Status
-    ensures { Finishes W.shown result sink.old sink.new (closing_answer line (C.closing (C.seen command.now))) }
+    ensures { Finishes W.shown result sink.old sink.new
+        (closing_answer line (C.closing (C.seen command.now))) }
 {
     match command.close(sink) {
         Ok(Close::Ends(status)) => status,
@@ -44,7 +45,8 @@ pub fn drive<C: Command, S: Source, W: Sink>(
 ) -> Status
     requires { C.is_valid_after command.old 0 }
     ensures responds { Responds S.shown W.shown
-        (driven C.line_result C.closing C.lacks (C.seen command.old)) result source.old source.new sink.old sink.new }
+        (driven C.line_result C.closing C.lacks (C.seen command.old))
+        result source.old source.new sink.old sink.new }
     ensures wanting { result ≡ Status.Memory → SomeLacks C.lacks }
     ensures read_never_falls { S.shown.faults source.old ≤ S.shown.faults source.new }
     ensures write_never_falls { W.shown.faults sink.old ≤ W.shown.faults sink.new }

@@ -3,20 +3,28 @@ use Rattle.std.proofs.Common.{◌≡◌, ℕ, List, Option, Some, sym, subst}
 use Rattle.octet_io.specs.Shown.{Shown, HasRisen}
 use Rattle.command_driver.specs.Answers.{Ends, entire, cut_short, by_read, by_write, by_memory}
 use Rattle.eap_login.specs.Login.{asked_by, login_answer, Completes, answered, lacked}
-use Rattle.command_driver.specs.Responding.{Asked, MayLack, reading, unread, answer_to, lacking_of, Responds}
+use Rattle.command_driver.specs.Responding.{Asked, MayLack, reading, unread, answer_to, lacking_of}
+use Rattle.command_driver.specs.Responding.{Responds}
 use Rattle.command_driver.specs.declared.status.Status.{Status}
 use Rattle.command_driver.specs.declared.status.Status.TheVariants as status
 
-completes_with : (s : Status) (before now : Option (List ℕ)) (words : List (List ℕ)) (octets : List ℕ) {R W : Type 0}
-    → Ends s before now (login_answer words octets) → (s ≡ status.ReadFault → R) → (s ≡ status.WriteFault → W)
+completes_with : (s : Status) (before now : Option (List ℕ)) (words : List (List ℕ))
+    (octets : List ℕ) {R W : Type 0}
+    → Ends s before now (login_answer words octets) → (s ≡ status.ReadFault → R)
+    → (s ≡ status.WriteFault → W)
     → (s ≡ status.Memory → MayLack (lacking_of (asked_by words)) (Some octets))
     → (R → ⊥) → (W → ⊥) → Completes words octets s
-completes_with s before now words octets (entire text is) r w m no_read no_write = subst (Completes words octets) is answered
-completes_with s before now words octets (cut_short (by_read e) front) r w m no_read no_write = absurd (no_read (r e))
-completes_with s before now words octets (cut_short (by_write e) front) r w m no_read no_write = absurd (no_write (w e))
-completes_with s before now words octets (cut_short (by_memory e) front) r w m no_read no_write = subst (Completes words octets) (sym e) (lacked (m e))
+completes_with s before now words octets (entire text is) r w m no_read no_write =
+    subst (Completes words octets) is answered
+completes_with s before now words octets (cut_short (by_read e) front) r w m no_read no_write =
+    absurd (no_read (r e))
+completes_with s before now words octets (cut_short (by_write e) front) r w m no_read no_write =
+    absurd (no_write (w e))
+completes_with s before now words octets (cut_short (by_memory e) front) r w m no_read no_write =
+    subst (Completes words octets) (sym e) (lacked (m e))
 
-module _ {S W : Type 0} (source : Shown S) (sink : Shown W) (s : Status) (before now : S) (old new : W) where
+module _ {S W : Type 0} (source : Shown S) (sink : Shown W) (s : Status) (before now : S)
+    (old new : W) where
   -- what the record says of the answer, of faults and of memory
   pub ends_of : (asked : Asked) (octets : List ℕ) → source.octets before ≡ Some octets
       → Responds source sink asked s before now old new
@@ -44,5 +52,7 @@ module _ {S W : Type 0} (source : Shown S) (sink : Shown W) (s : Status) (before
       → (HasRisen source before now → ⊥)
       → (HasRisen sink old new → ⊥) → Completes words octets s
   completes words octets e r no_read no_write =
-      completes_with s (sink.octets old) (sink.octets new) words octets (ends_of (asked_by words) octets e r) (read_fault_of (asked_by words) r)
-      (write_fault_of (asked_by words) r) (λ m. subst (MayLack (lacking_of (asked_by words))) e (memory_of (asked_by words) r m)) no_read no_write
+      completes_with s (sink.octets old) (sink.octets new) words octets
+      (ends_of (asked_by words) octets e r) (read_fault_of (asked_by words) r)
+      (write_fault_of (asked_by words) r) (λ m. subst (MayLack (lacking_of (asked_by words))) e
+      (memory_of (asked_by words) r m)) no_read no_write

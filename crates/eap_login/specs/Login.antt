@@ -1,5 +1,6 @@
 -- What the program answers to words and an input.
-use Rattle.std.specs.Prelude.{ℕ, List, [], ◌∷◌, Bool, true, false, ◌&&◌, if◌then◌else◌, codes, Option, Some, None}
+use Rattle.std.specs.Prelude.{ℕ, List, [], ◌∷◌, Bool, true, false, ◌&&◌, if◌then◌else◌, codes}
+use Rattle.std.specs.Prelude.{Option, Some, None}
 use Rattle.std.specs.Str.{bytes_eq}
 use Rattle.octet_io.specs.Shown.{Shown}
 use Rattle.login_setup.specs.declared.users.User.{User}
@@ -13,7 +14,8 @@ use Rattle.capture_commands.specs.Pcap.{pcap_users, pcap_answer}
 use Rattle.capture_commands.specs.Radius.{radius_answer}
 use Rattle.end_commands.specs.PeerCommand.{peer_answer}
 use Rattle.end_commands.specs.ServerCommand.{server_answer}
-use Rattle.command_driver.specs.Responding.{Asked, Lacking, reading, unread, never, at_any, MayLack, IsAnswered, answer_to, lacking_of}
+use Rattle.command_driver.specs.Responding.{Asked, Lacking, reading, unread, never, at_any, MayLack}
+use Rattle.command_driver.specs.Responding.{IsAnswered, answer_to, lacking_of}
 use Rattle.world_commands.specs.Scenario.{asked_replay}
 use Rattle.world_commands.specs.declared.bulk.Bulk.{Bulk}
 use Rattle.command_driver.specs.declared.status.Status.{Status}
@@ -58,7 +60,8 @@ is_replay_names words = are_two (codes "replay") (codes "names") words
 
 -- for all other words the program says how it is used
 unfoldable pub usage_text : List ℕ
-usage_text = line_text (codes "usage: eap_login replay | replay names | decode | keys | check | bulk N K | radius | pcap USERS | peer | server")
+usage_text = line_text (codes
+    "usage: eap_login replay | replay names | decode | keys | check | bulk N K | radius | pcap USERS | peer | server")
 
 abbrev pub usage_answer : Answer
 usage_answer = record { text = usage_text; status = status.Usage }
@@ -82,7 +85,8 @@ asked_with_arguments words = asked_with (pcap_users words) (bulk_of words)
 
 -- words that read nothing were answered
 abbrev pub IsAnsweredUnread : {W : Type 0} → Shown W → Option Bulk → Status → W → W → Type 0
-IsAnsweredUnread sink asked result old new = IsAnswered sink (unread_answer asked) (unread_lacking asked) result old new
+IsAnsweredUnread sink asked result old new =
+    IsAnswered sink (unread_answer asked) (unread_lacking asked) result old new
 
 -- what words ask
 abbrev pub asked_by : List (List ℕ) → Asked
@@ -101,7 +105,9 @@ asked_by words =
 abbrev pub login_answer : List (List ℕ) → List ℕ → Answer
 login_answer words octets = answer_to (asked_by words) octets
 
--- what comes if neither a read nor a write failed: the answer's status; or memory was wanting, if it may be
+-- what comes if neither a read nor a write failed: the answer's status; or memory was wanting, if
+-- it may be
 pub data Completes (words : List (List ℕ)) (octets : List ℕ) : Status → Type 0 where
   answered : Completes words octets (login_answer words octets).status
-  lacked : MayLack (lacking_of (asked_by words)) (Some octets) → Completes words octets status.Memory
+  lacked : MayLack (lacking_of (asked_by words)) (Some octets)
+      → Completes words octets status.Memory

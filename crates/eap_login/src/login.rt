@@ -61,7 +61,8 @@ pub fn eap_login<P: PeerMethod, M: ServerMethod, S: Source, W: Sink>(
     // in this call, or is at its last value, and whenever it rose: none that is counted is ignored. Want of memory
     // comes only for `replay` and `replay names`, if the input's settings are whole, and for `bulk N K`.
     ensures responds { Responds S.shown W.shown
-        (asked_by (map string_bytes words.now.items)) result source.old source.new sink.old sink.new }
+        (asked_by (map string_bytes words.now.items))
+        result source.old source.new sink.old sink.new }
 
     // Whatever the scenario has delivered, lost, repeated, reordered, altered, reflected, injected or restarted: if
     // each tag that an end accepted was made earlier by the other end, as it is if the trace says `tags honest`, and if
@@ -104,7 +105,8 @@ fn respond<P: PeerMethod, M: ServerMethod, S: Source, W: Sink>(
 ) -> Status
     requires { HasBoth P.peer_shown M.server_shown methods }
     ensures { Responds S.shown W.shown
-        (asked_by (map string_bytes words.now.items)) result source.old source.new sink.old sink.new }
+        (asked_by (map string_bytes words.now.items))
+        result source.old source.new sink.old sink.new }
 {
     if are_alone(words, "replay") {
         replay_scenario(alloc, false, source, sink, methods)
@@ -159,7 +161,8 @@ fn answer_arguments<P: PeerMethod, M: ServerMethod, S: Source, W: Sink>(
 ) -> Status
     requires { HasBoth P.peer_shown M.server_shown methods }
     ensures { Responds S.shown W.shown
-        (asked_with_arguments (map string_bytes words.now.items)) result source.old source.new sink.old sink.new }
+        (asked_with_arguments (map string_bytes words.now.items))
+        result source.old source.new sink.old sink.new }
 {
     let mut users = Users::new();
     if read_pcap(words, &mut users) {
@@ -177,7 +180,8 @@ fn answer_unread<P: PeerMethod, M: ServerMethod, W: Sink>(
     methods: Methods<P, M>,
 ) -> Status
     requires { HasBoth P.peer_shown M.server_shown methods }
-    ensures { IsAnsweredUnread W.shown (bulk_of (map string_bytes words.now.items)) result sink.old sink.new }
+    ensures { IsAnsweredUnread W.shown (bulk_of (map string_bytes words.now.items))
+        result sink.old sink.new }
 {
     match bulk_of(words) {
         Some(asked) => run_bulk(alloc, asked, sink, methods),

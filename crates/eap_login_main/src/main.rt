@@ -39,8 +39,10 @@ fn run_over_boxes<S: Source, W: Sink>(
 ) -> Result<u8, AllocError>
     // What `run` promises over any objects it promises over these boxes.
     ensures answers { IfOk result (λ number. IfOk args (λ args. Exits S.shown W.shown
-        (map string_bytes (after_name (into_iter_items args))) source.old source.new sink.old sink.new number)) }
-    ensures no_words { IfOk result (λ number. IfErr args (λ error. number ≡ failure_number_of (error_kind error))) }
+        (map string_bytes (after_name (into_iter_items args)))
+        source.old source.new sink.old sink.new number)) }
+    ensures no_words { IfOk result
+        (λ number. IfErr args (λ error. number ≡ failure_number_of (error_kind error))) }
     ensures unread { OnErr result (source.new ≡ source.old) }
     ensures unwritten { OnErr result (sink.new ≡ sink.old) }
 {

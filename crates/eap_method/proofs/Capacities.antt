@@ -9,16 +9,21 @@ use Rattle.eap_method.specs.declared.turn.ServerAnswer.TheVariants as turn
 use Rattle.eap_method.specs.ServerTurn.{ServerTurn, server_turn_with}
 use Rattle.eap_method.specs.Capacity.{HasCapacity, requests}
 
-pub request_has_capacity : (id kind : ℕ) (body : List ℕ) → length body ≤ 1488 → HasCapacity (spelled (request id kind body))
+pub request_has_capacity : (id kind : ℕ) (body : List ℕ) → length body ≤ 1488
+    → HasCapacity (spelled (request id kind body))
 unfolding spelled
-request_has_capacity id kind body short = record { typed = omega arith; whole = omega arith; fits = omega (arith, short) }
+request_has_capacity id kind body short =
+    record { typed = omega arith; whole = omega arith; fits = omega (arith, short) }
 
-pub response_has_capacity : (id kind : ℕ) (body : List ℕ) → length body ≤ 1488 → HasCapacity (spelled (response id kind body))
+pub response_has_capacity : (id kind : ℕ) (body : List ℕ) → length body ≤ 1488
+    → HasCapacity (spelled (response id kind body))
 unfolding spelled
-response_has_capacity id kind body short = record { typed = omega arith; whole = omega arith; fits = omega (arith, short) }
+response_has_capacity id kind body short =
+    record { typed = omega arith; whole = omega arith; fits = omega (arith, short) }
 
 -- the same of either
-pub typed_has_capacity : (code : Code) (id kind : ℕ) (body : List ℕ) → IsTrue (has_type code) → length body ≤ 1488 →
+pub typed_has_capacity : (code : Code) (id kind : ℕ) (body : List ℕ) → IsTrue (has_type code)
+    → length body ≤ 1488 →
     HasCapacity (spelled (value_with code id kind body))
 typed_has_capacity code.Request id kind body typed short = request_has_capacity id kind body short
 typed_has_capacity code.Response id kind body typed short = response_has_capacity id kind body short

@@ -12,7 +12,8 @@ pub mod PeerKeys
 pub mod PeerObjects
 -- The one server name that a peer accepts is its server's.
 pub mod PeerSides
--- The views of a peer by method: each is put and found by its Type, and decides the turn and the report.
+-- The views of a peer by method: each is put and found by its Type, and decides the turn and the
+-- report.
 pub mod PeerViews
 -- A discard leaves the view of EAP-PSK as it is.
 pub mod PskDiscards
@@ -22,15 +23,19 @@ pub mod PskMacs
 pub mod Capacities
 -- The first object of a method in a server's list of objects decides what the views of the list do.
 pub mod ServerObjects
--- The views of a server by method: each is put and found by its Type, and decides the offer, the turn and the report.
+-- The views of a server by method: each is put and found by its Type, and decides the offer, the
+-- turn and the report.
 pub mod ServerViews
--- The objects of the methods that an end doesn't name stay, whichever of the others begins or has a turn.
+-- The objects of the methods that an end doesn't name stay, whichever of the others begins or has a
+-- turn.
 pub mod Unnamed
 -- Rows that were worked: which objects an end doesn't name.
 pub mod Worked
--- A peer whose objects are of EAP-PSK and EAP-GPSK, one at least of each method that it allows, begins as one that has one of each.
+-- A peer whose objects are of EAP-PSK and EAP-GPSK, one at least of each method that it allows,
+-- begins as one that has one of each.
 pub mod BothPeers
--- A server whose objects are of EAP-PSK and EAP-GPSK, one at least of each method that it proposes, begins as one that has one of each.
+-- A server whose objects are of EAP-PSK and EAP-GPSK, one at least of each method that it proposes,
+-- begins as one that has one of each.
 pub mod BothServers
 -- Where an end has an object of both methods, it has one of each method that settings can name.
 mod BothMethods

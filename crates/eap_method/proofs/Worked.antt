@@ -7,7 +7,8 @@ use Rattle.eap_method.specs.Server as server
 use Rattle.eap_method.specs.Unnamed.{servers_unnamed}
 
 -- of two objects, by the definition alone: which stay where one method, both or none is named
-named : (one : psk_server.View) (other : gpsk_server.View) → (let shown = server.psk one ∷ server.gpsk other ∷ [] in
+named : (one : psk_server.View) (other : gpsk_server.View)
+    → (let shown = server.psk one ∷ server.gpsk other ∷ [] in
     (servers_unnamed (gpsk_kind ∷ []) shown ≡ server.psk one ∷ [])
     × (servers_unnamed (psk_kind ∷ []) shown ≡ server.gpsk other ∷ [])
     × (servers_unnamed (gpsk_kind ∷ psk_kind ∷ []) shown ≡ [])

@@ -1,10 +1,12 @@
 -- Peers whose methods are EAP-PSK and EAP-GPSK, and what their objects show.
-use Rattle.std.specs.Prelude.{◌≡◌, ℕ, List, Bool, true, false, ◌==◌, if◌then◌else◌, Option, None, Some}
+use Rattle.std.specs.Prelude.{◌≡◌, ℕ, List, Bool, true, false, ◌==◌, if◌then◌else◌, Option, None}
+use Rattle.std.specs.Prelude.{Some}
 use Rattle.std.specs.List.{list_all}
 use Rattle.octet_lists.specs.Among.{psk_kind, gpsk_kind, is_among}
 use Rattle.eap_method.specs.PskPeer as psk_peer
 use Rattle.eap_method.specs.GpskPeer as gpsk_peer
-use Rattle.eap_method.specs.Peer.{Method, by_psk, by_gpsk, by_other, View, PeerShown, PeerViews, psk, gpsk, peer_methods}
+use Rattle.eap_method.specs.Peer.{Method, by_psk, by_gpsk, by_other, View, PeerShown, PeerViews}
+use Rattle.eap_method.specs.Peer.{psk, gpsk, peer_methods}
 
 -- whether a method is one of the two
 abbrev pub is_one : Method → Bool
@@ -45,7 +47,8 @@ gpsk_in views = gpsk_shown (views gpsk_kind)
 abbrev pub both_of : List ℕ → PeerViews
 both_of methods = λ kind.
     if is_among methods kind
-    then (if kind == psk_kind then Some (psk psk_peer.unset) else if kind == gpsk_kind then Some (gpsk gpsk_peer.unset) else None)
+    then (if kind == psk_kind then Some (psk psk_peer.unset) else if kind == gpsk_kind
+    then Some (gpsk gpsk_peer.unset) else None)
     else None
 
 -- what is shown at a Type is one of the two

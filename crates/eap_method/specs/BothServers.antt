@@ -1,10 +1,12 @@
 -- Servers whose methods are EAP-PSK and EAP-GPSK, and what their objects show.
-use Rattle.std.specs.Prelude.{◌≡◌, ℕ, List, Bool, true, false, ◌==◌, if◌then◌else◌, Option, None, Some}
+use Rattle.std.specs.Prelude.{◌≡◌, ℕ, List, Bool, true, false, ◌==◌, if◌then◌else◌, Option, None}
+use Rattle.std.specs.Prelude.{Some}
 use Rattle.std.specs.List.{list_all}
 use Rattle.octet_lists.specs.Among.{psk_kind, gpsk_kind, is_among}
 use Rattle.eap_method.specs.PskServer as psk_server
 use Rattle.eap_method.specs.GpskServer as gpsk_server
-use Rattle.eap_method.specs.Server.{Method, by_psk, by_gpsk, by_other, View, ServerShown, ServerViews, psk, gpsk, server_methods}
+use Rattle.eap_method.specs.Server.{Method, by_psk, by_gpsk, by_other, View, ServerShown}
+use Rattle.eap_method.specs.Server.{ServerViews, psk, gpsk, server_methods}
 
 -- whether a method is one of the two
 abbrev pub is_one : Method → Bool
@@ -45,7 +47,8 @@ gpsk_at views = gpsk_shown (views gpsk_kind)
 abbrev pub both_of : List ℕ → ServerViews
 both_of methods = λ kind.
     if is_among methods kind
-    then (if kind == psk_kind then Some (psk psk_server.unset) else if kind == gpsk_kind then Some (gpsk gpsk_server.unset) else None)
+    then (if kind == psk_kind then Some (psk psk_server.unset) else if kind == gpsk_kind
+    then Some (gpsk gpsk_server.unset) else None)
     else None
 
 -- what is shown at a Type is one of the two

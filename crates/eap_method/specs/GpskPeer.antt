@@ -1,12 +1,14 @@
 -- The peer of EAP-GPSK (RFC 5433 section 3): its state, and its turn for each Request.
-use Rattle.std.specs.Prelude.{ℕ, List, [], ◌∷◌, Bool, true, false, ◌&&◌, not, if◌then◌else◌, Option, Some, None, Result, Ok, Err}
+use Rattle.std.specs.Prelude.{ℕ, List, [], ◌∷◌, Bool, true, false, ◌&&◌, not, if◌then◌else◌, Option}
+use Rattle.std.specs.Prelude.{Some, None, Result, Ok, Err}
 use Rattle.std.specs.Str.{bytes_eq}
 use Rattle.octet_lists.specs.declared.suite.Suite.{Suite}
 use Rattle.octet_lists.specs.Suite.{ks_of, suite_number}
 use Rattle.octet_lists.specs.Among.{gpsk_kind}
 use Rattle.login_setup.specs.Setup.{accepts_name}
 use Rattle.eap_packet.specs.declared.cause.Cause.{Cause}
-use Rattle.eap_packet.specs.declared.cause.Cause.TheVariants.{WrongOp, UnknownServer, NoSuite, FieldMismatch, BadTag}
+use Rattle.eap_packet.specs.declared.cause.Cause.TheVariants.{WrongOp, UnknownServer, NoSuite}
+use Rattle.eap_packet.specs.declared.cause.Cause.TheVariants.{FieldMismatch, BadTag}
 use Rattle.gpsk_messages.specs.Message.{Message, gpsk1, gpsk2, gpsk3, gpsk4, fail, protected_fail}
 use Rattle.gpsk_messages.specs.Reading.{read_of}
 use Rattle.login_keys.specs.Gpsk.{gpsk_keys_of}
@@ -16,7 +18,8 @@ use Rattle.eap_method.specs.declared.values.Credential.{Credential}
 use Rattle.eap_method.specs.declared.values.Report.{Report}
 use Rattle.eap_method.specs.declared.values.MethodState.TheVariants.{Cont, MayCont, Done}
 use Rattle.eap_method.specs.declared.values.Decision.TheVariants.{Fail, CondSucc}
-use Rattle.eap_method.specs.GpskTags.{gpsk_response, message_with_mac, is_tagged, sk_record, same_suite}
+use Rattle.eap_method.specs.GpskTags.{gpsk_response, message_with_mac, is_tagged, sk_record}
+use Rattle.eap_method.specs.GpskTags.{same_suite}
 use Rattle.eap_method.specs.Turns.{PeerOutcome, id_of, body_of, fault_if, discarded, replied}
 
 -- what a peer keeps of a login: its credential and RAND_Peer, ID_Server, RAND_Server, CSuite_Sel
@@ -36,11 +39,13 @@ pub data View : Type 0 where
 
 -- the keys of a login
 unfoldable pub keys_of : Login → GpskKeys
-keys_of login = gpsk_keys_of login.suite login.cred.psk login.nonce login.cred.id_p login.rand_s login.id_s
+keys_of login =
+    gpsk_keys_of login.suite login.cred.psk login.nonce login.cred.id_p login.rand_s login.id_s
 
 -- GPSK-2, the peer's first message, without its MAC and with it
 abbrev pub open_gpsk2 : Login → List ℕ → Message
-open_gpsk2 login list = gpsk2 login.cred.id_p login.id_s login.nonce login.rand_s list login.suite [] []
+open_gpsk2 login list =
+    gpsk2 login.cred.id_p login.id_s login.nonce login.rand_s list login.suite [] []
 
 abbrev pub gpsk2_of : Login → List ℕ → Message
 gpsk2_of login list = message_with_mac login.suite (keys_of login).sk (open_gpsk2 login list)
@@ -48,12 +53,15 @@ gpsk2_of login list = message_with_mac login.suite (keys_of login).sk (open_gpsk
 -- GPSK-1 is answered by GPSK-2, and the login begins
 unfoldable pub answers : Login → ℕ → List ℕ → PeerOutcome View
 answers login id list =
-    replied (wait login) (gpsk_response id (gpsk2_of login list)) Cont Fail [] (sk_record login.cred.psk (gpsk2_of login list) ∷ [])
+    replied (wait login) (gpsk_response id (gpsk2_of login list)) Cont Fail []
+    (sk_record login.cred.psk (gpsk2_of login list) ∷ [])
 
-abbrev pub picks : Credential → List ℕ → ℕ → List ℕ → List ℕ → List ℕ → Option Suite → PeerOutcome View
+abbrev pub picks : Credential → List ℕ → ℕ → List ℕ → List ℕ → List ℕ → Option Suite
+    → PeerOutcome View
 picks cred nonce id id_s rand_s list None = discarded (fresh cred nonce) NoSuite
 picks cred nonce id id_s rand_s list (Some suite) =
-    answers (record { cred = cred; nonce = nonce; id_s = id_s; rand_s = rand_s; suite = suite }) id list
+    answers (record { cred = cred; nonce = nonce; id_s = id_s; rand_s = rand_s; suite = suite })
+    id list
 
 abbrev pub receives_gpsk1 : Credential → List ℕ → ℕ → List ℕ → List ℕ → List ℕ → PeerOutcome View
 receives_gpsk1 cred nonce id id_s rand_s list =
@@ -63,7 +71,8 @@ receives_gpsk1 cred nonce id id_s rand_s list =
 
 -- a peer that has begun
 abbrev pub fresh_receives : Credential → List ℕ → ℕ → Message → PeerOutcome View
-fresh_receives cred nonce id (gpsk1 id_s rand_s list) = receives_gpsk1 cred nonce id id_s rand_s list
+fresh_receives cred nonce id (gpsk1 id_s rand_s list) =
+    receives_gpsk1 cred nonce id id_s rand_s list
 fresh_receives cred nonce id message = discarded (fresh cred nonce) WrongOp
 
 abbrev pub fresh_reads : Credential → List ℕ → ℕ → Result Message Cause → PeerOutcome View
@@ -73,7 +82,8 @@ fresh_reads cred nonce id (Ok message) = fresh_receives cred nonce id message
 -- whether GPSK-3 repeats the fields of the login
 abbrev pub repeats : Login → List ℕ → List ℕ → List ℕ → Suite → Bool
 repeats login rand_p rand_s id_s suite =
-    bytes_eq rand_p login.nonce && (bytes_eq rand_s login.rand_s && (bytes_eq id_s login.id_s && same_suite suite login.suite))
+    bytes_eq rand_p login.nonce
+    && (bytes_eq rand_s login.rand_s && (bytes_eq id_s login.id_s && same_suite suite login.suite))
 
 -- GPSK-4, with its MAC
 abbrev pub gpsk4_of : Login → Message
@@ -88,18 +98,21 @@ confirms login id message None =
 
 -- GPSK-Fail is answered by itself (section 10)
 abbrev pub repeats_fail : Login → ℕ → ℕ → PeerOutcome View
-repeats_fail login id code = replied (over login false) (gpsk_response id (fail code)) MayCont Fail [] []
+repeats_fail login id code =
+    replied (over login false) (gpsk_response id (fail code)) MayCont Fail [] []
 
 -- GPSK-Protected-Fail, with its MAC
 abbrev pub protected_fail_of : Login → ℕ → Message
-protected_fail_of login code = message_with_mac login.suite (keys_of login).sk (protected_fail code [])
+protected_fail_of login code =
+    message_with_mac login.suite (keys_of login).sk (protected_fail code [])
 
 -- GPSK-Protected-Fail is answered by one with the same code
 unfoldable pub repeats_protected : Login → ℕ → ℕ → Message → Option Cause → PeerOutcome View
 repeats_protected login id code message (Some cause) = discarded (wait login) cause
 repeats_protected login id code message None =
     replied (over login false) (gpsk_response id (protected_fail_of login code)) MayCont Fail
-    (sk_record login.cred.psk message ∷ []) (sk_record login.cred.psk (protected_fail_of login code) ∷ [])
+    (sk_record login.cred.psk message ∷ [])
+    (sk_record login.cred.psk (protected_fail_of login code) ∷ [])
 
 -- whether a message has the MAC of the login
 abbrev pub is_tagged_by : Login → Message → Bool
@@ -110,11 +123,13 @@ abbrev pub wait_receives : Login → ℕ → Message → PeerOutcome View
 wait_receives login id (gpsk3 rand_p rand_s id_s suite pd mac) =
     let message = gpsk3 rand_p rand_s id_s suite pd mac in
     confirms login id message
-    (fault_if (not (repeats login rand_p rand_s id_s suite)) FieldMismatch (fault_if (not (is_tagged_by login message)) BadTag None))
+    (fault_if (not (repeats login rand_p rand_s id_s suite)) FieldMismatch
+    (fault_if (not (is_tagged_by login message)) BadTag None))
 wait_receives login id (fail code) = repeats_fail login id code
 wait_receives login id (protected_fail code mac) =
     let message = protected_fail code mac in
-    repeats_protected login id code message (fault_if (not (is_tagged_by login message)) BadTag None)
+    repeats_protected login id code message
+    (fault_if (not (is_tagged_by login message)) BadTag None)
 wait_receives login id message = discarded (wait login) WrongOp
 
 abbrev pub wait_reads : Login → ℕ → Result Message Cause → PeerOutcome View
@@ -129,9 +144,12 @@ over_reads login good (Ok message) = discarded (over login good) WrongOp
 -- the turn for a Request of Type 51 with nothing past its Length
 unfoldable pub step : View → List ℕ → PeerOutcome View
 step unset octets = discarded unset WrongOp
-step (fresh cred nonce) octets = fresh_reads cred nonce (id_of octets) (read_of None (body_of octets))
-step (wait login) octets = wait_reads login (id_of octets) (read_of (Some (ks_of login.suite)) (body_of octets))
-step (over login good) octets = over_reads login good (read_of (Some (ks_of login.suite)) (body_of octets))
+step (fresh cred nonce) octets =
+    fresh_reads cred nonce (id_of octets) (read_of None (body_of octets))
+step (wait login) octets =
+    wait_reads login (id_of octets) (read_of (Some (ks_of login.suite)) (body_of octets))
+step (over login good) octets =
+    over_reads login good (read_of (Some (ks_of login.suite)) (body_of octets))
 
 -- the report of a login that has succeeded
 unfoldable pub report_of : Login → Report

@@ -31,7 +31,13 @@ is_tagged suite sk message = bytes_eq (gpsk_tag_of suite sk (covered_of message)
 
 -- the record of a message's MAC
 abbrev pub sk_record : List ℕ → Message → TagRecord
-sk_record psk message = record { method = gpsk_kind; label = Sk; psk = psk; octets = covered_of message; tag = mac_of message }
+sk_record psk message = record {
+  method = gpsk_kind;
+  label = Sk;
+  psk = psk;
+  octets = covered_of message;
+  tag = mac_of message;
+}
 
 -- whether two suites are the same
 abbrev pub same_suite : Suite → Suite → Bool

@@ -4,7 +4,8 @@ use Rattle.eap_packet.specs.declared.cause.Cause.{Cause}
 use Rattle.eap_packet.specs.declared.state.State.{State}
 use Rattle.eap_packet.specs.declared.state.State.TheVariants as state
 use Rattle.eap_method.specs.declared.outcome.Outcome.{Outcome}
-use Rattle.eap_method.specs.declared.outcome.Outcome.TheVariants.{Send, Discarded, Success, Failed, Waiting}
+use Rattle.eap_method.specs.declared.outcome.Outcome.TheVariants.{Send, Discarded, Success, Failed}
+use Rattle.eap_method.specs.declared.outcome.Outcome.TheVariants.{Waiting}
 use Rattle.eap_method.specs.declared.values.Report.{Report}
 
 -- the state that a call has entered last; none if it has entered none

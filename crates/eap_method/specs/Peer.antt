@@ -1,5 +1,6 @@
 -- The peer's methods by kind: what an object is, its state, and its calls.
-use Rattle.std.specs.Prelude.{◌≡◌, ℕ, List, [], Bool, false, ◌==◌, if◌then◌else◌, Option, Some, None, unwrap_or, map, find, option_map}
+use Rattle.std.specs.Prelude.{◌≡◌, ℕ, List, [], Bool, false, ◌==◌, if◌then◌else◌, Option, Some}
+use Rattle.std.specs.Prelude.{None, unwrap_or, map, find, option_map}
 use Rattle.std.specs.List.{list_all}
 use Rattle.login_setup.specs.Setup.{key_of}
 use Rattle.login_setup.specs.declared.setup.PeerSetup.{PeerSetup}
@@ -22,17 +23,20 @@ pub record Responds (id kind : ℕ) (packet : List ℕ) : Type 0 where
   pub body : List ℕ
   pub encoding_of : packet ≡ spelled (response id kind body)
 
--- a method of a maker: its Type, which isn't Nak's, and its tables over a state of octets; a discard keeps the state, and a
--- Response answers the Request
+-- a method of a maker: its Type, which isn't Nak's, and its tables over a state of octets; a
+-- discard keeps the state, and a Response answers the Request
 pub record Custom : Type 0 where
   pub kind : ℕ
   pub no_nak : (kind == nak_kind) ≡ false
   pub fresh : Credential → List ℕ → List ℕ
   pub step : List ℕ → List ℕ → PeerOutcome (List ℕ)
   pub report : List ℕ → Option Report
-  pub discards : (view octets : List ℕ) (cause : Cause) → (step view octets).turn ≡ Discard cause → (step view octets).after ≡ view
-  pub responds : (view octets packet : List ℕ) (state : MethodState) (decision : Decision) (tags : Tags)
-      → (step view octets).turn ≡ Reply packet state decision tags → Responds (id_of octets) kind packet
+  pub discards : (view octets : List ℕ) (cause : Cause) → (step view octets).turn ≡ Discard cause
+      → (step view octets).after ≡ view
+  pub responds : (view octets packet : List ℕ) (state : MethodState) (decision : Decision)
+      (tags : Tags)
+      → (step view octets).turn ≡ Reply packet state decision tags
+      → Responds (id_of octets) kind packet
 
 -- the methods
 pub data Method : Type 0 where
@@ -110,7 +114,8 @@ peer_report s = report s.method s.view
 abbrev pub first_of : ℕ → List PeerShown → Option PeerShown
 first_of kind shown = find (λ s. peer_kind s == kind) shown
 
--- what the peer's object of each Type shows; none of a Type that it doesn't allow, or has no object of
+-- what the peer's object of each Type shows; none of a Type that it doesn't allow, or has no object
+-- of
 abbrev pub PeerViews : Type 0
 PeerViews = ℕ → Option PeerShown
 
@@ -158,12 +163,19 @@ abbrev pub key_for : PeerSetup → ℕ → List ℕ
 key_for setup kind = unwrap_or (key_of setup kind) []
 
 unfoldable pub credential_for : PeerSetup → ℕ → Credential
-credential_for setup kind = record { id_p = setup.name; accepts = setup.accepts; suites = setup.suites; psk = key_for setup kind }
+credential_for setup kind = record {
+  id_p = setup.name;
+  accepts = setup.accepts;
+  suites = setup.suites;
+  psk = key_for setup kind;
+}
 
--- the object after a peer of these settings has begun: one of a method that it doesn't allow stays as it is
+-- the object after a peer of these settings has begun: one of a method that it doesn't allow stays
+-- as it is
 unfoldable pub peer_started_in : PeerSetup → PeerShown → PeerShown
 peer_started_in setup s =
-    if is_among setup.methods (peer_kind s) then started_peer (credential_for setup (peer_kind s)) setup.nonce s else s
+    if is_among setup.methods (peer_kind s) then started_peer (credential_for setup (peer_kind s))
+    setup.nonce s else s
 
 -- the views of a peer that begins
 unfoldable pub views_started : PeerSetup → PeerViews → PeerViews

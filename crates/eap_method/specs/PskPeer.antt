@@ -1,10 +1,12 @@
 -- The peer of EAP-PSK (RFC 4764 section 4): its state, and its turn for each Request.
-use Rattle.std.specs.Prelude.{ℕ, List, [], ◌∷◌, Bool, true, false, ◌==◌, ◌&&◌, not, if◌then◌else◌, Option, Some, None, slice_index, Result, Ok, Err}
+use Rattle.std.specs.Prelude.{ℕ, List, [], ◌∷◌, Bool, true, false, ◌==◌, ◌&&◌, not, if◌then◌else◌}
+use Rattle.std.specs.Prelude.{Option, Some, None, slice_index, Result, Ok, Err}
 use Rattle.std.specs.Str.{bytes_eq}
 use Rattle.octet_lists.specs.Among.{psk_kind}
 use Rattle.login_setup.specs.Setup.{accepts_name}
 use Rattle.eap_packet.specs.declared.cause.Cause.{Cause}
-use Rattle.eap_packet.specs.declared.cause.Cause.TheVariants.{WrongOp, UnknownServer, FieldMismatch, BadNonce, BadTag}
+use Rattle.eap_packet.specs.declared.cause.Cause.TheVariants.{WrongOp, UnknownServer, FieldMismatch}
+use Rattle.eap_packet.specs.declared.cause.Cause.TheVariants.{BadNonce, BadTag}
 use Rattle.psk_messages.specs.Message.{Message, psk1, psk2, psk3, psk4}
 use Rattle.psk_messages.specs.Reading.{read_of}
 use Rattle.cmac_mac.specs.Cmac.{aes_cmac}
@@ -16,7 +18,10 @@ use Rattle.eap_method.specs.declared.tags.TagRecord.{TagRecord}
 use Rattle.eap_method.specs.declared.values.Report.{Report}
 use Rattle.eap_method.specs.declared.values.MethodState.TheVariants.{Cont, MayCont, Done}
 use Rattle.eap_method.specs.declared.values.Decision.TheVariants.{Fail, UncondSucc}
-use Rattle.eap_method.specs.PskTags.{psk_response, mac_p_octets, mac_s_octets, ak_record, tek_record, header_of, sealed_result, is_sealed, hidden_octet, result_fault, result_of, done_success, done_failure, blank_tag, rand_of}
+use Rattle.eap_method.specs.PskTags.{psk_response, mac_p_octets, mac_s_octets, ak_record}
+use Rattle.eap_method.specs.PskTags.{tek_record, header_of, sealed_result, is_sealed, hidden_octet}
+use Rattle.eap_method.specs.PskTags.{result_fault, result_of, done_success, done_failure, blank_tag}
+use Rattle.eap_method.specs.PskTags.{rand_of}
 use Rattle.eap_method.specs.Turns.{PeerOutcome, id_of, body_of, fault_if, discarded, replied}
 
 -- what a peer keeps of a login: its credential and the nonce whose prefix is RAND_P, ID_S, RAND_S
@@ -64,7 +69,8 @@ psk2_of login = psk2 login.rand_s (rand_p_of login) (mac_p_of login) login.cred.
 -- PSK-1 is answered by PSK-2, and the login begins
 unfoldable pub answers : Login → ℕ → PeerOutcome View
 answers login id =
-    replied (wait login) (psk_response id (psk2_of login)) Cont Fail [] (ak_record login.cred.psk (mac_p_covers login) (mac_p_of login) ∷ [])
+    replied (wait login) (psk_response id (psk2_of login)) Cont Fail []
+    (ak_record login.cred.psk (mac_p_covers login) (mac_p_of login) ∷ [])
 
 abbrev pub receives_psk1 : Credential → List ℕ → ℕ → List ℕ → List ℕ → PeerOutcome View
 receives_psk1 cred nonce id rand_s id_s =
@@ -98,24 +104,29 @@ psk4_of login id r = psk4 login.rand_s 1 (psk4_sealed login id r).tag (psk4_octe
 
 -- the record of PSK-4's tag
 abbrev pub psk4_record : Login → ℕ → ℕ → List TagRecord
-psk4_record login id r = tek_record login.cred.psk 1 (psk4_header login id) (psk4_octet login id r) (psk4_sealed login id r).tag ∷ []
+psk4_record login id r = tek_record login.cred.psk 1 (psk4_header login id) (psk4_octet login id
+    r) (psk4_sealed login id r).tag ∷ []
 
 -- the records of PSK-3's tags
 abbrev pub psk3_records : Login → List ℕ → List ℕ → List ℕ → ℕ → List TagRecord
 psk3_records login header mac tag sealed =
-    ak_record login.cred.psk (mac_s_covers login) mac ∷ tek_record login.cred.psk 0 header sealed tag ∷ []
+    ak_record login.cred.psk (mac_s_covers login) mac
+    ∷ tek_record login.cred.psk 0 header sealed tag ∷ []
 
 -- a PSK-3 without a fault is answered by PSK-4 with the same result
 unfoldable pub confirms : Login → ℕ → ℕ → List TagRecord → Option Cause → PeerOutcome View
 confirms login id r accepted (Some cause) = discarded (wait login) cause
 confirms login id r accepted None =
     if r == done_success
-    then replied (over login true) (psk_response id (psk4_of login id done_success)) Done UncondSucc accepted (psk4_record login id done_success)
-    else replied (over login false) (psk_response id (psk4_of login id done_failure)) MayCont Fail accepted (psk4_record login id done_failure)
+    then replied (over login true) (psk_response id (psk4_of login id done_success))
+    Done UncondSucc accepted (psk4_record login id done_success)
+    else replied (over login false) (psk_response id (psk4_of login id done_failure))
+    MayCont Fail accepted (psk4_record login id done_failure)
 
 -- whether both tags of PSK-3 are right
 abbrev pub are_right : Login → List ℕ → List ℕ → List ℕ → ℕ → Bool
-are_right login header mac tag sealed = bytes_eq (mac_s_of login) mac && is_sealed (keys_of login).tek 0 header sealed tag
+are_right login header mac tag sealed =
+    bytes_eq (mac_s_of login) mac && is_sealed (keys_of login).tek 0 header sealed tag
 
 -- what is wrong with PSK-3, in the order of the causes
 abbrev pub psk3_fault : Login → List ℕ → List ℕ → List ℕ → ℕ → List ℕ → ℕ → Option Cause
@@ -128,8 +139,8 @@ psk3_fault login header rand_s mac nonce tag sealed =
 -- a peer that has sent PSK-2
 abbrev pub wait_receives : Login → ℕ → List ℕ → Message → PeerOutcome View
 wait_receives login id header (psk3 rand_s mac nonce tag sealed) =
-    confirms login id (result_of (hidden_octet (keys_of login).tek 0 sealed)) (psk3_records login header mac tag sealed)
-    (psk3_fault login header rand_s mac nonce tag sealed)
+    confirms login id (result_of (hidden_octet (keys_of login).tek 0 sealed))
+    (psk3_records login header mac tag sealed) (psk3_fault login header rand_s mac nonce tag sealed)
 wait_receives login id header message = discarded (wait login) WrongOp
 
 abbrev pub wait_reads : Login → ℕ → List ℕ → Result Message Cause → PeerOutcome View
@@ -145,7 +156,8 @@ over_reads login good (Ok message) = discarded (over login good) WrongOp
 unfoldable pub step : View → List ℕ → PeerOutcome View
 step unset octets = discarded unset WrongOp
 step (fresh cred nonce) octets = fresh_reads cred nonce (id_of octets) (read_of (body_of octets))
-step (wait login) octets = wait_reads login (id_of octets) (header_of octets) (read_of (body_of octets))
+step (wait login) octets =
+    wait_reads login (id_of octets) (header_of octets) (read_of (body_of octets))
 step (over login good) octets = over_reads login good (read_of (body_of octets))
 
 -- the report of a login that has succeeded

@@ -1,5 +1,6 @@
 -- The tags of EAP-PSK (RFC 4764 sections 3 and 5): what they cover, and their records.
-use Rattle.std.specs.Prelude.{ℕ, ◌*◌, ◌/◌, ◌%◌, List, [], ◌∷◌, ◌++◌, Bool, ◌==◌, ◌||◌, take, replicate, slice_index, Option, None}
+use Rattle.std.specs.Prelude.{ℕ, ◌*◌, ◌/◌, ◌%◌, List, [], ◌∷◌, ◌++◌, Bool, ◌==◌, ◌||◌, take}
+use Rattle.std.specs.Prelude.{replicate, slice_index, Option, None}
 use Rattle.std.specs.Int.{w32, to_be_bytes}
 use Rattle.octet_lists.specs.Among.{psk_kind}
 use Rattle.eap_packet.specs.declared.cause.Cause.{Cause}
@@ -30,7 +31,8 @@ mac_s_octets id_s rand_p = id_s ++ rand_p
 
 -- the record of MAC_P or MAC_S
 abbrev pub ak_record : List ℕ → List ℕ → List ℕ → TagRecord
-ak_record psk octets tag = record { method = psk_kind; label = Ak; psk = psk; octets = octets; tag = tag }
+ak_record psk octets
+    tag = record { method = psk_kind; label = Ak; psk = psk; octets = octets; tag = tag }
 
 -- PCHANNEL's nonce for EAX: the Nonce field behind twelve octets of 0 (section 5.3)
 unfoldable pub channel_nonce : ℕ → List ℕ
@@ -60,7 +62,8 @@ octet_with r = 64 * r
 
 -- the sealed octet as a list, and the octet that it hides
 abbrev pub hidden_octet : List ℕ → ℕ → ℕ → ℕ
-hidden_octet tek number sealed = slice_index (eax_plaintext tek (channel_nonce number) (sealed ∷ [])) 0
+hidden_octet tek number sealed =
+    slice_index (eax_plaintext tek (channel_nonce number) (sealed ∷ [])) 0
 
 -- what is sealed into PCHANNEL under this header
 unfoldable pub sealed_result : List ℕ → ℕ → List ℕ → ℕ → Sealed
@@ -68,7 +71,8 @@ sealed_result tek number header r = eax_sealed tek (channel_nonce number) header
 
 -- whether PCHANNEL's tag is the one over its Nonce, the header and the sealed octet
 abbrev pub is_sealed : List ℕ → ℕ → List ℕ → ℕ → List ℕ → Bool
-is_sealed tek number header sealed tag = eax_accepts tek (channel_nonce number) header (sealed ∷ []) tag
+is_sealed tek number header sealed tag =
+    eax_accepts tek (channel_nonce number) header (sealed ∷ []) tag
 
 -- what EAX's tag covers, as it is recorded
 unfoldable pub channel_octets : ℕ → List ℕ → ℕ → List ℕ
@@ -77,11 +81,18 @@ channel_octets number header sealed = channel_nonce number ++ (header ++ sealed 
 -- the record of PCHANNEL's tag
 abbrev pub tek_record : List ℕ → ℕ → List ℕ → ℕ → List ℕ → TagRecord
 tek_record psk number header sealed tag =
-    record { method = psk_kind; label = Tek; psk = psk; octets = channel_octets number header sealed; tag = tag }
+    record {
+      method = psk_kind;
+      label = Tek;
+      psk = psk;
+      octets = channel_octets number header sealed;
+      tag = tag;
+    }
 
 -- what is wrong with the octet that was opened
 abbrev pub result_fault : ℕ → Option Cause
-result_fault octet = fault_if (result_of octet == 0) BadResult (fault_if (is_extended octet) Extended None)
+result_fault octet =
+    fault_if (result_of octet == 0) BadResult (fault_if (is_extended octet) Extended None)
 
 -- the blank tag with which the header of a packet is known
 abbrev pub blank_tag : List ℕ

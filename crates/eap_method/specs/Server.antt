@@ -1,5 +1,6 @@
 -- The server's methods by kind: what an object is, its state, and its calls.
-use Rattle.std.specs.Prelude.{◌≡◌, ℕ, List, Bool, true, false, ◌==◌, if◌then◌else◌, Option, Some, None, map, find, option_map}
+use Rattle.std.specs.Prelude.{◌≡◌, ℕ, List, Bool, true, false, ◌==◌, if◌then◌else◌, Option, Some}
+use Rattle.std.specs.Prelude.{None, map, find, option_map}
 use Rattle.login_setup.specs.Setup.{ServerSetup}
 use Rattle.login_setup.specs.declared.users.User.{User}
 use Rattle.octet_lists.specs.Among.{psk_kind, gpsk_kind, identity_kind, is_among}
@@ -13,8 +14,8 @@ use Rattle.eap_method.specs.GpskServer as gpsk_server
 use Rattle.eap_method.specs.ServerTurn.{Discard}
 use Rattle.eap_method.specs.Turns.{ServerOutcome, FirstOutcome, dropped}
 
--- a method of a maker at a server: its Type, which isn't Identity's, and its tables over a state of octets; one that has
--- begun makes its first Request, and a discard keeps the state
+-- a method of a maker at a server: its Type, which isn't Identity's, and its tables over a state of
+-- octets; one that has begun makes its first Request, and a discard keeps the state
 pub record Custom : Type 0 where
   pub kind : ℕ
   pub no_identity : (kind == identity_kind) ≡ false
@@ -24,7 +25,8 @@ pub record Custom : Type 0 where
   pub first_step : List ℕ → ℕ → FirstOutcome (List ℕ)
   pub step : List User → ℕ → List ℕ → List ℕ → ServerOutcome (List ℕ)
   pub report : List ℕ → Option Report
-  pub discards : (users : List User) (next_id : ℕ) (view octets : List ℕ) (cause : Cause) → (step users next_id view octets).turn ≡ Discard cause
+  pub discards : (users : List User) (next_id : ℕ) (view octets : List ℕ) (cause : Cause)
+      → (step users next_id view octets).turn ≡ Discard cause
       → (step users next_id view octets).after ≡ view
 
 -- the methods
@@ -124,7 +126,8 @@ server_report s = report s.method s.view
 abbrev pub first_of : ℕ → List ServerShown → Option ServerShown
 first_of kind shown = find (λ s. server_kind s == kind) shown
 
--- what the server's object of each Type shows; none of a Type that it doesn't propose, or has no object of
+-- what the server's object of each Type shows; none of a Type that it doesn't propose, or has no
+-- object of
 abbrev pub ServerViews : Type 0
 ServerViews = ℕ → Option ServerShown
 
@@ -158,7 +161,8 @@ offering kind views out = record { packet = Some out.packet; after = put kind ou
 
 abbrev pub offered : ServerSide → List ℕ → ℕ → ℕ → ServerViews → Option ServerShown → Offer
 offered own nonce kind id views None = record { packet = None; after = views }
-offered own nonce kind id views (Some s) = offering kind views (server_first_step (started_server own nonce s) id)
+offered own nonce kind id views (Some s) =
+    offering kind views (server_first_step (started_server own nonce s) id)
 
 -- a method begins and makes its first Request, by its Type (RFC 4137 section 5.3.1, m.init and
 -- m.buildReq)
@@ -169,9 +173,11 @@ server_offer own nonce kind id views = offered own nonce kind id views (views ki
 abbrev pub putting : ℕ → ServerViews → ServerOutcome ServerShown → ServerOutcome ServerViews
 putting kind views out = record { turn = out.turn; after = put kind out.after views }
 
-abbrev pub turned : List User → ℕ → ℕ → ServerViews → List ℕ → Option ServerShown → ServerOutcome ServerViews
+abbrev pub turned : List User → ℕ → ℕ → ServerViews → List ℕ → Option ServerShown
+    → ServerOutcome ServerViews
 turned users next_id kind views octets None = dropped views WrongOp
-turned users next_id kind views octets (Some s) = putting kind views (server_step users next_id s octets)
+turned users next_id kind views octets (Some s) =
+    putting kind views (server_step users next_id s octets)
 
 unfoldable pub server_turn : List User → ℕ → ℕ → ServerViews → List ℕ → ServerOutcome ServerViews
 server_turn users next_id kind views octets = turned users next_id kind views octets (views kind)
@@ -188,10 +194,12 @@ server_report_of kind views = reported (views kind)
 unfoldable pub side_of : ServerSetup → ServerSide
 side_of setup = record { id_s = setup.name; suites = setup.suites }
 
--- the object after a server of these settings has begun: one of a method that it doesn't propose stays as it is
+-- the object after a server of these settings has begun: one of a method that it doesn't propose
+-- stays as it is
 unfoldable pub server_started_in : ServerSetup → ServerShown → ServerShown
 server_started_in setup s =
-    if is_among setup.methods (server_kind s) then started_server (side_of setup) setup.nonce s else s
+    if is_among setup.methods (server_kind s)
+    then started_server (side_of setup) setup.nonce s else s
 
 -- the views of a server that begins
 unfoldable pub views_started : ServerSetup → ServerViews → ServerViews

@@ -7,8 +7,8 @@ use Rattle.eap_method.specs.declared.turn.ServerAnswer.TheVariants as answer
 use Rattle.eap_method.specs.declared.turn.ServerTurn as whole
 use Rattle.eap_method.specs.declared.turn.ServerTurn.TheVariants as turn
 
--- a discard; the next Request; or the end of the method, with success or not; with the records of the
--- tags accepted and made
+-- a discard; the next Request; or the end of the method, with success or not; with the records of
+-- the tags accepted and made
 pub data ServerTurn : Type 0 where
   Discard : Cause → ServerTurn
   Request : List ℕ → Tags → ServerTurn

@@ -6,8 +6,8 @@ use Rattle.eap_packet.specs.declared.state.State.TheVariants as state
 use Rattle.eap_method.specs.declared.step.Step as brief
 use Rattle.eap_method.specs.Tags.{Tags, no_tags}
 
--- what one call does, with what it writes: the states that it enters, the cause of a discard, the packet
--- that it sends, the records of the tags accepted and made
+-- what one call does, with what it writes: the states that it enters, the cause of a discard, the
+-- packet that it sends, the records of the tags accepted and made
 pub record Step : Type 0 where
   pub path : List State
   pub cause : Option Cause
@@ -17,7 +17,12 @@ pub record Step : Type 0 where
 -- the step of a call that answers so, with the packet and the records that it wrote
 abbrev pub step_with : brief.Step → List ℕ → Tags → Step
 step_with step packet tags =
-    record { path = step.path; cause = step.cause; sent = if step.sends then Some packet else None; tags = tags }
+    record {
+      path = step.path;
+      cause = step.cause;
+      sent = if step.sends then Some packet else None;
+      tags = tags;
+    }
 
 -- the states entered, the octets sent, and the records
 abbrev pub sends : List State → List ℕ → Tags → Step
@@ -33,4 +38,5 @@ discards path cause = record { path = path; cause = Some cause; sent = None; tag
 
 -- whether a party has ended
 abbrev pub is_end : State → Bool
-is_end s = elim s [ state.Success ↦ true | state.Failure ↦ true | state.TimeoutFailure ↦ true | _ ↦ false ]
+is_end s =
+    elim s [ state.Success ↦ true | state.Failure ↦ true | state.TimeoutFailure ↦ true | _ ↦ false ]

@@ -40,9 +40,13 @@ abbrev pub discarded : {V : Type 0} → V → Cause → PeerOutcome V
 discarded view cause = record { turn = peer.Discard cause; after = view }
 
 -- a Response, with the records of the tags accepted and made
-abbrev pub replied : {V : Type 0} → V → List ℕ → MethodState → Decision → List TagRecord → List TagRecord → PeerOutcome V
+abbrev pub replied : {V : Type 0} → V → List ℕ → MethodState → Decision → List TagRecord
+    → List TagRecord → PeerOutcome V
 replied view packet state decision accepted made =
-    record { turn = peer.Reply packet state decision (record { accepted = accepted; made = made }); after = view }
+    record {
+      turn = peer.Reply packet state decision (record { accepted = accepted; made = made });
+      after = view;
+    }
 
 abbrev pub dropped : {V : Type 0} → V → Cause → ServerOutcome V
 dropped view cause = record { turn = server.Discard cause; after = view }
@@ -50,8 +54,14 @@ dropped view cause = record { turn = server.Discard cause; after = view }
 -- the next Request
 abbrev pub requested : {V : Type 0} → V → List ℕ → List TagRecord → List TagRecord → ServerOutcome V
 requested view packet accepted made =
-    record { turn = server.Request packet (record { accepted = accepted; made = made }); after = view }
+    record {
+      turn = server.Request packet (record { accepted = accepted; made = made });
+      after = view;
+    }
 
 -- the end of the method
 abbrev pub done : {V : Type 0} → V → Bool → List TagRecord → ServerOutcome V
-done view success accepted = record { turn = server.Done success (record { accepted = accepted; made = [] }); after = view }
+done view success accepted = record {
+  turn = server.Done success (record { accepted = accepted; made = [] });
+  after = view;
+}

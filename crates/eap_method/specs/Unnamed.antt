@@ -1,4 +1,5 @@
--- What no call of an end changes at its objects: their methods, and the state of one whose method the end doesn't name.
+-- What no call of an end changes at its objects: their methods, and the state of one whose method
+-- the end doesn't name.
 use Rattle.std.specs.Prelude.{◌≡◌, ℕ, List, not}
 use Rattle.std.specs.List.{filter}
 use Rattle.octet_lists.specs.Among.{is_among}
@@ -12,8 +13,8 @@ peers_unnamed named shown = filter (λ s. not (is_among named (peer_kind s))) sh
 unfoldable pub servers_unnamed : List ℕ → List ServerShown → List ServerShown
 servers_unnamed named shown = filter (λ s. not (is_among named (server_kind s))) shown
 
--- before and after, the objects of an end that names these methods are of the same methods in the same order, and
--- those of methods that it doesn't name are as they were
+-- before and after, the objects of an end that names these methods are of the same methods in the
+-- same order, and those of methods that it doesn't name are as they were
 pub record PreservesPeers (named : List ℕ) (before after : List PeerShown) : Type 0 where
   pub methods : peer_methods after ≡ peer_methods before
   pub unnamed : peers_unnamed named after ≡ peers_unnamed named before

@@ -35,7 +35,8 @@ impl Step {
 impl WholeStep {
     /// [`Step::outcome`], of the step with its packet.
     pub fn outcome(&self, report: Option<Report>) -> Outcome
-        ensures { result ≡ outcome_of self.now.cause (entered self.now.path) (is_some self.now.sent) report }
+        ensures { result
+            ≡ outcome_of self.now.cause (entered self.now.path) (is_some self.now.sent) report }
     {
         outcome_of(self.cause, entered(&self.path), self.sent.is_some(), report)
     }

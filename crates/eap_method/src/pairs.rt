@@ -24,7 +24,8 @@ pub fn peer_pair<M: PeerMethod>(alloc: Global, gpsk: M, psk: M) -> Result<Vec<M>
     ensures each { IfOk result (λ both. (kinds : List ℕ) → IsTrue (are_kinds kinds)
         → have_each (peer_kinds (map M.peer_shown both.items)) kinds ≡ true) }
     ensures of_both { IfOk result (λ both. peers.method_of (M.peer_shown gpsk) ≡ peers.by_gpsk
-        → peers.method_of (M.peer_shown psk) ≡ peers.by_psk → both_peers.are_both (map M.peer_shown both.items) ≡ true) }
+        → peers.method_of (M.peer_shown psk) ≡ peers.by_psk
+        → both_peers.are_both (map M.peer_shown both.items) ≡ true) }
 {
     pair(alloc, gpsk, psk)
 }
@@ -38,7 +39,8 @@ pub fn server_pair<M: ServerMethod>(alloc: Global, gpsk: M, psk: M) -> Result<Ve
     ensures each { IfOk result (λ both. (kinds : List ℕ) → IsTrue (are_kinds kinds)
         → have_each (server_kinds (map M.server_shown both.items)) kinds ≡ true) }
     ensures of_both { IfOk result (λ both. servers.method_of (M.server_shown gpsk) ≡ servers.by_gpsk
-        → servers.method_of (M.server_shown psk) ≡ servers.by_psk → both_servers.are_both (map M.server_shown both.items) ≡ true) }
+        → servers.method_of (M.server_shown psk) ≡ servers.by_psk
+        → both_servers.are_both (map M.server_shown both.items) ≡ true) }
 {
     pair(alloc, gpsk, psk)
 }

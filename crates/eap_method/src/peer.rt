@@ -34,7 +34,8 @@ pub trait PeerMethod: Drop {
     /// Type: it has at most 1,493 octets.
     fn handle(&mut self, request: &[u8]) -> PeerTurn
         requires { IsRequest (peer_kind (peer_shown self.old)) request.now }
-        ensures turn { peer_step (peer_shown self.old) request.now ≡ record { turn = peer_turn_of result; after = peer_shown self.new } }
+        ensures turn { peer_step (peer_shown self.old) request.now
+            ≡ record { turn = peer_turn_of result; after = peer_shown self.new } }
         ensures capacity { PeerTurnHasCapacity result };
 
     /// Provided, by [`handle`](PeerMethod::handle): the same in place. The Response is written into `packet` in place of
@@ -42,7 +43,10 @@ pub trait PeerMethod: Drop {
     fn handle_into(&mut self, request: &[u8], packet: &mut Packet, tags: &mut Tags) -> PeerAnswer
         requires { IsRequest (peer_kind (peer_shown self.old)) request.now }
         ensures turn { peer_step (peer_shown self.old) request.now
-            ≡ record { turn = peer_turn_with result packet.new tags.new; after = peer_shown self.new } }
+            ≡ record {
+              turn = peer_turn_with result packet.new tags.new;
+              after = peer_shown self.new;
+            } }
         ensures tags { tags.new ≡ peer_tags (peer_turn_with result packet.new tags.new) }
         ensures capacity { replies result ≡ true → HasCapacity packet.new }
     {
@@ -58,7 +62,10 @@ pub trait PeerMethod: Drop {
     ) -> PeerAnswer
         requires { IsRequest (peer_kind (peer_shown self.old)) request.now }
         ensures turn { peer_step (peer_shown self.old) request.now
-            ≡ record { turn = peer_turn_with result packet.new tags.new; after = peer_shown self.new } }
+            ≡ record {
+              turn = peer_turn_with result packet.new tags.new;
+              after = peer_shown self.new;
+            } }
         ensures tags { tags.new ≡ peer_tags (peer_turn_with result packet.new tags.new) }
         ensures capacity { replies result ≡ true → HasCapacity packet.new }
     {

@@ -3,7 +3,9 @@
 ghost use Rattle.std.specs.Prelude.{◌≡◌, ◌==◌, ℕ, List, true, map, find, option_copied, option_map};
 ghost use Rattle.octet_lists.specs.Among.{is_among};
 ghost use Rattle.login_setup.specs.Setup.{IsSoundPeer, HasKeys};
-ghost use Rattle.eap_method.specs.Peer.{peer_kind, peer_kinds, peer_methods, first_of, have_each, peer_views, peer_turn, IsRequest, peer_report_of, views_started, key_for, credential_for, peer_started_in};
+ghost use Rattle.eap_method.specs.Peer.{peer_kind, peer_kinds, peer_methods, first_of, have_each};
+ghost use Rattle.eap_method.specs.Peer.{peer_views, peer_turn, IsRequest, peer_report_of};
+ghost use Rattle.eap_method.specs.Peer.{views_started, key_for, credential_for, peer_started_in};
 ghost use Rattle.eap_method.specs.Unnamed.{peers_unnamed};
 ghost use Rattle.eap_method.specs.PeerTurn.{peer_turn_with, peer_tags};
 ghost use Rattle.eap_method.specs.Capacity.{HasCapacity, replies};
@@ -25,8 +27,10 @@ pub fn start_peers<M: PeerMethod>(methods: &mut [M], setup: &PeerSetup)
     requires keys { HasKeys setup.now }
     ensures views { peer_views setup.now.methods (map M.peer_shown methods.new)
         ≡ views_started setup.now (peer_views setup.now.methods (map M.peer_shown methods.old)) }
-    ensures methods { peer_methods (map M.peer_shown methods.new) ≡ peer_methods (map M.peer_shown methods.old) }
-    ensures unnamed { peers_unnamed setup.now.methods (map M.peer_shown methods.new) ≡ peers_unnamed setup.now.methods (map M.peer_shown methods.old) }
+    ensures methods { peer_methods (map M.peer_shown methods.new)
+        ≡ peer_methods (map M.peer_shown methods.old) }
+    ensures unnamed { peers_unnamed setup.now.methods (map M.peer_shown methods.new)
+        ≡ peers_unnamed setup.now.methods (map M.peer_shown methods.old) }
 {
     start_each(methods, setup);
 }
@@ -43,13 +47,19 @@ pub fn call_peer_method<M: PeerMethod, R: Turns>(
     tags: &mut Tags<R>,
 ) -> PeerAnswer
     requires { IsRequest kind request.now }
-    ensures turn { (allowed : List ℕ) → is_among allowed kind ≡ true → peer_turn kind (peer_views allowed (map M.peer_shown methods.old)) request.now
-        ≡ record { turn = peer_turn_with result packet.new tags.new; after = peer_views allowed (map M.peer_shown methods.new) } }
+    ensures turn { (allowed : List ℕ) → is_among allowed kind ≡ true
+        → peer_turn kind (peer_views allowed (map M.peer_shown methods.old)) request.now
+        ≡ record {
+          turn = peer_turn_with result packet.new tags.new;
+          after = peer_views allowed (map M.peer_shown methods.new);
+        } }
     ensures tags { tags.new ≡ peer_tags (peer_turn_with result packet.new tags.new) }
     ensures capacity { replies result ≡ true → HasCapacity packet.new }
-    ensures methods { peer_methods (map M.peer_shown methods.new) ≡ peer_methods (map M.peer_shown methods.old) }
+    ensures methods { peer_methods (map M.peer_shown methods.new)
+        ≡ peer_methods (map M.peer_shown methods.old) }
     ensures unnamed { (allowed : List ℕ) → is_among allowed kind ≡ true
-        → peers_unnamed allowed (map M.peer_shown methods.new) ≡ peers_unnamed allowed (map M.peer_shown methods.old) }
+        → peers_unnamed allowed (map M.peer_shown methods.new)
+        ≡ peers_unnamed allowed (map M.peer_shown methods.old) }
 {
     match methods.split_first_mut() {
         None => {
@@ -69,14 +79,16 @@ pub fn call_peer_method<M: PeerMethod, R: Turns>(
 /// What the object of this Type, which is allowed, has after a login that succeeded; None after any
 /// other, and if there is no such object.
 pub fn peer_report<M: PeerMethod>(methods: &[M], kind: u8) -> Option<Report>
-    ensures { (allowed : List ℕ) → is_among allowed kind ≡ true → result ≡ peer_report_of kind (peer_views allowed (map M.peer_shown methods.now)) }
+    ensures { (allowed : List ℕ) → is_among allowed kind ≡ true
+        → result ≡ peer_report_of kind (peer_views allowed (map M.peer_shown methods.now)) }
 {
     object_of(methods, kind)?.report()
 }
 
 /// The first object of this Type; None if there is none.
 pub fn find_peer<M: PeerMethod>(methods: &[M], kind: u8) -> Option<&M>
-    ensures { option_map (λ o. M.peer_shown o.now) result ≡ first_of kind (map M.peer_shown methods.now) }
+    ensures { option_map (λ o. M.peer_shown o.now) result
+        ≡ first_of kind (map M.peer_shown methods.now) }
 {
     object_of(methods, kind)
 }
@@ -104,7 +116,8 @@ fn has_peer<M: PeerMethod>(methods: &[M], kind: u8) -> bool
 fn start_each<M: PeerMethod>(methods: &mut [M], setup: &PeerSetup)
     requires sound { IsSoundPeer setup.now }
     requires keys { HasKeys setup.now }
-    ensures { map M.peer_shown methods.new ≡ map (peer_started_in setup.now) (map M.peer_shown methods.old) }
+    ensures { map M.peer_shown methods.new
+        ≡ map (peer_started_in setup.now) (map M.peer_shown methods.old) }
 {
     if let Some((first, rest)) = methods.split_first_mut() {
         start_one(first, setup);

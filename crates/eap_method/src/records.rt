@@ -23,7 +23,8 @@ pub trait Records: Drop {
 
     /// Keeps what there is room for of one more record.
     fn put(&mut self, tag: &Covering)
-        ensures { (records : List TagRecord) → length records < 2 → stores self.old records → stores self.new (records ++ tag.now ∷ []) };
+        ensures { (records : List TagRecord) → length records < 2 → stores self.old records
+            → stores self.new (records ++ tag.now ∷ []) };
 }
 
 /// No room: the records are made for nobody.

@@ -3,7 +3,9 @@
 ghost use Rattle.std.specs.Prelude.{◌≡◌, ◌≤◌, length, true, IsTrue, All};
 ghost use Rattle.login_setup.specs.Setup.{is_valid_for, are_suites};
 ghost use Rattle.login_setup.specs.Users.{AreDistinct, max_users};
-ghost use Rattle.eap_method.specs.Server.{server_kind, started_server, has_initiated, server_first_step, server_step, server_report, IsResponse};
+ghost use Rattle.eap_method.specs.Server.{server_kind, started_server, has_initiated};
+ghost use Rattle.eap_method.specs.Server.{server_first_step, server_step, server_report};
+ghost use Rattle.eap_method.specs.Server.{IsResponse};
 ghost use Rattle.eap_method.specs.Capacity.{HasCapacity, ServerTurnHasCapacity, requests};
 ghost use Rattle.eap_method.specs.ServerTurn.{server_turn_of, server_turn_with, server_tags};
 
@@ -29,20 +31,23 @@ pub trait ServerMethod: Drop {
     /// Required. Begins again, whatever the object's state before. The suites are one or two of 1 and 2.
     fn begin(&mut self, own: &ServerSide, nonce: &Nonce)
         requires { IsTrue (are_suites own.now.suites) }
-        ensures { server_shown self.new ≡ started_server own.now nonce.now (server_shown self.old) };
+        ensures { server_shown self.new
+            ≡ started_server own.now nonce.now (server_shown self.old) };
 
     /// Required. The method's first Request, with this Identifier: at most 1,493 octets, so that an Expanded Type has room.
     /// The object has begun and made none.
     fn first(&mut self, id: u8) -> Packet
         requires { has_initiated (server_shown self.old) ≡ true }
-        ensures first { server_first_step (server_shown self.old) id ≡ record { packet = result; after = server_shown self.new } }
+        ensures first { server_first_step (server_shown self.old) id
+            ≡ record { packet = result; after = server_shown self.new } }
         ensures capacity { HasCapacity result };
 
     /// Provided, by [`first`](ServerMethod::first): the same in place. The Request is written into `packet` in place of
     /// what was there.
     fn first_into(&mut self, id: u8, packet: &mut Packet)
         requires { has_initiated (server_shown self.old) ≡ true }
-        ensures first { server_first_step (server_shown self.old) id ≡ record { packet = packet.new; after = server_shown self.new } }
+        ensures first { server_first_step (server_shown self.old) id
+            ≡ record { packet = packet.new; after = server_shown self.new } }
         ensures capacity { HasCapacity packet.new }
     {
         packet.set(self.first(id).as_slice());
@@ -74,7 +79,10 @@ pub trait ServerMethod: Drop {
         requires distinct { AreDistinct users.now }
         requires few { length users.now ≤ max_users }
         ensures turn { server_step users.now next_id (server_shown self.old) response.now
-            ≡ record { turn = server_turn_with result packet.new tags.new; after = server_shown self.new } }
+            ≡ record {
+              turn = server_turn_with result packet.new tags.new;
+              after = server_shown self.new;
+            } }
         ensures tags { tags.new ≡ server_tags (server_turn_with result packet.new tags.new) }
         ensures capacity { requests result ≡ true → HasCapacity packet.new }
     {
@@ -96,7 +104,10 @@ pub trait ServerMethod: Drop {
         requires distinct { AreDistinct users.now }
         requires few { length users.now ≤ max_users }
         ensures turn { server_step users.now next_id (server_shown self.old) response.now
-            ≡ record { turn = server_turn_with result packet.new tags.new; after = server_shown self.new } }
+            ≡ record {
+              turn = server_turn_with result packet.new tags.new;
+              after = server_shown self.new;
+            } }
         ensures tags { tags.new ≡ server_tags (server_turn_with result packet.new tags.new) }
         ensures capacity { requests result ≡ true → HasCapacity packet.new }
     {

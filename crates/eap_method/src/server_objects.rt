@@ -1,13 +1,18 @@
 //! The objects of a server: beginning them, finding the one of a method, and calling it.
 
-ghost use Rattle.std.specs.Prelude.{◌≡◌, ◌≤◌, ◌==◌, length, ℕ, List, true, map, find, option_copied, option_map, IsTrue, All, Some, None, if◌then◌else◌};
+ghost use Rattle.std.specs.Prelude.{◌≡◌, ◌≤◌, ◌==◌, length, ℕ, List, true, map, find};
+ghost use Rattle.std.specs.Prelude.{option_copied, option_map, IsTrue, All, Some, None};
+ghost use Rattle.std.specs.Prelude.{if◌then◌else◌};
 ghost use Rattle.octet_lists.specs.Among.{is_among};
 ghost use Rattle.login_setup.specs.Setup.{is_valid_for, are_suites};
 ghost use Rattle.login_setup.specs.Users.{AreDistinct, max_users};
 ghost use Rattle.eap_method.specs.Capacity.{HasCapacity, requests};
 ghost use Rattle.eap_method.specs.ServerTurn.{server_turn_with, server_tags};
 ghost use Rattle.eap_method.specs.Peer.{have_each};
-ghost use Rattle.eap_method.specs.Server.{server_kind, server_kinds, server_methods, first_of, server_views, server_offer, server_turn, IsResponse, server_report_of, side_of, views_started, server_started_in};
+ghost use Rattle.eap_method.specs.Server.{server_kind, server_kinds, server_methods, first_of};
+ghost use Rattle.eap_method.specs.Server.{server_views, server_offer, server_turn, IsResponse};
+ghost use Rattle.eap_method.specs.Server.{server_report_of, side_of, views_started};
+ghost use Rattle.eap_method.specs.Server.{server_started_in};
 ghost use Rattle.eap_method.specs.Unnamed.{servers_unnamed};
 
 use crate::server::ServerMethod;
@@ -26,9 +31,12 @@ pub fn start_servers<M: ServerMethod, const N: usize>(
 )
     requires { IsTrue (are_suites setup.now.suites) }
     ensures views { server_views setup.now.methods (map M.server_shown methods.new)
-        ≡ views_started setup.now (server_views setup.now.methods (map M.server_shown methods.old)) }
-    ensures methods { server_methods (map M.server_shown methods.new) ≡ server_methods (map M.server_shown methods.old) }
-    ensures unnamed { servers_unnamed setup.now.methods (map M.server_shown methods.new) ≡ servers_unnamed setup.now.methods (map M.server_shown methods.old) }
+        ≡ views_started setup.now
+        (server_views setup.now.methods (map M.server_shown methods.old)) }
+    ensures methods { server_methods (map M.server_shown methods.new)
+        ≡ server_methods (map M.server_shown methods.old) }
+    ensures unnamed { servers_unnamed setup.now.methods (map M.server_shown methods.new)
+        ≡ servers_unnamed setup.now.methods (map M.server_shown methods.old) }
 {
     start_each(methods, setup);
 }
@@ -46,12 +54,18 @@ pub fn offer_method<M: ServerMethod>(
 ) -> bool
     requires { IsTrue (are_suites own.now.suites) }
     ensures offer { (order : List ℕ) → is_among order kind ≡ true
-        → server_offer own.now nonce.now kind id (server_views order (map M.server_shown methods.old))
-        ≡ record { packet = if result then Some packet.new else None; after = server_views order (map M.server_shown methods.new) } }
+        → server_offer own.now nonce.now kind id
+        (server_views order (map M.server_shown methods.old))
+        ≡ record {
+          packet = if result then Some packet.new else None;
+          after = server_views order (map M.server_shown methods.new);
+        } }
     ensures capacity { result ≡ true → HasCapacity packet.new }
-    ensures methods { server_methods (map M.server_shown methods.new) ≡ server_methods (map M.server_shown methods.old) }
+    ensures methods { server_methods (map M.server_shown methods.new)
+        ≡ server_methods (map M.server_shown methods.old) }
     ensures unnamed { (order : List ℕ) → is_among order kind ≡ true
-        → servers_unnamed order (map M.server_shown methods.new) ≡ servers_unnamed order (map M.server_shown methods.old) }
+        → servers_unnamed order (map M.server_shown methods.new)
+        ≡ servers_unnamed order (map M.server_shown methods.old) }
 {
     match methods.split_first_mut() {
         None => false,
@@ -85,13 +99,19 @@ pub fn call_server_method<M: ServerMethod, R: Turns>(
     requires distinct { AreDistinct users.now }
     requires few { length users.now ≤ max_users }
     ensures turn { (order : List ℕ) → is_among order kind ≡ true
-        → server_turn users.now next_id kind (server_views order (map M.server_shown methods.old)) response.now
-        ≡ record { turn = server_turn_with result packet.new tags.new; after = server_views order (map M.server_shown methods.new) } }
+        → server_turn users.now next_id kind (server_views order (map M.server_shown methods.old))
+        response.now
+        ≡ record {
+          turn = server_turn_with result packet.new tags.new;
+          after = server_views order (map M.server_shown methods.new);
+        } }
     ensures tags { tags.new ≡ server_tags (server_turn_with result packet.new tags.new) }
     ensures capacity { requests result ≡ true → HasCapacity packet.new }
-    ensures methods { server_methods (map M.server_shown methods.new) ≡ server_methods (map M.server_shown methods.old) }
+    ensures methods { server_methods (map M.server_shown methods.new)
+        ≡ server_methods (map M.server_shown methods.old) }
     ensures unnamed { (order : List ℕ) → is_among order kind ≡ true
-        → servers_unnamed order (map M.server_shown methods.new) ≡ servers_unnamed order (map M.server_shown methods.old) }
+        → servers_unnamed order (map M.server_shown methods.new)
+        ≡ servers_unnamed order (map M.server_shown methods.old) }
 {
     match methods.split_first_mut() {
         None => {
@@ -111,20 +131,23 @@ pub fn call_server_method<M: ServerMethod, R: Turns>(
 /// What the object of this Type, which is proposed, has after a login that succeeded; None after any other,
 /// and if there is no such object.
 pub fn server_report<M: ServerMethod>(methods: &[M], kind: u8) -> Option<Report>
-    ensures { (order : List ℕ) → is_among order kind ≡ true → result ≡ server_report_of kind (server_views order (map M.server_shown methods.now)) }
+    ensures { (order : List ℕ) → is_among order kind ≡ true
+        → result ≡ server_report_of kind (server_views order (map M.server_shown methods.now)) }
 {
     object_of(methods, kind)?.report()
 }
 
 /// The first object of this Type; None if there is none.
 pub fn find_server<M: ServerMethod>(methods: &[M], kind: u8) -> Option<&M>
-    ensures { option_map (λ o. M.server_shown o.now) result ≡ first_of kind (map M.server_shown methods.now) }
+    ensures { option_map (λ o. M.server_shown o.now) result
+        ≡ first_of kind (map M.server_shown methods.now) }
 {
     object_of(methods, kind)
 }
 
 fn object_of<M: ServerMethod>(methods: &[M], kind: u8) -> Option<&M>
-    ensures { option_copied result ≡ find (λ m. server_kind (M.server_shown m) == kind) methods.now }
+    ensures { option_copied result
+        ≡ find (λ m. server_kind (M.server_shown m) == kind) methods.now }
 {
     methods.iter().find(|method| method.kind() == kind)
 }
@@ -145,7 +168,8 @@ fn has_server<M: ServerMethod>(methods: &[M], kind: u8) -> bool
 
 fn start_each<M: ServerMethod, const N: usize>(methods: &mut [M], setup: &ServerSetup<UserList<N>>)
     requires { IsTrue (are_suites setup.now.suites) }
-    ensures { map M.server_shown methods.new ≡ map (server_started_in setup.now) (map M.server_shown methods.old) }
+    ensures { map M.server_shown methods.new
+        ≡ map (server_started_in setup.now) (map M.server_shown methods.old) }
 {
     if let Some((first, rest)) = methods.split_first_mut() {
         start_one(first, setup);

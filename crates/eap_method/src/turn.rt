@@ -2,7 +2,8 @@
 //! are in the buffers passed to the call.
 
 ghost use Rattle.std.specs.Prelude.{◌≡◌, true};
-ghost use Rattle.eap_method.specs.Capacity.{HasCapacity, replies, requests, PeerTurnHasCapacity, ServerTurnHasCapacity};
+ghost use Rattle.eap_method.specs.Capacity.{HasCapacity, replies, requests, PeerTurnHasCapacity};
+ghost use Rattle.eap_method.specs.Capacity.{ServerTurnHasCapacity};
 ghost use Rattle.eap_method.specs.PeerTurn.{peer_turn_with, peer_turn_of, peer_tags};
 ghost use Rattle.eap_method.specs.ServerTurn.{server_turn_with, server_turn_of, server_tags};
 
@@ -82,7 +83,8 @@ impl ServerAnswer {
     /// The turn with the packet and the records that its call wrote.
     pub fn with(self, packet: Packet, tags: Tags) -> ServerTurn
         ensures turn { server_turn_of result ≡ server_turn_with self packet tags }
-        ensures capacity { (requests self ≡ true → HasCapacity packet) → ServerTurnHasCapacity result }
+        ensures capacity { (requests self ≡ true → HasCapacity packet)
+            → ServerTurnHasCapacity result }
     {
         match self {
             ServerAnswer::Discard(cause) => ServerTurn::Discard(cause),
@@ -97,7 +99,8 @@ impl PeerTurn {
     pub fn put(self, packet: &mut Packet, tags: &mut Tags) -> PeerAnswer
         ensures turn { peer_turn_with result packet.new tags.new ≡ peer_turn_of self }
         ensures tags { tags.new ≡ peer_tags (peer_turn_of self) }
-        ensures capacity { PeerTurnHasCapacity self → replies result ≡ true → HasCapacity packet.new }
+        ensures capacity { PeerTurnHasCapacity self → replies result ≡ true
+            → HasCapacity packet.new }
     {
         match self {
             PeerTurn::Discard(cause) => {
@@ -123,7 +126,8 @@ impl ServerTurn {
     pub fn put(self, packet: &mut Packet, tags: &mut Tags) -> ServerAnswer
         ensures turn { server_turn_with result packet.new tags.new ≡ server_turn_of self }
         ensures tags { tags.new ≡ server_tags (server_turn_of self) }
-        ensures capacity { ServerTurnHasCapacity self → requests result ≡ true → HasCapacity packet.new }
+        ensures capacity { ServerTurnHasCapacity self → requests result ≡ true
+            → HasCapacity packet.new }
     {
         match self {
             ServerTurn::Discard(cause) => {

@@ -31,7 +31,10 @@ pub trait Turns: Records {
         Self: Sized,
         requires { IsRequest (peer_kind (M.peer_shown method.old)) request.now }
         ensures turn { peer_step (M.peer_shown method.old) request.now
-            ≡ record { turn = peer_turn_with result packet.new tags.new; after = M.peer_shown method.new } }
+            ≡ record {
+              turn = peer_turn_with result packet.new tags.new;
+              after = M.peer_shown method.new;
+            } }
         ensures tags { tags.new ≡ peer_tags (peer_turn_with result packet.new tags.new) }
         ensures capacity { replies result ≡ true → HasCapacity packet.new };
 
@@ -51,7 +54,10 @@ pub trait Turns: Records {
         requires distinct { AreDistinct users.now }
         requires few { length users.now ≤ max_users }
         ensures turn { server_step users.now next_id (M.server_shown method.old) response.now
-            ≡ record { turn = server_turn_with result packet.new tags.new; after = M.server_shown method.new } }
+            ≡ record {
+              turn = server_turn_with result packet.new tags.new;
+              after = M.server_shown method.new;
+            } }
         ensures tags { tags.new ≡ server_tags (server_turn_with result packet.new tags.new) }
         ensures capacity { requests result ≡ true → HasCapacity packet.new };
 }

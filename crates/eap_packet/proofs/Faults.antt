@@ -1,10 +1,12 @@
 -- What it means that no cause applies: each condition by name.
-use Rattle.std.proofs.Common.{◌≡◌, ◌≢◌, ℕ, ◌<◌, ◌≤◌, List, [], ◌∷◌, length, None, Bool, true, false, refl, arith}
+use Rattle.std.proofs.Common.{◌≡◌, ◌≢◌, ℕ, ◌<◌, ◌≤◌, List, [], ◌∷◌, length, None, Bool, true, false}
+use Rattle.std.proofs.Common.{refl, arith}
 use Rattle.std.proofs.lemmas.Bool.Decides.{nat_tests}
 use Rattle.eap_packet.specs.declared.cause.Cause.{Cause}
 use Rattle.eap_packet.specs.Fault.{fault, fault_table, first_cause, code_of, length_of, type_of}
 
--- The fields of octets that begin with a packet: how many octets there are, the Code, the Length and the Type.
+-- The fields of octets that begin with a packet: how many octets there are, the Code, the Length
+-- and the Type.
 pub record AreFields (count code size kind : ℕ) : Type 0 where
   pub four : 4 ≤ count
   pub low : 1 ≤ code
@@ -58,5 +60,16 @@ starts_if_none octets e =
 pub none_if_starts : (octets : List ℕ) → StartsAt octets → fault octets ≡ None
 unfolding fault
 none_if_starts octets b =
-    first_cause_fail (fault_table octets)
-    (grind (arith, nat_tests), (grind (arith, nat_tests), (grind (arith, nat_tests), (grind (arith, nat_tests), (grind (arith, nat_tests), (grind (arith, nat_tests), (grind (arith, nat_tests), tt)))))))
+    first_cause_fail (fault_table octets) (
+      grind (arith, nat_tests),
+      (
+        grind (arith, nat_tests),
+        (
+          grind (arith, nat_tests),
+          (
+            grind (arith, nat_tests),
+            (grind (arith, nat_tests), (grind (arith, nat_tests), (grind (arith, nat_tests), tt))),
+          ),
+        ),
+      ),
+    )

@@ -17,7 +17,8 @@ has_inner kind body is = grind (arith, nat_tests, is)
 no_nak : (kind : ℕ) (body : List ℕ) → is_wrapped kind body ≡ true → inner_kind body ≢ 3
 no_nak kind body is nak = grind (arith, nat_tests, is, nak)
 
-inner_fields : (id kind : ℕ) (body : List ℕ) → is_wrapped kind body ≡ true → AreTypedFields id kind body →
+inner_fields : (id kind : ℕ) (body : List ℕ) → is_wrapped kind body ≡ true
+    → AreTypedFields id kind body →
     AreTypedFields id (inner_kind body) (inner_body body)
 inner_fields id kind body is p = record {
   id_bounded = p.id_bounded;
@@ -28,28 +29,36 @@ inner_fields id kind body is p = record {
 
 pub plain_is_packet : PlainIsPacket
 plain_is_packet (request id kind body) p =
-    cond_both (is_wrapped kind body) (request id (inner_kind body) (inner_body body)) (request id kind body) (λ v. IsPacket v)
+    cond_both (is_wrapped kind body) (request id (inner_kind body) (inner_body body))
+    (request id kind body) (λ v. IsPacket v)
     (λ is. (inner_fields id kind body is p.0, no_nak kind body is)) (λ _. p)
 plain_is_packet (response id kind body) p =
-    cond_both (is_wrapped kind body) (response id (inner_kind body) (inner_body body)) (response id kind body) (λ v. IsPacket v)
+    cond_both (is_wrapped kind body) (response id (inner_kind body) (inner_body body))
+    (response id kind body) (λ v. IsPacket v)
     (λ is. (inner_fields id kind body is p.0, λ nak. absurd (no_nak kind body is nak))) (λ _. p)
 plain_is_packet (success id) p = p
 plain_is_packet (failure id) p = p
 
-wrapped_fields : (id kind : ℕ) (body : List ℕ) → AreTypedFields id kind body → length body ≤ 1488 → AreTypedFields id 254 (ietf ++ kind ∷ body)
+wrapped_fields : (id kind : ℕ) (body : List ℕ) → AreTypedFields id kind body → length body ≤ 1488
+    → AreTypedFields id 254 (ietf ++ kind ∷ body)
 wrapped_fields id kind body p size = record {
   id_bounded = p.id_bounded;
   kind_bounded = omega arith;
   octets = All-append (λ b. b < 256) ietf (kind ∷ body)
-      (All-from_recursion (λ b. b < 256) ietf (omega arith, (omega arith, (omega arith, (omega arith, (omega arith, (omega arith, tt)))))))
+      (All-from_recursion (λ b. b < 256) ietf
+      (omega arith, (omega arith, (omega arith, (omega arith, (omega arith, (omega arith, tt)))))))
       (All-cons (λ b. b < 256) kind body p.kind_bounded p.octets);
   size = omega arith;
 }
 
 pub wrap_is_packet : WrapIsPacket
-wrap_is_packet (request id kind body) p fits =
-    (wrapped_fields id kind body p.0 (omega (arith, fits, length_spelled (request id kind body))), λ nak. absurd (omega (arith, nak)))
-wrap_is_packet (response id kind body) p fits =
-    (wrapped_fields id kind body p.0 (omega (arith, fits, length_spelled (response id kind body))), λ nak. absurd (omega (arith, nak)))
+wrap_is_packet (request id kind body) p fits = (
+  wrapped_fields id kind body p.0 (omega (arith, fits, length_spelled (request id kind body))),
+  λ nak. absurd (omega (arith, nak)),
+)
+wrap_is_packet (response id kind body) p fits = (
+  wrapped_fields id kind body p.0 (omega (arith, fits, length_spelled (response id kind body))),
+  λ nak. absurd (omega (arith, nak)),
+)
 wrap_is_packet (success id) p fits = p
 wrap_is_packet (failure id) p fits = p

@@ -19,14 +19,18 @@ seven a b c d e f g rest fits = (
 )
 
 pub ietf_is_vendor_zero : IetfIsVendorZero
-ietf_is_vendor_zero (a ∷ b ∷ c ∷ d ∷ e ∷ f ∷ g ∷ rest) small = seven a b c d e f g rest (small 6 0 (omega arith))
+ietf_is_vendor_zero (a ∷ b ∷ c ∷ d ∷ e ∷ f ∷ g ∷ rest) small =
+    seven a b c d e f g rest (small 6 0 (omega arith))
 ietf_is_vendor_zero [] small = (λ is. absurd cc, λ w. absurd (omega (arith, w.whole)))
 ietf_is_vendor_zero (a ∷ []) small = (λ is. absurd cc, λ w. absurd (omega (arith, w.whole)))
 ietf_is_vendor_zero (a ∷ b ∷ []) small = (λ is. absurd cc, λ w. absurd (omega (arith, w.whole)))
 ietf_is_vendor_zero (a ∷ b ∷ c ∷ []) small = (λ is. absurd cc, λ w. absurd (omega (arith, w.whole)))
-ietf_is_vendor_zero (a ∷ b ∷ c ∷ d ∷ []) small = (λ is. absurd cc, λ w. absurd (omega (arith, w.whole)))
-ietf_is_vendor_zero (a ∷ b ∷ c ∷ d ∷ e ∷ []) small = (λ is. absurd cc, λ w. absurd (omega (arith, w.whole)))
-ietf_is_vendor_zero (a ∷ b ∷ c ∷ d ∷ e ∷ f ∷ []) small = (λ is. absurd cc, λ w. absurd (omega (arith, w.whole)))
+ietf_is_vendor_zero (a ∷ b ∷ c ∷ d ∷ []) small =
+    (λ is. absurd cc, λ w. absurd (omega (arith, w.whole)))
+ietf_is_vendor_zero (a ∷ b ∷ c ∷ d ∷ e ∷ []) small =
+    (λ is. absurd cc, λ w. absurd (omega (arith, w.whole)))
+ietf_is_vendor_zero (a ∷ b ∷ c ∷ d ∷ e ∷ f ∷ []) small =
+    (λ is. absurd cc, λ w. absurd (omega (arith, w.whole)))
 
 same_test : (b c : Bool) → (b ≡ true → c ≡ true) → (c ≡ true → b ≡ true) → b ≡ c
 same_test true c so back = sym (so refl)
@@ -34,7 +38,8 @@ same_test false true so back = back refl
 same_test false false so back = refl
 
 nak_of_seven : (a b c d e f g : ℕ) (rest : List ℕ) →
-    (let body = a ∷ b ∷ c ∷ d ∷ e ∷ f ∷ g ∷ rest in is_nak_body body ≡ ((vendor_of body == 0) && (vendor_type_of body == 3)))
+    (let body = a ∷ b ∷ c ∷ d ∷ e ∷ f ∷ g ∷ rest in
+    is_nak_body body ≡ ((vendor_of body == 0) && (vendor_type_of body == 3)))
 nak_of_seven a b c d e f g rest =
     let body = a ∷ b ∷ c ∷ d ∷ e ∷ f ∷ g ∷ rest in
     same_test (is_nak_body body) ((vendor_of body == 0) && (vendor_type_of body == 3))

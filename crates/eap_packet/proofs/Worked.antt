@@ -3,7 +3,8 @@ use Rattle.std.proofs.Common.{◌≡◌, ℕ, List, length, [], ◌∷◌, Some,
 use Rattle.std.proofs.lemmas.Bool.Decides.{nat_tests}
 use Rattle.eap_packet.specs.Packet.{request, response, success, failure, spelled}
 use Rattle.eap_packet.specs.Fault.{fault, packet_of}
-use Rattle.eap_packet.specs.declared.cause.Cause.TheVariants.{Short, BadCode, BadLength, Truncated, TooLong, NakRequest, BadNak}
+use Rattle.eap_packet.specs.declared.cause.Cause.TheVariants.{Short, BadCode, BadLength, Truncated}
+use Rattle.eap_packet.specs.declared.cause.Cause.TheVariants.{TooLong, NakRequest, BadNak}
 
 -- the first cause, one row each
 short : fault (1 ∷ 2 ∷ 3 ∷ []) ≡ Some Short

@@ -1,5 +1,8 @@
--- Expanded Types (RFC 3748 section 5.7): their fields, the plain form of a packet, and a packet wrapped.
-use Rattle.std.specs.Prelude.{ℕ, ◌+◌, ◌*◌, ◌-◌, List, [], ◌∷◌, ◌++◌, length, take, drop, Bool, true, false, ◌==◌, ◌&&◌, ◌||◌, not, nat_le, nat_lt, if◌then◌else◌, Option, Some, None, slice_index}
+-- Expanded Types (RFC 3748 section 5.7): their fields, the plain form of a packet, and a packet
+-- wrapped.
+use Rattle.std.specs.Prelude.{ℕ, ◌+◌, ◌*◌, ◌-◌, List, [], ◌∷◌, ◌++◌, length, take, drop, Bool, true}
+use Rattle.std.specs.Prelude.{false, ◌==◌, ◌&&◌, ◌||◌, not, nat_le, nat_lt, if◌then◌else◌, Option}
+use Rattle.std.specs.Prelude.{Some, None, slice_index}
 use Rattle.std.specs.Str.{bytes_eq}
 use Rattle.octet_lists.specs.Among.{is_filled, nak_kind, expanded_kind, ietf}
 use Rattle.eap_packet.specs.declared.expanded.Expanded.{Expanded}
@@ -16,7 +19,8 @@ vendor_of body = 65536 * slice_index body 0 + 256 * slice_index body 1 + slice_i
 
 abbrev pub vendor_type_of : List ℕ → ℕ
 vendor_type_of body =
-    16777216 * slice_index body 3 + 65536 * slice_index body 4 + 256 * slice_index body 5 + slice_index body 6
+    16777216 * slice_index body 3 + 65536 * slice_index body 4 + 256 * slice_index body 5
+    + slice_index body 6
 
 -- the fields of an Expanded Type: the Vendor-Id, the Vendor-Type and the Vendor data
 pub record ExpandedValue : Type 0 where
@@ -28,12 +32,14 @@ pub record ExpandedValue : Type 0 where
 abbrev pub expanded_of : List ℕ → Option ExpandedValue
 expanded_of body =
     if nat_lt (length body) 7 then None
-    else Some (record { vendor = vendor_of body; vendor_type = vendor_type_of body; rest = drop 7 body })
+    else Some
+    (record { vendor = vendor_of body; vendor_type = vendor_type_of body; rest = drop 7 body })
 
 -- a reader's answer, with the list of the Vendor data in place of its octets
 abbrev pub expanded_value : Option Expanded → Option ExpandedValue
 expanded_value None = None
-expanded_value (Some fields) = Some (record { vendor = fields.vendor; vendor_type = fields.vendor_type; rest = fields.rest.now })
+expanded_value (Some fields) = Some
+    (record { vendor = fields.vendor; vendor_type = fields.vendor_type; rest = fields.rest.now })
 
 -- whether Type-Data has Vendor-Id 0 and a Vendor-Type under 256; that Type, and the data behind it
 abbrev pub is_ietf : List ℕ → Bool
@@ -71,9 +77,11 @@ has_plain_form (failure id) = false
 -- any other, itself
 abbrev pub plain : PacketValue → PacketValue
 plain (request id kind body) =
-    if is_wrapped kind body then request id (inner_kind body) (inner_body body) else request id kind body
+    if is_wrapped kind body then request id (inner_kind body) (inner_body body)
+    else request id kind body
 plain (response id kind body) =
-    if is_wrapped kind body then response id (inner_kind body) (inner_body body) else response id kind body
+    if is_wrapped kind body then response id (inner_kind body) (inner_body body)
+    else response id kind body
 plain (success id) = success id
 plain (failure id) = failure id
 
@@ -84,8 +92,8 @@ wrap (response id kind body) = response id expanded_kind (ietf ++ kind ∷ body)
 wrap (success id) = success id
 wrap (failure id) = failure id
 
--- the octets of a packet wrapped, without padding: Code and Identifier, the new Length, Type 254 and
--- the vendor before the Type
+-- the octets of a packet wrapped, without padding: Code and Identifier, the new Length, Type 254
+-- and the vendor before the Type
 abbrev pub expanded_form : List ℕ → List ℕ
 expanded_form octets =
     slice_index octets 0 ∷ slice_index octets 1 ∷ two_octets (length_of octets + 7) ++
@@ -101,10 +109,11 @@ are_expanded octets = false
 abbrev pub are_entries : List ℕ → Bool
 are_entries list = is_filled list && are_expanded list
 
--- Type-Data of Type 254 that no party accepts: it is too short, or an Expanded Nak that is asked, or
--- one whose list has another form
+-- Type-Data of Type 254 that no party accepts: it is too short, or an Expanded Nak that is asked,
+-- or one whose list has another form
 abbrev pub is_bad_body : Bool → List ℕ → Bool
-is_bad_body is_asked body = nat_lt (length body) 7 || (is_nak_body body && (is_asked || not (are_entries (inner_body body))))
+is_bad_body is_asked body = nat_lt (length
+    body) 7 || (is_nak_body body && (is_asked || not (are_entries (inner_body body))))
 
 -- whether a packet of Type 254 is one that no party accepts; a Request asks
 abbrev pub is_bad_expanded : PacketValue → Bool

@@ -1,10 +1,13 @@
 -- What keeps octets from being a packet (RFC 3748 section 4), and the packet that they begin with.
-use Rattle.std.specs.Prelude.{ℕ, ◌+◌, ◌*◌, ◌-◌, List, [], ◌∷◌, length, take, drop, Bool, ◌==◌, ◌&&◌, ◌||◌, not, nat_lt, nat_le, if◌then◌else◌, Option, Some, None, Result, Ok, Err, slice_index}
+use Rattle.std.specs.Prelude.{ℕ, ◌+◌, ◌*◌, ◌-◌, List, [], ◌∷◌, length, take, drop, Bool, ◌==◌, ◌&&◌}
+use Rattle.std.specs.Prelude.{◌||◌, not, nat_lt, nat_le, if◌then◌else◌, Option, Some, None, Result}
+use Rattle.std.specs.Prelude.{Ok, Err, slice_index}
 use Rattle.octet_lists.specs.Sizes.{max_packet}
 use Rattle.octet_lists.specs.Among.{nak_kind}
 use Rattle.eap_packet.specs.Packet.{PacketValue, request, response, success, failure}
 use Rattle.eap_packet.specs.declared.cause.Cause.{Cause}
-use Rattle.eap_packet.specs.declared.cause.Cause.TheVariants.{Short, BadCode, BadLength, Truncated, TooLong, NakRequest, BadNak}
+use Rattle.eap_packet.specs.declared.cause.Cause.TheVariants.{Short, BadCode, BadLength, Truncated}
+use Rattle.eap_packet.specs.declared.cause.Cause.TheVariants.{TooLong, NakRequest, BadNak}
 
 -- the Code, Length and Type fields
 abbrev pub code_of : List ℕ → ℕ

@@ -1,9 +1,14 @@
--- Laws of the packets' grammar (RFC 3748 section 4) and of Expanded Types (section 5.7), over the definitions alone.
-use Rattle.std.specs.Prelude.{◌≡◌, ◌↔◌, ◌≤◌, ◌<◌, ℕ, List, ◌++◌, length, true, false, ◌==◌, ◌&&◌, None, Ok}
+-- Laws of the packets' grammar (RFC 3748 section 4) and of Expanded Types (section 5.7), over the
+-- definitions alone.
+use Rattle.std.specs.Prelude.{◌≡◌, ◌↔◌, ◌≤◌, ◌<◌, ℕ, List, ◌++◌, length, true, false, ◌==◌, ◌&&◌}
+use Rattle.std.specs.Prelude.{None, Ok}
 use Rattle.octet_lists.specs.Among.{nak_kind}
-use Rattle.eap_packet.specs.Packet.{PacketValue, request, response, success, failure, spelled, IsPacket, IsOctets}
+use Rattle.eap_packet.specs.Packet.{PacketValue, request, response, success, failure, spelled}
+use Rattle.eap_packet.specs.Packet.{IsPacket, IsOctets}
 use Rattle.eap_packet.specs.Fault.{fault, packet_of}
-use Rattle.eap_packet.specs.Expanded.{max_wrapped, vendor_of, vendor_type_of, is_ietf, is_nak_body, inner_kind, has_plain, has_plain_form, plain, wrap, expanded_form}
+use Rattle.eap_packet.specs.Expanded.{max_wrapped, vendor_of, vendor_type_of, is_ietf, is_nak_body}
+use Rattle.eap_packet.specs.Expanded.{inner_kind, has_plain, has_plain_form, plain, wrap}
+use Rattle.eap_packet.specs.Expanded.{expanded_form}
 
 -- the octets are the packet's encoding with some octets behind it
 pub record IsPrefixed (octets : List ℕ) (packet : PacketValue) : Type 0 where
@@ -13,7 +18,8 @@ pub record IsPrefixed (octets : List ℕ) (packet : PacketValue) : Type 0 where
 
 -- an encoding with any octets behind it is read as its packet
 abbrev pub EncodingsAreRead : Type 0
-EncodingsAreRead = (packet : PacketValue) (rest : List ℕ) → IsPacket packet → packet_of (spelled packet ++ rest) ≡ Ok packet
+EncodingsAreRead = (packet : PacketValue) (rest : List ℕ) → IsPacket packet
+    → packet_of (spelled packet ++ rest) ≡ Ok packet
 
 -- no two packets have encodings that begin one list
 abbrev pub EncodingsAreApart : Type 0
@@ -24,12 +30,14 @@ EncodingsAreApart =
 -- what is read is the packet with whose encoding the octets begin
 abbrev pub ReadsTheEncoding : Type 0
 ReadsTheEncoding =
-    (octets : List ℕ) (packet : PacketValue) → IsOctets octets → (packet_of octets ≡ Ok packet) ↔ IsPrefixed octets packet
+    (octets : List ℕ) (packet : PacketValue) → IsOctets octets
+    → (packet_of octets ≡ Ok packet) ↔ IsPrefixed octets packet
 
 -- no cause applies exactly if the octets begin with the encoding of some packet
 abbrev pub FaultlessIsEncoded : Type 0
 FaultlessIsEncoded =
-    (octets : List ℕ) → IsOctets octets → (fault octets ≡ None) ↔ ((packet : PacketValue) × IsPrefixed octets packet)
+    (octets : List ℕ) → IsOctets octets
+    → (fault octets ≡ None) ↔ ((packet : PacketValue) × IsPrefixed octets packet)
 
 -- the fields of Type-Data are whole: Vendor-Id 0 and a Vendor-Type under 256, which is the Type
 -- inside (section 5.7)
@@ -45,7 +53,8 @@ IetfIsVendorZero = (body : List ℕ) → IsOctets body → (is_ietf body ≡ tru
 
 -- so is the test for an Expanded Nak (section 5.3.2): Vendor-Id 0 and Vendor-Type 3
 abbrev pub NakIsVendorZero : Type 0
-NakIsVendorZero = (body : List ℕ) → 7 ≤ length body → is_nak_body body ≡ ((vendor_of body == 0) && (vendor_type_of body == nak_kind))
+NakIsVendorZero = (body : List ℕ) → 7 ≤ length body
+    → is_nak_body body ≡ ((vendor_of body == 0) && (vendor_type_of body == nak_kind))
 
 -- a packet whose Type, if it has one, has a plain form
 abbrev pub HasPlain : PacketValue → Type 0
@@ -60,7 +69,8 @@ PlainOfWrap = (packet : PacketValue) → HasPlain packet → plain (wrap packet)
 
 -- a packet is its plain form exactly if it has no other
 abbrev pub OnlyWrappedDiffer : Type 0
-OnlyWrappedDiffer = (packet : PacketValue) → (has_plain_form packet ≡ false) ↔ (plain packet ≡ packet)
+OnlyWrappedDiffer =
+    (packet : PacketValue) → (has_plain_form packet ≡ false) ↔ (plain packet ≡ packet)
 
 -- a Request or a Response
 abbrev pub IsTyped : PacketValue → Type 0
@@ -72,7 +82,8 @@ IsTyped (failure id) = ⊥
 -- a packet's encoding, with any octets behind it, is wrapped as the packet is
 abbrev pub WrapsTheEncoding : Type 0
 WrapsTheEncoding =
-    (packet : PacketValue) (rest : List ℕ) → IsTyped packet → expanded_form (spelled packet ++ rest) ≡ spelled (wrap packet)
+    (packet : PacketValue) (rest : List ℕ) → IsTyped packet → expanded_form (spelled packet ++ rest)
+    ≡ spelled (wrap packet)
 
 -- the plain form of a packet is one
 abbrev pub PlainIsPacket : Type 0
@@ -80,4 +91,5 @@ PlainIsPacket = (packet : PacketValue) → IsPacket packet → IsPacket (plain p
 
 -- so is a wrapped packet, if the seven octets more fit
 abbrev pub WrapIsPacket : Type 0
-WrapIsPacket = (packet : PacketValue) → IsPacket packet → length (spelled packet) ≤ max_wrapped → IsPacket (wrap packet)
+WrapIsPacket = (packet : PacketValue) → IsPacket packet → length (spelled packet) ≤ max_wrapped
+    → IsPacket (wrap packet)

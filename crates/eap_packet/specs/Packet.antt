@@ -1,5 +1,6 @@
 -- EAP packets (RFC 3748 section 4): packet values and their one encoding.
-use Rattle.std.specs.Prelude.{◌≡◌, ◌≢◌, ℕ, ◌+◌, ◌/◌, ◌%◌, ◌<◌, ◌≤◌, List, [], ◌∷◌, ◌++◌, length, All, Bool, true, false, Result, Ok, Err}
+use Rattle.std.specs.Prelude.{◌≡◌, ◌≢◌, ℕ, ◌+◌, ◌/◌, ◌%◌, ◌<◌, ◌≤◌, List, [], ◌∷◌, ◌++◌, length}
+use Rattle.std.specs.Prelude.{All, Bool, true, false, Result, Ok, Err}
 use Rattle.octet_lists.specs.Among.{nak_kind}
 use Rattle.eap_packet.specs.declared.packet.PacketView.{PacketView}
 use Rattle.eap_packet.specs.declared.packet.Code.{Code}

@@ -6,7 +6,10 @@ ghost use Rattle.octet_lists.specs.Sizes.{max_packet};
 ghost use Rattle.octet_lists.specs.Among.{expanded_kind, ietf};
 ghost use Rattle.eap_packet.specs.Packet.{spelled, value_of, two_octets, max_type_data};
 ghost use Rattle.eap_packet.specs.Fault.{length_of};
-ghost use Rattle.eap_packet.specs.Expanded.{max_wrapped, expanded_value, expanded_of, is_ietf, has_plain, is_wrapped, has_plain_form, plain, expanded_form, are_expanded, are_entries, is_bad_body, is_bad_expanded};
+ghost use Rattle.eap_packet.specs.Expanded.{max_wrapped, expanded_value, expanded_of, is_ietf};
+ghost use Rattle.eap_packet.specs.Expanded.{has_plain, is_wrapped, has_plain_form, plain};
+ghost use Rattle.eap_packet.specs.Expanded.{expanded_form, are_expanded, are_entries, is_bad_body};
+ghost use Rattle.eap_packet.specs.Expanded.{is_bad_expanded};
 
 use crate::packet::{Code, PacketView, init_into, length_field};
 use byteorder::{BigEndian, ByteOrder};

@@ -1,7 +1,10 @@
 //! Laws of the packets' grammar (RFC 3748 section 4) and of Expanded Types (section 5.7). Each is the
 //! contract of a function that does nothing.
 
-ghost use Rattle.eap_packet.specs.Laws.{EncodingsAreRead, EncodingsAreApart, ReadsTheEncoding, FaultlessIsEncoded, IetfIsVendorZero, NakIsVendorZero, PlainOfWrap, OnlyWrappedDiffer, WrapsTheEncoding, PlainIsPacket, WrapIsPacket};
+ghost use Rattle.eap_packet.specs.Laws.{EncodingsAreRead, EncodingsAreApart, ReadsTheEncoding};
+ghost use Rattle.eap_packet.specs.Laws.{FaultlessIsEncoded, IetfIsVendorZero, NakIsVendorZero};
+ghost use Rattle.eap_packet.specs.Laws.{PlainOfWrap, OnlyWrappedDiffer, WrapsTheEncoding};
+ghost use Rattle.eap_packet.specs.Laws.{PlainIsPacket, WrapIsPacket};
 
 /// A packet's encoding, with any octets behind it, is read as that packet.
 #[tactic(auto, using(crate::proofs::Grammar::encodings_are_read))]

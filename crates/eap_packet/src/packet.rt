@@ -1,9 +1,12 @@
 //! EAP packets (RFC 3748 section 4): their fields, decoding and encoding.
 
-ghost use Rattle.std.specs.Prelude.{◌≡◌, ◌≢◌, ◌≤◌, [], ℕ, List, ◌++◌, length, take, IfOk, IsTrue, not, ◌∷◌, ◌-◌, drop, slice_index};
+ghost use Rattle.std.specs.Prelude.{◌≡◌, ◌≢◌, ◌≤◌, [], ℕ, List, ◌++◌, length, take, IfOk, IsTrue};
+ghost use Rattle.std.specs.Prelude.{not, ◌∷◌, ◌-◌, drop, slice_index};
 ghost use Rattle.octet_lists.specs.Sizes.{max_packet};
 ghost use Rattle.octet_lists.specs.Among.{nak_kind};
-ghost use Rattle.eap_packet.specs.Packet.{spelled, value_of, value_with, has_type, IsPacket, IsPlain, decoded_value, number_of, two_octets, max_type_data};
+ghost use Rattle.eap_packet.specs.Packet.{spelled, value_of, value_with, has_type, IsPacket};
+ghost use Rattle.eap_packet.specs.Packet.{IsPlain, decoded_value, number_of, two_octets};
+ghost use Rattle.eap_packet.specs.Packet.{max_type_data};
 ghost use Rattle.eap_packet.specs.Fault.{fault, fields_of, code_of, length_of, type_of, packet_of};
 
 use crate::cause::Cause;
@@ -168,7 +171,8 @@ pub fn init_into(packet: &mut Packet, code: Code, id: u8, kind: u8, size: usize)
     requires bounded { size ≤ max_type_data }
     requires no_nak_request { code ≡ Code.Request → kind ≢ nak_kind }
     requires nak_desires { code ≡ Code.Response → kind ≡ nak_kind → size ≢ 0 }
-    ensures spells { (body : List ℕ) → length body ≡ size → packet.new ++ body ≡ spelled (value_with code id kind body) }
+    ensures spells { (body : List ℕ) → length body ≡ size
+        → packet.new ++ body ≡ spelled (value_with code id kind body) }
     ensures size { length packet.new ≡ 5 }
 {
     packet.set(&header(code, id, 5 + size));

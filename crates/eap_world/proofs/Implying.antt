@@ -8,4 +8,5 @@ pub reported_named : (told : Brief) (event number : ℕ) (did : CallResult) (nam
     → told ≡ told_of event number None (Called did) → named ≡ now
     → record told { named = named } ≡ told_of event number now (Called did)
 reported_named told event number did named now is same =
-    ap (λ (t : Brief). record t { named = named }) is ∙ ap (λ (n : Option Named). told_of event number n (Called did)) same
+    ap (λ (t : Brief). record t { named = named }) is
+    ∙ ap (λ (n : Option Named). told_of event number n (Called did)) same

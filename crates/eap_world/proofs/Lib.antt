@@ -4,7 +4,8 @@ pub mod EventByEvent
 pub mod TwoRecords
 -- Octets are heard from their end, place by place.
 pub mod ReceivedByPlaces
--- Which ends have been seen to hold a report, before an event: it stays where no end begins a new conversation.
+-- Which ends have been seen to hold a report, before an event: it stays where no end begins a new
+-- conversation.
 pub mod InConversation
 -- The server of a world that has started has the role of the mode, and octets may come to it.
 pub mod Serving

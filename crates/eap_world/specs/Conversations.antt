@@ -1,6 +1,7 @@
--- The conversations of both ends: the nonces that are still to be used, those with which a conversation has begun, and
--- whether each was fresh.
-use Rattle.std.specs.Prelude.{ℕ, ◌+◌, List, [], ◌∷◌, ◌++◌, length, take, map, Bool, false, ◌&&◌, ◌||◌, not, if◌then◌else◌, Option, Some, None}
+-- The conversations of both ends: the nonces that are still to be used, those with which a
+-- conversation has begun, and whether each was fresh.
+use Rattle.std.specs.Prelude.{ℕ, ◌+◌, List, [], ◌∷◌, ◌++◌, length, take, map, Bool, false, ◌&&◌}
+use Rattle.std.specs.Prelude.{◌||◌, not, if◌then◌else◌, Option, Some, None}
 use Rattle.std.specs.Str.{bytes_eq}
 use Rattle.std.specs.List.{list_any}
 use Rattle.login_setup.specs.declared.setup.Later.{Later}
@@ -20,8 +21,8 @@ unfoldable pub occurs_in : List ℕ → List ℕ → Bool
 occurs_in part [] = bytes_eq [] part
 occurs_in part (x ∷ rest) = bytes_eq (take (length part) (x ∷ rest)) part || occurs_in part rest
 
--- the nonces that each end still has, in their order; the conversations that have begun, in theirs; and whether each of
--- these began with a fresh nonce
+-- the nonces that each end still has, in their order; the conversations that have begun, in theirs;
+-- and whether each of these began with a fresh nonce
 pub record Conversations : Type 0 where
   pub peer_left : List Waiting
   pub server_left : List Waiting
@@ -38,10 +39,14 @@ beginning event end nonce = record { event = event; end = end; nonce = nonce }
 
 -- octets are delivered to some party: a nonce whose prefix occurs in them isn't fresh any more
 abbrev pub hears : List ℕ → Waiting → Waiting
-hears octets one = record { nonce = one.nonce; heard = one.heard || occurs_in (front one.nonce) octets }
+hears octets
+    one = record { nonce = one.nonce; heard = one.heard || occurs_in (front one.nonce) octets }
 
 abbrev pub delivered_by : List ℕ → Conversations → Conversations
-delivered_by octets all = record all { peer_left = map (hears octets) all.peer_left; server_left = map (hears octets) all.server_left }
+delivered_by octets all = record all {
+  peer_left = map (hears octets) all.peer_left;
+  server_left = map (hears octets) all.server_left;
+}
 
 -- whether a conversation has begun with a nonce of this prefix
 abbrev pub is_used : List ConversationStart → List ℕ → Bool
@@ -53,7 +58,10 @@ is_new all one = not one.heard && not (is_used all one.nonce)
 -- an end begins a conversation with the nonce
 abbrev pub begins : ℕ → End → Waiting → Conversations → Conversations
 begins event end one all =
-    record all { begun = all.begun ++ beginning event end one.nonce ∷ []; fresh = all.fresh && is_new all.begun one }
+    record all {
+      begun = all.begun ++ beginning event end one.nonce ∷ [];
+      fresh = all.fresh && is_new all.begun one;
+    }
 
 -- with the next of its nonces, if it has one
 abbrev pub peer_initiates : ℕ → Conversations → List Waiting → Conversations
@@ -62,7 +70,8 @@ peer_initiates event all (one ∷ left) = begins event end.Peer one (record all 
 
 abbrev pub server_initiates : ℕ → Conversations → List Waiting → Conversations
 server_initiates event all [] = all
-server_initiates event all (one ∷ left) = begins event end.Server one (record all { server_left = left })
+server_initiates event all (one ∷ left) =
+    begins event end.Server one (record all { server_left = left })
 
 -- the nonce with which an end would begin
 abbrev pub next_nonce : List Waiting → Option (List ℕ)
@@ -91,7 +100,8 @@ since_of end all = since_from 0 end all
 
 -- whether an end has begun a conversation with this nonce
 abbrev pub has_initiated : End → List ℕ → List ConversationStart → Bool
-has_initiated end nonce all = list_any (λ (b : ConversationStart). same_end b.end end && bytes_eq b.nonce nonce) all
+has_initiated end nonce all =
+    list_any (λ (b : ConversationStart). same_end b.end end && bytes_eq b.nonce nonce) all
 
 -- how many conversations an end has begun
 abbrev pub one_of : End → ConversationStart → ℕ

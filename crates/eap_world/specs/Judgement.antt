@@ -1,5 +1,6 @@
 -- Whether both ends agree: in method, identities, suite and keys, which both policies allow.
-use Rattle.std.specs.Prelude.{ℕ, List, Bool, true, false, ◌==◌, ◌&&◌, ◌||◌, not, if◌then◌else◌, Option, Some, None}
+use Rattle.std.specs.Prelude.{ℕ, List, Bool, true, false, ◌==◌, ◌&&◌, ◌||◌, not, if◌then◌else◌}
+use Rattle.std.specs.Prelude.{Option, Some, None}
 use Rattle.std.specs.Str.{bytes_eq}
 use Rattle.login_setup.specs.declared.setup.PeerSetup.{PeerSetup}
 use Rattle.login_setup.specs.Setup.{ServerSetup}
@@ -21,7 +22,8 @@ abbrev pub same_report : Report → Report → Bool
 same_report one other =
     (one.method == other.method)
     && (bytes_eq one.id_p other.id_p && (bytes_eq one.id_s other.id_s
-    && ((one.suite == other.suite) && (bytes_eq one.msk other.msk && bytes_eq one.emsk other.emsk))))
+    && ((one.suite
+    == other.suite) && (bytes_eq one.msk other.msk && bytes_eq one.emsk other.emsk))))
 
 -- for EAP-GPSK the suite is among those allowed
 abbrev pub allows_suite : List ℕ → Report → Bool
@@ -30,7 +32,8 @@ allows_suite suites report = not (report.method == gpsk_kind) || is_among suites
 -- the peer's policy allows the method, the server's name and the suite
 abbrev pub peer_agrees : PeerSetup → Report → Bool
 peer_agrees setup report =
-    is_among setup.methods report.method && (accepts_name setup.accepts report.id_s && allows_suite setup.suites report)
+    is_among setup.methods report.method
+    && (accepts_name setup.accepts report.id_s && allows_suite setup.suites report)
 
 -- there is a user, who is not barred
 abbrev pub is_welcome : Option User → Bool
@@ -41,11 +44,13 @@ is_welcome (Some user) = not user.barred
 abbrev pub server_agrees : ServerSetup → Report → Bool
 server_agrees setup report =
     is_among setup.methods report.method
-    && (allows_suite setup.suites report && is_welcome (user_of setup.users report.id_p report.method))
+    && (allows_suite setup.suites report && is_welcome (user_of setup.users report.id_p
+    report.method))
 
 -- what both ends report is the same, and both policies allow it
 abbrev pub agree : PeerSetup → ServerSetup → Report → Report → Bool
-agree peer server one other = same_report one other && (peer_agrees peer one && server_agrees server one)
+agree peer server one other =
+    same_report one other && (peer_agrees peer one && server_agrees server one)
 
 abbrev pub agreement_of : PeerSetup → ServerSetup → Option Report → Option Report → Bool
 agreement_of peer server (Some one) (Some other) = agree peer server one other

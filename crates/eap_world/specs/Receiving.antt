@@ -1,5 +1,6 @@
 -- How nonces are searched for in a delivery, place by place.
-use Rattle.std.specs.Prelude.{◌≡◌, ℕ, List, length, take, get_or, slice_index, Bool, true, false, ◌||◌}
+use Rattle.std.specs.Prelude.{◌≡◌, ℕ, List, length, take, get_or, slice_index, Bool, true, false}
+use Rattle.std.specs.Prelude.{◌||◌}
 use Rattle.std.specs.Str.{bytes_eq}
 use Rattle.eap_world.specs.Conversations.{front}
 use Rattle.eap_world.specs.declared.conversations.Waiting.{Waiting}
@@ -10,7 +11,8 @@ starts_with part octets = bytes_eq (take (length part) octets) part
 
 -- these octets begin with the prefix of a nonce
 abbrev pub receives_at : List ℕ → Waiting → Waiting
-receives_at octets one = record { nonce = one.nonce; heard = one.heard || starts_with (front one.nonce) octets }
+receives_at octets
+    one = record { nonce = one.nonce; heard = one.heard || starts_with (front one.nonce) octets }
 
 -- whether an octet is one of the first octets of nonces
 abbrev pub is_first : List Bool → ℕ → Bool

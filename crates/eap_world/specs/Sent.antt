@@ -1,5 +1,6 @@
 -- The packets that were sent, in their order.
-use Rattle.std.specs.Prelude.{ℕ, List, [], ◌∷◌, ◌-◌, Bool, true, false, ◌==◌, if◌then◌else◌, Option, Some, None, slice_get}
+use Rattle.std.specs.Prelude.{ℕ, List, [], ◌∷◌, ◌-◌, Bool, true, false, ◌==◌, if◌then◌else◌, Option}
+use Rattle.std.specs.Prelude.{Some, None, slice_get}
 use Rattle.login_setup.specs.declared.setup.Port.{Port}
 use Rattle.login_setup.specs.declared.setup.Port.TheVariants as port
 
@@ -27,4 +28,5 @@ or_last is_to octets None = if is_to then Some octets else None
 
 unfoldable pub last_to : Port → List Sent → Option (List ℕ)
 last_to port [] = None
-last_to port (packet ∷ rest) = or_last (same_port packet.port port) packet.octets (last_to port rest)
+last_to port (packet ∷ rest) =
+    or_last (same_port packet.port port) packet.octets (last_to port rest)

@@ -1,5 +1,6 @@
 -- The store of the packets that were sent: their octets joined, and the place of each packet's.
-use Rattle.std.specs.Prelude.{◌≤◌, ◌+◌, ℕ, List, [], ◌∷◌, Bool, if◌then◌else◌, take, drop, map, Option, Some, None, option_map}
+use Rattle.std.specs.Prelude.{◌≤◌, ◌+◌, ℕ, List, [], ◌∷◌, Bool, if◌then◌else◌, take, drop, map}
+use Rattle.std.specs.Prelude.{Option, Some, None, option_map}
 use Rattle.std.specs.List.{All}
 use Rattle.octet_lists.specs.Sizes.{max_packet}
 use Rattle.login_setup.specs.declared.setup.Port.{Port}
@@ -7,8 +8,8 @@ use Rattle.eap_world.specs.Sent.{Sent, same_port}
 use Rattle.eap_world.specs.declared.store.Slot.{Slot}
 use Rattle.eap_world.specs.declared.store.Stored.{Stored}
 
--- the packets in their order, how many octets are stored for them, and for how many more octets and packets
--- there is room
+-- the packets in their order, how many octets are stored for them, and for how many more octets and
+-- packets there is room
 pub record StoreValue : Type 0 where
   pub packets : List Sent
   pub stored : ℕ
@@ -17,7 +18,8 @@ pub record StoreValue : Type 0 where
 
 -- the packet whose octets are at a slot
 abbrev pub packet_at : List ℕ → Slot → Sent
-packet_at octets slot = record { port = slot.port; octets = take slot.length (drop slot.place octets) }
+packet_at octets
+    slot = record { port = slot.port; octets = take slot.length (drop slot.place octets) }
 
 abbrev pub packets_at : List ℕ → List Slot → List Sent
 packets_at octets slots = map (packet_at octets) slots

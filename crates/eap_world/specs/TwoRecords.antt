@@ -10,7 +10,8 @@ use Rattle.eap_world.specs.declared.conversations.Waiting.{Waiting}
 abbrev pub waits : List (List ℕ) → List Bool → List Waiting
 waits [] marks = []
 waits (nonce ∷ nonces) [] = []
-waits (nonce ∷ nonces) (heard ∷ marks) = record { nonce = nonce; heard = heard } ∷ waits nonces marks
+waits (nonce ∷ nonces) (heard ∷ marks) = record { nonce = nonce; heard = heard }
+    ∷ waits nonces marks
 
 -- the first octet of each nonce is marked
 abbrev pub AreMarked : List Bool → List (List ℕ) → Type 0

@@ -1,6 +1,8 @@
--- Both ends over events, alone or with a pass-through between them: what was sent, the book of tags, what
--- each event does, and the run.
-use Rattle.std.specs.Prelude.{◌≡◌, ◌≤◌, ℕ, ◌+◌, ◌*◌, List, [], ◌∷◌, ◌++◌, length, take, drop, Bool, true, false, not, nat_lt, nat_le, if◌then◌else◌, Option, Some, None, slice_index, bit_xor, is_some, is_none, map, option_map}
+-- Both ends over events, alone or with a pass-through between them: what was sent, the book of
+-- tags, what each event does, and the run.
+use Rattle.std.specs.Prelude.{◌≡◌, ◌≤◌, ℕ, ◌+◌, ◌*◌, List, [], ◌∷◌, ◌++◌, length, take, drop, Bool}
+use Rattle.std.specs.Prelude.{true, false, not, nat_lt, nat_le, if◌then◌else◌, Option, Some, None}
+use Rattle.std.specs.Prelude.{slice_index, bit_xor, is_some, is_none, map, option_map}
 use Rattle.login_setup.specs.declared.setup.Setup.{Setup}
 use Rattle.login_setup.specs.declared.setup.Mode.{Mode}
 use Rattle.login_setup.specs.declared.setup.Mode.TheVariants as mode
@@ -24,17 +26,20 @@ use Rattle.peer_machine.specs.PeerTable.{PeerValue, PeerNow, initial_peer, peer_
 use Rattle.server_machine.specs.Inputs as server_inputs
 use Rattle.server_machine.specs.Inputs.{ServerInput, server_accepts}
 use Rattle.server_machine.specs.ServerTable as servers
-use Rattle.server_machine.specs.ServerTable.{ServerValue, ServerNow, initial_server, server_reports, is_ready, is_started}
+use Rattle.server_machine.specs.ServerTable.{ServerValue, ServerNow, initial_server, server_reports}
+use Rattle.server_machine.specs.ServerTable.{is_ready, is_started}
 use Rattle.server_machine.specs.declared.variables.Role.{Role}
 use Rattle.server_machine.specs.declared.variables.Role.TheVariants as role
 use Rattle.server_machine.specs.Variables.{ServerVariables}
 use Rattle.pass_through.specs.Inputs as pass_inputs
 use Rattle.pass_through.specs.Inputs.{PassInput, pass_accepts}
 use Rattle.pass_through.specs.PassTable as passes
-use Rattle.pass_through.specs.PassTable.{Side, PassStep, initial_pass, is_over, has_timer, is_aaa_idle}
+use Rattle.pass_through.specs.PassTable.{Side, PassStep, initial_pass, is_over, has_timer}
+use Rattle.pass_through.specs.PassTable.{is_aaa_idle}
 use Rattle.pass_through.specs.declared.variables.PassVariables.{PassVariables}
 use Rattle.tag_book.specs.Book.{entries_of}
-use Rattle.eap_world.specs.Conversations.{Conversations, initial_conversations, delivered_by, peer_initiates, server_initiates}
+use Rattle.eap_world.specs.Conversations.{Conversations, initial_conversations, delivered_by}
+use Rattle.eap_world.specs.Conversations.{peer_initiates, server_initiates}
 use Rattle.eap_world.specs.Sent.{Sent, packet_numbered}
 use Rattle.eap_world.specs.declared.act.Action as brief_action
 use Rattle.eap_world.specs.declared.act.Action.TheVariants as brief
@@ -51,12 +56,14 @@ use Rattle.eap_world.specs.declared.told.Brief.{Brief}
 use Rattle.eap_world.specs.declared.told.SentPacket.{SentPacket}
 use Rattle.eap_world.specs.declared.told.Told.{Told}
 use Rattle.eap_world.specs.declared.told.Skip.{Skip}
-use Rattle.eap_world.specs.declared.told.Skip.TheVariants.{NoParty, Unsent, Place, Ended, NoTimer, NoNonce}
+use Rattle.eap_world.specs.declared.told.Skip.TheVariants.{NoParty, Unsent, Place, Ended, NoTimer}
+use Rattle.eap_world.specs.declared.told.Skip.TheVariants.{NoNonce}
 use Rattle.eap_world.specs.declared.world.HasReported.{HasReported}
 
--- a world as its fields show it: its mode, its machines, the packets sent so far in order and how many octets
--- are stored for them, the book of tags, the counts, which ends have had a report in their present conversations, the
--- conversations, the version of the scenario's text, and whether the world has started
+-- a world as its fields show it: its mode, its machines, the packets sent so far in order and how
+-- many octets are stored for them, the book of tags, the counts, which ends have had a report in
+-- their present conversations, the conversations, the version of the scenario's text, and whether
+-- the world has started
 pub record WorldValue (P S : Type 0) : Type 0 where
   pub mode : Mode
   pub peer : PeerValue P
@@ -71,8 +78,8 @@ pub record WorldValue (P S : Type 0) : Type 0 where
   pub version : ℕ
   pub started : Bool
 
--- in which mode the parties run, and what they are, if the objects show their methods and views; in mode
--- alone nothing comes to the pass-through
+-- in which mode the parties run, and what they are, if the objects show their methods and views; in
+-- mode alone nothing comes to the pass-through
 pub record Parties : Type 0 where
   pub mode : Mode
   pub peer : PeerNow
@@ -90,14 +97,25 @@ pub record WorldNow : Type 0 where
   pub version : ℕ
   pub started : Bool
 
-abbrev pub parties_of : {P S : Type 0} → (P → PeerShown) → (S → ServerShown) → Machines P S → Parties
+abbrev pub parties_of : {P S : Type 0} → (P → PeerShown) → (S → ServerShown)
+    → Machines P S → Parties
 parties_of peer_shown server_shown m =
-    record { mode = m.mode; peer = peers.now_of peer_shown m.peer; server = servers.now_of server_shown m.server; pass = m.pass }
+    record {
+      mode = m.mode;
+      peer = peers.now_of peer_shown m.peer;
+      server = servers.now_of server_shown m.server;
+      pass = m.pass;
+    }
 
 -- what a world is, if the objects show their methods and views
 abbrev pub now_of : {P S : Type 0} → (P → PeerShown) → (S → ServerShown) → WorldValue P S → WorldNow
 now_of peer_shown server_shown w = record {
-  parties = record { mode = w.mode; peer = peers.now_of peer_shown w.peer; server = servers.now_of server_shown w.server; pass = w.pass };
+  parties = record {
+    mode = w.mode;
+    peer = peers.now_of peer_shown w.peer;
+    server = servers.now_of server_shown w.server;
+    pass = w.pass;
+  };
   sent = w.sent;
   book = w.book;
   counts = w.counts;
@@ -107,23 +125,30 @@ now_of peer_shown server_shown w = record {
   started = w.started;
 }
 
--- the objects of both ends, which name these methods, are of the same methods before and after, and those of methods
--- that aren't named are as they were
-pub record PreservesObjects {P S : Type 0} (peer_shown : P → PeerShown) (server_shown : S → ServerShown) (peer_named server_named : List ℕ)
+-- the objects of both ends, which name these methods, are of the same methods before and after, and
+-- those of methods that aren't named are as they were
+pub record PreservesObjects {P S : Type 0} (peer_shown : P → PeerShown)
+    (server_shown : S → ServerShown) (peer_named server_named : List ℕ)
     (peer : List P) (server : List S) (peer_after : List P) (server_after : List S) : Type 0 where
   pub peer_preserved : PreservesPeers peer_named (map peer_shown peer) (map peer_shown peer_after)
-  pub server_preserved : PreservesServers server_named (map server_shown server) (map server_shown server_after)
+  pub server_preserved : PreservesServers server_named (map server_shown server)
+      (map server_shown server_after)
 
-abbrev pub PreservesAllObjects : {P S : Type 0} → (P → PeerShown) → (S → ServerShown) → WorldValue P S → WorldValue P S → Type 0
+abbrev pub PreservesAllObjects : {P S : Type 0} → (P → PeerShown) → (S → ServerShown)
+    → WorldValue P S → WorldValue P S → Type 0
 PreservesAllObjects peer_shown server_shown before after =
-    PreservesObjects peer_shown server_shown before.peer.vars.setup.methods before.server.vars.setup.methods
-    before.peer.methods before.server.methods after.peer.methods after.server.methods
+    PreservesObjects peer_shown server_shown before.peer.vars.setup.methods
+    before.server.vars.setup.methods before.peer.methods before.server.methods after.peer.methods
+    after.server.methods
 
--- the machines run in the same mode before and after, over the same objects, and their settings name the same methods
-pub record RunAlike {P S : Type 0} (peer_shown : P → PeerShown) (server_shown : S → ServerShown) (before after : Machines P S) : Type 0 where
+-- the machines run in the same mode before and after, over the same objects, and their settings
+-- name the same methods
+pub record RunAlike {P S : Type 0} (peer_shown : P → PeerShown) (server_shown : S → ServerShown)
+    (before after : Machines P S) : Type 0 where
   pub mode : after.mode ≡ before.mode
-  pub kept : PreservesObjects peer_shown server_shown before.peer.vars.setup.methods before.server.vars.setup.methods
-      before.peer.methods before.server.methods after.peer.methods after.server.methods
+  pub kept : PreservesObjects peer_shown server_shown before.peer.vars.setup.methods
+      before.server.vars.setup.methods before.peer.methods before.server.methods after.peer.methods
+      after.server.methods
   pub peer_named : after.peer.vars.setup.methods ≡ before.peer.vars.setup.methods
   pub server_named : after.server.vars.setup.methods ≡ before.server.vars.setup.methods
 
@@ -135,10 +160,13 @@ pub record NamesAlike {P S : Type 0} (before after : WorldValue P S) : Type 0 wh
 -- each method that an end's settings name has an object
 pub record HaveObjects {P S : Type 0} (peer_shown : P → PeerShown) (server_shown : S → ServerShown)
     (of_peer : PeerValue P) (of_server : ServerValue S) : Type 0 where
-  pub peer : have_each (peer_kinds (map peer_shown of_peer.methods)) of_peer.vars.setup.methods ≡ true
-  pub server : have_each (server_kinds (map server_shown of_server.methods)) of_server.vars.setup.methods ≡ true
+  pub peer : have_each (peer_kinds (map peer_shown of_peer.methods)) of_peer.vars.setup.methods
+      ≡ true
+  pub server : have_each (server_kinds
+      (map server_shown of_server.methods)) of_server.vars.setup.methods ≡ true
 
-abbrev pub HasObjects : {P S : Type 0} → (P → PeerShown) → (S → ServerShown) → WorldValue P S → Type 0
+abbrev pub HasObjects : {P S : Type 0} → (P → PeerShown) → (S → ServerShown)
+    → WorldValue P S → Type 0
 HasObjects peer_shown server_shown w = HaveObjects peer_shown server_shown w.peer w.server
 
 -- the server answers by itself, or behind the pass-through
@@ -152,7 +180,8 @@ initial_world setup peer server = record {
   parties = record {
     mode = setup.mode;
     peer = initial_peer setup.peer peer;
-    server = initial_server (role_in setup.mode) setup.server server setup.first_id setup.max_retrans;
+    server =
+        initial_server (role_in setup.mode) setup.server server setup.first_id setup.max_retrans;
     pass = initial_pass setup.first_id setup.max_retrans;
   };
   sent = [];
@@ -164,7 +193,8 @@ initial_world setup peer server = record {
   started = false;
 }
 
--- the state of a party, and what it reports; the pass-through is there in its mode alone, and reports nothing
+-- the state of a party, and what it reports; the pass-through is there in its mode alone, and
+-- reports nothing
 abbrev pub pass_state : Mode → PassVariables → Option State
 pass_state mode.Alone pass = None
 pass_state mode.Through pass = Some pass.state
@@ -179,8 +209,8 @@ report_of parties party.Peer = peer_reports parties.peer
 report_of parties party.Pass = None
 report_of parties party.Server = server_reports parties.server
 
--- the port to which a party's packets go: from end to end alone, through the pass-through else. What the pass-through
--- sends of its own goes to the peer
+-- the port to which a party's packets go: from end to end alone, through the pass-through else.
+-- What the pass-through sends of its own goes to the peer
 abbrev pub port_to : Party → Mode → Port
 port_to party.Peer mode.Alone = port.Server
 port_to party.Peer mode.Through = port.PassPeer
@@ -217,7 +247,8 @@ octets_of (Some packet) = packet.octets
 
 -- the octets with the one at a place combined with a mask by exclusive or
 abbrev pub alteration : List ℕ → ℕ → ℕ → List ℕ
-alteration octets place mask = take place octets ++ bit_xor (slice_index octets place) mask ∷ drop (place + 1) octets
+alteration octets place mask =
+    take place octets ++ bit_xor (slice_index octets place) mask ∷ drop (place + 1) octets
 
 -- nobody is at the port of a packet
 abbrev pub is_undeliverable : Mode → Option Sent → Bool
@@ -226,7 +257,8 @@ is_undeliverable mode (Some packet) = is_absent mode packet.port
 
 -- the skips that an event may come to, in their order, each with its condition
 abbrev pub packet_skips : Mode → Option Sent → Bool → List (Bool × Skip)
-packet_skips mode packet is_misplaced = (is_undeliverable mode packet, NoParty) ∷ (is_none packet, Unsent) ∷ (is_misplaced, Place) ∷ []
+packet_skips mode packet is_misplaced =
+    (is_undeliverable mode packet, NoParty) ∷ (is_none packet, Unsent) ∷ (is_misplaced, Place) ∷ []
 
 abbrev pub is_alone : Mode → Bool
 is_alone mode.Alone = true
@@ -234,12 +266,15 @@ is_alone mode.Through = false
 
 -- an input of the pass-through in this state, which has a place if a test holds
 abbrev pub pass_skips : Mode → State → Bool → List (Bool × Skip)
-pass_skips runs state is_placed = (is_alone runs, NoParty) ∷ (is_over state, Ended) ∷ (not is_placed, NoTimer) ∷ []
+pass_skips runs state is_placed =
+    (is_alone runs, NoParty) ∷ (is_over state, Ended) ∷ (not is_placed, NoTimer) ∷ []
 
 abbrev pub timer_skips : Parties → Party → List (Bool × Skip)
 timer_skips parties party.Peer = (is_end parties.peer.vars.state, Ended) ∷ (true, NoTimer) ∷ []
-timer_skips parties party.Pass = pass_skips parties.mode parties.pass.state (has_timer parties.pass.state)
-timer_skips parties party.Server = (is_end parties.server.vars.state, Ended) ∷ (not (is_alone parties.mode), NoTimer) ∷ []
+timer_skips parties party.Pass =
+    pass_skips parties.mode parties.pass.state (has_timer parties.pass.state)
+timer_skips parties party.Server =
+    (is_end parties.server.vars.state, Ended) ∷ (not (is_alone parties.mode), NoTimer) ∷ []
 
 -- of the server behind it: it is lost, or has nothing to ask
 abbrev pub aaa_skips : Parties → List (Bool × Skip)
@@ -253,19 +288,25 @@ has_none (one ∷ left) = false
 abbrev pub restart_skips : Parties → Conversations → Party → List (Bool × Skip)
 restart_skips parties conversations party.Peer = (has_none conversations.peer_left, NoNonce) ∷ []
 restart_skips parties conversations party.Pass = (is_alone parties.mode, NoParty) ∷ []
-restart_skips parties conversations party.Server = (has_none conversations.server_left, NoNonce) ∷ []
+restart_skips parties conversations party.Server =
+    (has_none conversations.server_left, NoNonce) ∷ []
 
 abbrev pub skip_table : Parties → Conversations → List Sent → Event → List (Bool × Skip)
-skip_table parties conversations sent (event.Deliver n) = packet_skips parties.mode (packet_numbered sent n) false
+skip_table parties conversations sent (event.Deliver n) =
+    packet_skips parties.mode (packet_numbered sent n) false
 skip_table parties conversations sent (event.Alter n place mask) =
-    let packet = packet_numbered sent n in packet_skips parties.mode packet (nat_le (length (octets_of packet)) place)
+    let packet = packet_numbered sent n in
+    packet_skips parties.mode packet (nat_le (length (octets_of packet)) place)
 skip_table parties conversations sent (event.Cut n keep) =
-    let packet = packet_numbered sent n in packet_skips parties.mode packet (nat_lt (length (octets_of packet)) keep)
-skip_table parties conversations sent (event.Inject port octets) = (is_absent parties.mode port, NoParty) ∷ []
+    let packet = packet_numbered sent n in
+    packet_skips parties.mode packet (nat_lt (length (octets_of packet)) keep)
+skip_table parties conversations sent (event.Inject port octets) =
+    (is_absent parties.mode port, NoParty) ∷ []
 skip_table parties conversations sent (event.Timeout party) = timer_skips parties party
 skip_table parties conversations sent event.AaaTimeout = aaa_skips parties
 skip_table parties conversations sent event.AaaNoReq = aaa_skips parties
-skip_table parties conversations sent (event.Restart party) = restart_skips parties conversations party
+skip_table parties conversations sent (event.Restart party) =
+    restart_skips parties conversations party
 skip_table parties conversations sent _ = (is_end parties.peer.vars.state, Ended) ∷ []
 
 -- the first skip whose condition holds
@@ -300,14 +341,19 @@ next_call make [] = None
 next_call make (one ∷ left) = Some (make one.nonce)
 
 abbrev pub restart_call : Conversations → Party → Option Call
-restart_call conversations party.Peer = next_call (λ nonce. to_peer (peer_inputs.restart nonce)) conversations.peer_left
+restart_call conversations party.Peer =
+    next_call (λ nonce. to_peer (peer_inputs.restart nonce)) conversations.peer_left
 restart_call conversations party.Pass = Some (to_pass pass_inputs.restart)
-restart_call conversations party.Server = next_call (λ nonce. to_server (server_inputs.restart nonce)) conversations.server_left
+restart_call conversations party.Server =
+    next_call (λ nonce. to_server (server_inputs.restart nonce)) conversations.server_left
 
 abbrev pub call_of : Conversations → List Sent → Event → Option Call
-call_of conversations sent (event.Deliver n) = let packet = packet_numbered sent n in call_with packet (octets_of packet)
-call_of conversations sent (event.Alter n place mask) = let packet = packet_numbered sent n in call_with packet (alteration (octets_of packet) place mask)
-call_of conversations sent (event.Cut n keep) = let packet = packet_numbered sent n in call_with packet (take keep (octets_of packet))
+call_of conversations sent (event.Deliver n) =
+    let packet = packet_numbered sent n in call_with packet (octets_of packet)
+call_of conversations sent (event.Alter n place mask) = let packet = packet_numbered sent n in
+    call_with packet (alteration (octets_of packet) place mask)
+call_of conversations sent (event.Cut n keep) =
+    let packet = packet_numbered sent n in call_with packet (take keep (octets_of packet))
 call_of conversations sent (event.Inject port octets) = Some (call_at port octets)
 call_of conversations sent (event.Timeout party) = Some (timer_call party)
 call_of conversations sent event.AaaTimeout = Some (to_pass pass_inputs.aaa_timeout)
@@ -315,8 +361,8 @@ call_of conversations sent event.AaaNoReq = Some (to_pass pass_inputs.aaa_noreq)
 call_of conversations sent (event.Restart party) = restart_call conversations party
 call_of conversations sent e = lower_layer_call e
 
--- what a call of a party did, with what it wrote: the party, whether octets were delivered to it, the port to which
--- what it sends goes, and its step
+-- what a call of a party did, with what it wrote: the party, whether octets were delivered to it,
+-- the port to which what it sends goes, and its step
 pub record CallResult : Type 0 where
   pub party : Party
   pub is_delivery : Bool
@@ -331,7 +377,12 @@ pub data Action : Type 0 where
 -- the action of a call that answers so, with the packet and the records that it wrote
 abbrev pub did_with : brief_did.CallResult → List ℕ → Tags → CallResult
 did_with did packet tags =
-    record { party = did.party; is_delivery = did.is_delivery; port = did.port; step = step_with did.step packet tags }
+    record {
+      party = did.party;
+      is_delivery = did.is_delivery;
+      port = did.port;
+      step = step_with did.step packet tags;
+    }
 
 abbrev pub action_with : brief_action.Action → List ℕ → Tags → Action
 action_with (brief.Skipped skip) packet tags = Skipped skip
@@ -349,11 +400,14 @@ abbrev pub act_of_skip : Parties → Skip → Acted
 act_of_skip parties skip = act_with (Skipped skip) parties
 
 -- what a call did that answers so, with what it wrote into the machines after it
-abbrev pub acted_with : {P S : Type 0} → (P → PeerShown) → (S → ServerShown) → brief_action.Action → Machines P S → Acted
-acted_with peer_shown server_shown action after = act_with (action_with action after.packet after.tags) (parties_of peer_shown server_shown after)
+abbrev pub acted_with : {P S : Type 0} → (P → PeerShown) → (S → ServerShown) → brief_action.Action
+    → Machines P S → Acted
+acted_with peer_shown server_shown action after =
+    act_with (action_with action after.packet after.tags) (parties_of peer_shown server_shown after)
 
 abbrev pub did_at : Party → Port → Bool → Step → CallResult
-did_at party port is_delivery step = record { party = party; is_delivery = is_delivery; port = port; step = step }
+did_at party port is_delivery
+    step = record { party = party; is_delivery = is_delivery; port = port; step = step }
 
 abbrev pub did_by : Mode → Party → Bool → Step → CallResult
 did_by mode party is_delivery step = did_at party (port_to party mode) is_delivery step
@@ -371,10 +425,12 @@ did_pass input step =
 abbrev pub act_of_call : Parties → Call → Acted
 act_of_call parties (to_peer input) =
     let out = peer_accepts parties.peer input in
-    act_with (Called (did_by parties.mode party.Peer (is_delivery (to_peer input)) out.step)) (record parties { peer = out.after })
+    act_with (Called (did_by parties.mode party.Peer (is_delivery (to_peer input)) out.step))
+    (record parties { peer = out.after })
 act_of_call parties (to_server input) =
     let out = server_accepts parties.server input in
-    act_with (Called (did_by parties.mode party.Server (is_delivery (to_server input)) out.step)) (record parties { server = out.after })
+    act_with (Called (did_by parties.mode party.Server (is_delivery (to_server input)) out.step))
+    (record parties { server = out.after })
 act_of_call parties (to_pass input) =
     let out = pass_accepts parties.pass input in
     act_with (Called (did_pass input out.step)) (record parties { pass = out.after })
@@ -384,13 +440,15 @@ called_unless parties (Some skip) call = act_of_skip parties skip
 called_unless parties None None = act_of_skip parties NoParty
 called_unless parties None (Some call) = act_of_call parties call
 
--- what an event does to the parties, if these conversations have begun and these packets were sent before it
+-- what an event does to the parties, if these conversations have begun and these packets were sent
+-- before it
 unfoldable pub act : Parties → Conversations → List Sent → Event → Acted
 act parties conversations sent e =
-    called_unless parties (first_skip (skip_table parties conversations sent e)) (call_of conversations sent e)
+    called_unless parties (first_skip (skip_table parties conversations sent e))
+    (call_of conversations sent e)
 
--- ---- what a call does to the conversations: nonces are searched for in octets that are delivered, and an end that
--- begins a new one takes the next of its nonces; in the event of this number
+-- ---- what a call does to the conversations: nonces are searched for in octets that are delivered,
+-- and an end that begins a new one takes the next of its nonces; in the event of this number
 
 abbrev pub delivered_in_call : Conversations → Option (List ℕ) → Conversations
 delivered_in_call conversations None = conversations
@@ -416,8 +474,10 @@ call_octets (to_server input) = server_octets input
 call_octets (to_pass input) = pass_octets input
 
 abbrev pub conversations_after : ℕ → Conversations → Call → Conversations
-conversations_after event conversations (to_peer (peer_inputs.restart nonce)) = peer_initiates event conversations conversations.peer_left
-conversations_after event conversations (to_server (server_inputs.restart nonce)) = server_initiates event conversations conversations.server_left
+conversations_after event conversations (to_peer (peer_inputs.restart nonce)) =
+    peer_initiates event conversations conversations.peer_left
+conversations_after event conversations (to_server (server_inputs.restart nonce)) =
+    server_initiates event conversations conversations.server_left
 conversations_after event conversations call = delivered_in_call conversations (call_octets call)
 
 abbrev pub conversed_unless : ℕ → Conversations → Option Skip → Option Call → Conversations
@@ -428,23 +488,27 @@ conversed_unless event conversations None (Some call) = conversations_after even
 -- of an event
 unfoldable pub conversed_by : ℕ → Parties → Conversations → List Sent → Event → Conversations
 conversed_by event parties conversations sent e =
-    conversed_unless event conversations (first_skip (skip_table parties conversations sent e)) (call_of conversations sent e)
+    conversed_unless event conversations (first_skip (skip_table parties conversations sent e))
+    (call_of conversations sent e)
 
 -- ---- how the machines do it
 
--- they answer so, this is what was done and what the parties are after it, and these are the conversations then; they run
--- alike before and after
-pub record Does {P S : Type 0} (peer_shown : P → PeerShown) (server_shown : S → ServerShown) (before : Machines P S) (action : brief_action.Action)
+-- they answer so, this is what was done and what the parties are after it, and these are the
+-- conversations then; they run alike before and after
+pub record Does {P S : Type 0} (peer_shown : P → PeerShown) (server_shown : S → ServerShown)
+    (before : Machines P S) (action : brief_action.Action)
     (after : Machines P S) (out : Acted) (conversations : Conversations) : Type 0 where
   pub acts : out ≡ acted_with peer_shown server_shown action after
   pub heard : after.conversations ≡ conversations
   pub alike : RunAlike peer_shown server_shown before after
 
 -- a call that is made if nothing skips it
-abbrev pub DoesCall : {P S : Type 0} → (P → PeerShown) → (S → ServerShown) → Machines P S → brief_action.Action → Machines P S
+abbrev pub DoesCall : {P S : Type 0} → (P → PeerShown) → (S → ServerShown) → Machines P S
+    → brief_action.Action → Machines P S
     → Option Skip → Option Call → Type 0
 DoesCall peer_shown server_shown before action after skip call =
-    Does peer_shown server_shown before action after (called_unless (parties_of peer_shown server_shown before) skip call)
+    Does peer_shown server_shown before action after
+    (called_unless (parties_of peer_shown server_shown before) skip call)
     (conversed_unless before.event before.conversations skip call)
 
 -- ---- what is read off an action
@@ -498,7 +562,8 @@ has_reported held party.Server = held.server
 
 abbrev pub named_by : HasReported → Parties → Action → Option Named
 named_by held after (Skipped skip) = None
-named_by held after (Called did) = first_report (has_reported held did.party) did.party (report_of after did.party)
+named_by held after (Called did) =
+    first_report (has_reported held did.party) did.party (report_of after did.party)
 
 abbrev pub held_by : HasReported → Party → HasReported
 held_by held party.Peer = record held { peer = true }
@@ -521,9 +586,11 @@ reported_unless held None None = held
 reported_unless held None (Some call) = reported_anew held call
 
 -- just before an event
-unfoldable pub reported_before : HasReported → Parties → Conversations → List Sent → Event → HasReported
+unfoldable pub reported_before : HasReported → Parties → Conversations → List Sent → Event
+    → HasReported
 reported_before held parties conversations sent e =
-    reported_unless held (first_skip (skip_table parties conversations sent e)) (call_of conversations sent e)
+    reported_unless held (first_skip (skip_table parties conversations sent e))
+    (call_of conversations sent e)
 
 -- its result: the number of its event, that of the packet it sends, and a first report
 abbrev pub sent_packet : ℕ → Port → Option (List ℕ) → Option SentNumber
@@ -532,7 +599,15 @@ sent_packet number port (Some octets) = Some (record { number = number; port = p
 
 abbrev pub told_of : ℕ → ℕ → Option Named → Action → Brief
 told_of event number named (Skipped skip) =
-    record { event = event; party = None; path = []; cause = None; skip = Some skip; sent = None; named = None }
+    record {
+      event = event;
+      party = None;
+      path = [];
+      cause = None;
+      skip = Some skip;
+      sent = None;
+      named = None;
+    }
 told_of event number named (Called did) = record {
   event = event;
   party = Some did.party;
@@ -544,12 +619,15 @@ told_of event number named (Called did) = record {
 }
 
 -- the result of an action that left the machines so, and which ends have then had a report
-abbrev pub result_with : {P S : Type 0} → (P → PeerShown) → (S → ServerShown) → HasReported → Machines P S → ℕ → ℕ → Action → Brief
+abbrev pub result_with : {P S : Type 0} → (P → PeerShown) → (S → ServerShown) → HasReported
+    → Machines P S → ℕ → ℕ → Action → Brief
 result_with peer_shown server_shown held after event number action =
     told_of event number (named_by held (parties_of peer_shown server_shown after) action) action
 
-abbrev pub reported_with : {P S : Type 0} → (P → PeerShown) → (S → ServerShown) → HasReported → Machines P S → Action → HasReported
-reported_with peer_shown server_shown held after action = reported_after held (named_by held (parties_of peer_shown server_shown after) action)
+abbrev pub reported_with : {P S : Type 0} → (P → PeerShown) → (S → ServerShown) → HasReported
+    → Machines P S → Action → HasReported
+reported_with peer_shown server_shown held after action =
+    reported_after held (named_by held (parties_of peer_shown server_shown after) action)
 
 -- the result of a start or an event, and the world after it
 pub record WorldOutcome : Type 0 where
@@ -560,11 +638,13 @@ abbrev pub world_outcome : Brief → WorldNow → WorldOutcome
 world_outcome told after = record { told = told; after = after }
 
 -- the call returns this result, and leaves the world after it
-abbrev pub IsResult : {P S : Type 0} → (P → PeerShown) → (S → ServerShown) → WorldOutcome → Brief → WorldValue P S → Type 0
-IsResult peer_shown server_shown out told after = out ≡ world_outcome told (now_of peer_shown server_shown after)
+abbrev pub IsResult : {P S : Type 0} → (P → PeerShown) → (S → ServerShown) → WorldOutcome → Brief
+    → WorldValue P S → Type 0
+IsResult peer_shown server_shown out told after =
+    out ≡ world_outcome told (now_of peer_shown server_shown after)
 
--- the world after the parties have acted as the event of this number, with these counts, if these ends had had a
--- report and the conversations are these; it has started
+-- the world after the parties have acted as the event of this number, with these counts, if these
+-- ends had had a report and the conversations are these; it has started
 abbrev pub world_acted : WorldNow → ℕ → Counts → HasReported → Conversations → Acted → WorldOutcome
 world_acted w event counts held conversations out =
     let named = named_by held out.after out.action in
@@ -586,14 +666,16 @@ start_call mode.Alone = to_server server_inputs.start
 start_call mode.Through = to_pass pass_inputs.start
 
 unfoldable pub world_start : WorldNow → WorldOutcome
-world_start w = world_acted w 0 w.counts w.held w.conversations (act_of_call w.parties (start_call w.parties.mode))
+world_start w = world_acted w 0 w.counts w.held w.conversations
+    (act_of_call w.parties (start_call w.parties.mode))
 
 -- the next event
 unfoldable pub world_step : WorldNow → Event → WorldOutcome
 world_step w e =
     let event = w.counts.events + 1 in
     let out = act w.parties w.conversations w.sent e in
-    world_acted w event (counts_after w.counts out.action) (reported_before w.held w.parties w.conversations w.sent e)
+    world_acted w event (counts_after w.counts out.action)
+    (reported_before w.held w.parties w.conversations w.sent e)
     (conversed_by event w.parties w.conversations w.sent e) out
 
 -- the run: the start, and then the events in order
@@ -641,15 +723,17 @@ if_sent (Some sent) octets = octets
 abbrev pub result_octets : WorldOutcome → List ℕ
 result_octets out = octets_of_sent out.after.sent out.told.sent
 
--- what holds of the server in a world that has started: it has the role of the mode, and octets may come to it
+-- what holds of the server in a world that has started: it has the role of the mode, and octets may
+-- come to it
 pub record IsServing (mode : Mode) (server : ServerVariables) : Type 0 where
   pub role : server.role ≡ role_in mode
   pub ready : is_ready server ≡ true
 
--- what holds in every world: it has sent at most one packet an event and one more, has booked at most four
--- tags for each of these, counts no more deliveries and discards than events, and whoever asks for the
--- identity starts with it
-pub record IsInRange (mode : Mode) (server : ServerVariables) (pass : PassVariables) (sent : List Sent) (book : List Entry) (counts : Counts)
+-- what holds in every world: it has sent at most one packet an event and one more, has booked at
+-- most four tags for each of these, counts no more deliveries and discards than events, and whoever
+-- asks for the identity starts with it
+pub record IsInRange (mode : Mode) (server : ServerVariables) (pass : PassVariables)
+    (sent : List Sent) (book : List Entry) (counts : Counts)
     (started : Bool) : Type 0 where
   pub few_events : counts.events ≤ 1000000
   pub few_sent : length sent ≤ counts.events + one_if started

@@ -1,15 +1,19 @@
 //! What an event does to the machines: it is skipped, or is a call of one of them.
 
-ghost use Rattle.std.specs.Prelude.{◌≡◌, ◌≤◌, ◌∷◌, [], ℕ, List, Some, None, IfSome, length, nat_le, nat_lt, take, false};
+ghost use Rattle.std.specs.Prelude.{◌≡◌, ◌≤◌, ◌∷◌, [], ℕ, List, Some, None, IfSome, length, nat_le};
+ghost use Rattle.std.specs.Prelude.{nat_lt, take, false};
 ghost use Rattle.octet_lists.specs.Sizes.{max_packet};
 ghost use Rattle.eap_method.specs.Steps.{is_end, step_with};
 ghost use Rattle.pass_through.specs.PassTable as passes;
 ghost use Rattle.server_machine.specs.ServerTable as servers;
 ghost use Rattle.eap_method.specs.Tags as records;
 ghost use Rattle.eap_world.specs.Store.{sent_of_slot};
-ghost use Rattle.eap_world.specs.World.{Does, DoesCall, HaveObjects, IsServing, aaa_skips, act, action_with, alteration, call_at, call_with, act_of_call};
-ghost use Rattle.eap_world.specs.World.{conversed_by, did_at, did_by, first_skip, port_to, is_absent, octets_of, packet_skips, parties_of};
-ghost use Rattle.eap_world.specs.World.{pass_skips, lower_layer_call, restart_call, restart_skips, role_in, start_call, timer_call, timer_skips, to_pass};
+ghost use Rattle.eap_world.specs.World.{Does, DoesCall, HaveObjects, IsServing, aaa_skips, act};
+ghost use Rattle.eap_world.specs.World.{action_with, alteration, call_at, call_with, act_of_call};
+ghost use Rattle.eap_world.specs.World.{conversed_by, did_at, did_by, first_skip, port_to};
+ghost use Rattle.eap_world.specs.World.{is_absent, octets_of, packet_skips, parties_of};
+ghost use Rattle.eap_world.specs.World.{pass_skips, lower_layer_call, restart_call, restart_skips};
+ghost use Rattle.eap_world.specs.World.{role_in, start_call, timer_call, timer_skips, to_pass};
 ghost use Rattle.eap_world.specs.World as worlds;
 ghost use Rattle.pass_through.specs.Inputs.{aaa_timeout, aaa_noreq};
 ghost use Rattle.login_setup.specs.declared.setup.Party.TheVariants.{Pass, Peer, Server};
@@ -68,7 +72,8 @@ impl<P: PeerMethod, S: ServerMethod> Machines<P, S> {
         requires role { self.old.server.vars.role ≡ role_in self.old.mode }
         requires pass { passes.is_started self.old.pass.state ≡ false }
         ensures { Does P.peer_shown S.server_shown self.old result self.new
-            (act_of_call (parties_of P.peer_shown S.server_shown self.old) (start_call self.old.mode)) self.old.conversations }
+            (act_of_call (parties_of P.peer_shown S.server_shown self.old)
+            (start_call self.old.mode)) self.old.conversations }
     {
         self.tags.clear();
         match self.mode {
@@ -92,8 +97,10 @@ impl<P: PeerMethod, S: ServerMethod> Machines<P, S> {
         requires serving { IsServing self.old.mode self.old.server.vars }
         requires objects { HaveObjects P.peer_shown S.server_shown self.old.peer self.old.server }
         ensures { Does P.peer_shown S.server_shown self.old result self.new
-            (act (parties_of P.peer_shown S.server_shown self.old) self.old.conversations sent.now.packets event.now)
-            (conversed_by self.old.event (parties_of P.peer_shown S.server_shown self.old) self.old.conversations sent.now.packets event.now) }
+            (act (parties_of P.peer_shown S.server_shown self.old)
+            self.old.conversations sent.now.packets event.now)
+            (conversed_by self.old.event (parties_of P.peer_shown S.server_shown self.old)
+            self.old.conversations sent.now.packets event.now) }
     {
         match event {
             Event::Deliver { number } => self.deliver(sent.get(*number)),
@@ -133,8 +140,10 @@ impl<P: PeerMethod, S: ServerMethod> Machines<P, S> {
         requires serving { IsServing self.old.mode self.old.server.vars }
         requires sizes { IfSome packet (λ s. length s.octets.now ≤ max_packet) }
         ensures { DoesCall P.peer_shown S.server_shown self.old result self.new
-            (first_skip (packet_skips self.old.mode (sent_of_slot packet.entry) (nat_le (length (octets_of (sent_of_slot packet.entry))) place)))
-            (call_with (sent_of_slot packet.entry) (alteration (octets_of (sent_of_slot packet.entry)) place mask)) }
+            (first_skip (packet_skips self.old.mode (sent_of_slot packet.entry)
+            (nat_le (length (octets_of (sent_of_slot packet.entry))) place)))
+            (call_with (sent_of_slot packet.entry)
+            (alteration (octets_of (sent_of_slot packet.entry)) place mask)) }
     {
         let octets = octets_of(packet);
         let place = usize::from(place);
@@ -146,8 +155,10 @@ impl<P: PeerMethod, S: ServerMethod> Machines<P, S> {
     fn cut(&mut self, packet: Option<Stored>, keep: u16) -> Action
         requires serving { IsServing self.old.mode self.old.server.vars }
         ensures { DoesCall P.peer_shown S.server_shown self.old result self.new
-            (first_skip (packet_skips self.old.mode (sent_of_slot packet.entry) (nat_lt (length (octets_of (sent_of_slot packet.entry))) keep)))
-            (call_with (sent_of_slot packet.entry) (take keep (octets_of (sent_of_slot packet.entry)))) }
+            (first_skip (packet_skips self.old.mode (sent_of_slot packet.entry)
+            (nat_lt (length (octets_of (sent_of_slot packet.entry))) keep)))
+            (call_with (sent_of_slot packet.entry)
+            (take keep (octets_of (sent_of_slot packet.entry)))) }
     {
         let octets = octets_of(packet);
         let keep = usize::from(keep);
@@ -159,7 +170,8 @@ impl<P: PeerMethod, S: ServerMethod> Machines<P, S> {
         requires serving { IsServing self.old.mode self.old.server.vars }
         ensures { (came : List ℕ) → (is_misplaced ≡ false → octets.now ≡ came)
             → DoesCall P.peer_shown S.server_shown self.old result self.new
-            (first_skip (packet_skips self.old.mode (sent_of_slot packet.entry) is_misplaced)) (call_with (sent_of_slot packet.entry) came) }
+            (first_skip (packet_skips self.old.mode (sent_of_slot packet.entry) is_misplaced))
+            (call_with (sent_of_slot packet.entry) came) }
     {
         match packet {
             None => Action::Skipped(Skip::Unsent),
@@ -178,7 +190,8 @@ impl<P: PeerMethod, S: ServerMethod> Machines<P, S> {
     /// Octets arrive at a port, which a party has.
     fn deliver_octets(&mut self, port: Port, octets: &[u8]) -> Action
         requires serving { IsServing self.old.mode self.old.server.vars }
-        ensures { DoesCall P.peer_shown S.server_shown self.old result self.new None (Some (call_at port octets.now)) }
+        ensures { DoesCall P.peer_shown S.server_shown self.old result self.new None
+            (Some (call_at port octets.now)) }
     {
         self.conversations.receive(octets);
         self.tags.clear();
@@ -210,7 +223,8 @@ impl<P: PeerMethod, S: ServerMethod> Machines<P, S> {
     fn end_timer(&mut self, party: Party) -> Action
         requires serving { IsServing self.old.mode self.old.server.vars }
         ensures { DoesCall P.peer_shown S.server_shown self.old result self.new
-            (first_skip (timer_skips (parties_of P.peer_shown S.server_shown self.old) party)) (Some (timer_call party)) }
+            (first_skip (timer_skips (parties_of P.peer_shown S.server_shown self.old) party))
+            (Some (timer_call party)) }
     {
         match party {
             Party::Peer => Action::Skipped(if self.peer.ended() {
@@ -228,7 +242,8 @@ impl<P: PeerMethod, S: ServerMethod> Machines<P, S> {
     fn end_server_timer(&mut self) -> Action
         requires serving { IsServing self.old.mode self.old.server.vars }
         ensures { DoesCall P.peer_shown S.server_shown self.old result self.new
-            (first_skip (timer_skips (parties_of P.peer_shown S.server_shown self.old) Server)) (Some (timer_call Server)) }
+            (first_skip (timer_skips (parties_of P.peer_shown S.server_shown self.old) Server))
+            (Some (timer_call Server)) }
     {
         if self.server.ended() {
             return Action::Skipped(Skip::Ended);
@@ -246,7 +261,8 @@ impl<P: PeerMethod, S: ServerMethod> Machines<P, S> {
     /// The pass-through's retransmission timer ends, which runs in IDLE and IDLE2.
     fn end_pass_timer(&mut self) -> Action
         ensures { DoesCall P.peer_shown S.server_shown self.old result self.new
-            (first_skip (timer_skips (parties_of P.peer_shown S.server_shown self.old) Pass)) (Some (timer_call Pass)) }
+            (first_skip (timer_skips (parties_of P.peer_shown S.server_shown self.old) Pass))
+            (Some (timer_call Pass)) }
     {
         match self.pass_skip(self.pass.wants_timer()) {
             Some(skip) => Action::Skipped(skip),
@@ -261,7 +277,8 @@ impl<P: PeerMethod, S: ServerMethod> Machines<P, S> {
     /// No answer of the server behind the pass-through comes any more.
     fn lose_server(&mut self) -> Action
         ensures { DoesCall P.peer_shown S.server_shown self.old result self.new
-            (first_skip (aaa_skips (parties_of P.peer_shown S.server_shown self.old))) (Some (to_pass aaa_timeout)) }
+            (first_skip (aaa_skips (parties_of P.peer_shown S.server_shown self.old)))
+            (Some (to_pass aaa_timeout)) }
     {
         self.packet.clear();
         self.tags.clear();
@@ -274,7 +291,8 @@ impl<P: PeerMethod, S: ServerMethod> Machines<P, S> {
     /// The server behind the pass-through has nothing to ask.
     fn ask_nothing(&mut self) -> Action
         ensures { DoesCall P.peer_shown S.server_shown self.old result self.new
-            (first_skip (aaa_skips (parties_of P.peer_shown S.server_shown self.old))) (Some (to_pass aaa_noreq)) }
+            (first_skip (aaa_skips (parties_of P.peer_shown S.server_shown self.old)))
+            (Some (to_pass aaa_noreq)) }
     {
         self.packet.clear();
         self.tags.clear();
@@ -305,7 +323,8 @@ impl<P: PeerMethod, S: ServerMethod> Machines<P, S> {
     /// The peer's lower layer is idle, or reports success or failure. Nothing is sent for it, and no tag made.
     fn report(&mut self, event: &Event) -> Action
         ensures { DoesCall P.peer_shown S.server_shown self.old result self.new
-            (first_skip ((is_end self.old.peer.vars.state, Ended) ∷ [])) (lower_layer_call event.now) }
+            (first_skip ((is_end self.old.peer.vars.state, Ended) ∷ []))
+            (lower_layer_call event.now) }
     {
         self.packet.clear();
         self.tags.clear();
@@ -336,7 +355,8 @@ impl<P: PeerMethod, S: ServerMethod> Machines<P, S> {
     fn restart(&mut self, party: Party) -> Action
         requires objects { HaveObjects P.peer_shown S.server_shown self.old.peer self.old.server }
         ensures { DoesCall P.peer_shown S.server_shown self.old result self.new
-            (first_skip (restart_skips (parties_of P.peer_shown S.server_shown self.old) self.old.conversations party))
+            (first_skip (restart_skips (parties_of P.peer_shown S.server_shown self.old)
+            self.old.conversations party))
             (restart_call self.old.conversations party) }
     {
         match party {
@@ -350,7 +370,8 @@ impl<P: PeerMethod, S: ServerMethod> Machines<P, S> {
     fn restart_peer(&mut self) -> Action
         requires objects { HaveObjects P.peer_shown S.server_shown self.old.peer self.old.server }
         ensures { DoesCall P.peer_shown S.server_shown self.old result self.new
-            (first_skip (restart_skips (parties_of P.peer_shown S.server_shown self.old) self.old.conversations Peer))
+            (first_skip (restart_skips (parties_of P.peer_shown S.server_shown self.old)
+            self.old.conversations Peer))
             (restart_call self.old.conversations Peer) }
     {
         self.packet.clear();
@@ -368,7 +389,8 @@ impl<P: PeerMethod, S: ServerMethod> Machines<P, S> {
     fn restart_server(&mut self) -> Action
         requires objects { HaveObjects P.peer_shown S.server_shown self.old.peer self.old.server }
         ensures { DoesCall P.peer_shown S.server_shown self.old result self.new
-            (first_skip (restart_skips (parties_of P.peer_shown S.server_shown self.old) self.old.conversations Server))
+            (first_skip (restart_skips (parties_of P.peer_shown S.server_shown self.old)
+            self.old.conversations Server))
             (restart_call self.old.conversations Server) }
     {
         self.tags.clear();
@@ -384,7 +406,8 @@ impl<P: PeerMethod, S: ServerMethod> Machines<P, S> {
     /// The pass-through restarts, if it is there.
     fn restart_pass(&mut self) -> Action
         ensures { DoesCall P.peer_shown S.server_shown self.old result self.new
-            (first_skip (restart_skips (parties_of P.peer_shown S.server_shown self.old) self.old.conversations Pass))
+            (first_skip (restart_skips (parties_of P.peer_shown S.server_shown self.old)
+            self.old.conversations Pass))
             (restart_call self.old.conversations Pass) }
     {
         self.tags.clear();
@@ -401,7 +424,8 @@ impl<P: PeerMethod, S: ServerMethod> Machines<P, S> {
 /// What a party's call did.
 fn action_of(mode: Mode, party: Party, is_delivery: bool, step: Step) -> Action
     ensures { (packet : List ℕ) (tags : records.Tags)
-        → action_with result packet tags ≡ worlds.Called (did_by mode party is_delivery (step_with step packet tags)) }
+        → action_with result packet tags
+        ≡ worlds.Called (did_by mode party is_delivery (step_with step packet tags)) }
 {
     action_to(party, port_to(party, mode), is_delivery, step)
 }
@@ -409,7 +433,8 @@ fn action_of(mode: Mode, party: Party, is_delivery: bool, step: Step) -> Action
 /// What a call of a party did whose packet goes to this port.
 fn action_to(party: Party, port: Port, is_delivery: bool, step: Step) -> Action
     ensures { (packet : List ℕ) (tags : records.Tags)
-        → action_with result packet tags ≡ worlds.Called (did_at party port is_delivery (step_with step packet tags)) }
+        → action_with result packet tags
+        ≡ worlds.Called (did_at party port is_delivery (step_with step packet tags)) }
 {
     Action::Called(CallResult {
         party,
@@ -455,7 +480,8 @@ fn is_absent(mode: Mode, port: Port) -> bool
 /// The octets of a packet; none if it wasn't sent.
 fn octets_of<'a>(packet: Option<Stored<'a>>) -> &'a [u8]
     ensures octets { result.now ≡ octets_of (sent_of_slot packet.entry) }
-    ensures bounded { IfSome packet.entry (λ s. length s.octets.now ≤ max_packet) → length result.now ≤ max_packet }
+    ensures bounded { IfSome packet.entry (λ s. length s.octets.now ≤ max_packet)
+        → length result.now ≤ max_packet }
 {
     match packet {
         None => &[],

@@ -72,7 +72,8 @@ impl Model for Conversations {
 }
 
 impl Conversations {
-    ghost use Rattle.eap_world.specs.Conversations.{conversations_from, delivered_by, next_nonce, peer_initiates, server_initiates};
+    ghost use Rattle.eap_world.specs.Conversations.{conversations_from, delivered_by, next_nonce};
+    ghost use Rattle.eap_world.specs.Conversations.{peer_initiates, server_initiates};
     ghost use Rattle.eap_world.specs.World.{has_none};
 
     /// Both ends have begun their first conversation, with these nonces, in event 0; the later nonces are left.

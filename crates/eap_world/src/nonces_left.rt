@@ -67,7 +67,8 @@ impl NoncesLeft {
     /// Takes the first of the nonces; None exactly if there is none.
     #[tactic(auto, using(crate::proofs::TwoRecords::first_left, crate::proofs::TwoRecords::none_after))]
     pub fn next_unused(&mut self) -> Option<Waiting>
-        ensures { MatchOption result ((self.old ≡ []) × (self.new ≡ [])) (λ one. self.old ≡ one ∷ self.new) }
+        ensures { MatchOption result ((self.old ≡ []) × (self.new ≡ []))
+            (λ one. self.old ≡ one ∷ self.new) }
     {
         let nonces = self.nonces.as_slice();
         if self.taken < nonces.len() {
@@ -120,7 +121,8 @@ fn first_octets(nonces: &[Nonce]) -> [bool; 256]
 fn mark_first(firsts: &mut [bool; 256], nonce: &Nonce)
     ensures size { length nonce.now ≡ 32 }
     ensures first { is_first firsts.new (slice_index nonce.now 0) ≡ true }
-    ensures preserves { (octet : ℕ) → is_first firsts.old octet ≡ true → is_first firsts.new octet ≡ true }
+    ensures preserves { (octet : ℕ) → is_first firsts.old octet ≡ true
+        → is_first firsts.new octet ≡ true }
 {
     firsts[usize::from(nonce[0])] = true;
 }
@@ -130,7 +132,8 @@ fn mark_first(firsts: &mut [bool; 256], nonce: &Nonce)
 fn receive_from(nonces: &[Nonce], heard: &mut [bool], firsts: &[bool; 256], octets: &[u8])
     requires some { 0 < length octets.now }
     requires marked { AreMarked firsts.now nonces.now }
-    ensures { waits nonces.now heard.new ≡ map (receives_at octets.now) (waits nonces.now heard.old) }
+    ensures { waits nonces.now heard.new
+        ≡ map (receives_at octets.now) (waits nonces.now heard.old) }
 {
     if firsts[usize::from(octets[0])] {
         receive_each(nonces, heard, octets);
@@ -139,7 +142,8 @@ fn receive_from(nonces: &[Nonce], heard: &mut [bool], firsts: &[bool; 256], octe
 
 /// The same of each nonce, whatever the first octet.
 fn receive_each(nonces: &[Nonce], heard: &mut [bool], octets: &[u8])
-    ensures { waits nonces.now heard.new ≡ map (receives_at octets.now) (waits nonces.now heard.old) }
+    ensures { waits nonces.now heard.new
+        ≡ map (receives_at octets.now) (waits nonces.now heard.old) }
 {
     if let Some((nonce, nonces)) = nonces.split_first() {
         if let Some((mark, heard)) = heard.split_first_mut() {

@@ -1,9 +1,11 @@
 //! The packets that were sent.
 
-ghost use Rattle.std.specs.Prelude.{◌≡◌, ◌≤◌, ◌+◌, ◌++◌, ◌∷◌, [], true, length, take, drop, Some, IfSome, is_some};
+ghost use Rattle.std.specs.Prelude.{◌≡◌, ◌≤◌, ◌+◌, ◌++◌, ◌∷◌, [], true, length, take, drop, Some};
+ghost use Rattle.std.specs.Prelude.{IfSome, is_some};
 ghost use Rattle.octet_lists.specs.Sizes.{max_packet};
 ghost use Rattle.eap_world.specs.Sent.{last_to, packet_numbered, same_port};
-ghost use Rattle.eap_world.specs.Store.{AreThere, IsThere, last_slot, sent_of_slot, packet_at, packets_at};
+ghost use Rattle.eap_world.specs.Store.{AreThere, IsThere, last_slot, sent_of_slot, packet_at};
+ghost use Rattle.eap_world.specs.Store.{packets_at};
 
 use login_setup::Port;
 use octet_lists::MAX_PACKET;
@@ -88,7 +90,8 @@ impl Store {
         ensures packets_capacity { result ≡ true → 1 ≤ self.new.packets_capacity }
         ensures octets_stay { self.old.octets_capacity ≤ self.new.octets_capacity }
         ensures packets_stay { self.old.packets_capacity ≤ self.new.packets_capacity }
-        ensures lacked { max_packet ≤ self.old.octets_capacity → 1 ≤ self.old.packets_capacity → result ≡ true }
+        ensures lacked { max_packet ≤ self.old.octets_capacity → 1 ≤ self.old.packets_capacity
+            → result ≡ true }
     {
         self.octets.reserve(MAX_PACKET).is_ok() && self.slots.reserve(1).is_ok()
     }
@@ -100,9 +103,11 @@ impl Store {
         requires bounded { length octets.now ≤ max_packet }
         requires octets_capacity { max_packet ≤ self.old.octets_capacity }
         requires packets_capacity { 1 ≤ self.old.packets_capacity }
-        ensures packets { self.new.packets ≡ self.old.packets ++ (record { port = port; octets = octets.now }) ∷ [] }
+        ensures packets { self.new.packets
+            ≡ self.old.packets ++ (record { port = port; octets = octets.now }) ∷ [] }
         ensures stored { self.new.stored ≤ self.old.stored + length octets.now }
-        ensures repeats { last_to port self.old.packets ≡ Some octets.now → self.new.stored ≡ self.old.stored }
+        ensures repeats { last_to port self.old.packets ≡ Some octets.now
+            → self.new.stored ≡ self.old.stored }
     {
         let length = octets.len();
         match place_of(self.octets.as_slice(), self.slots.as_slice(), port, octets) {
@@ -148,8 +153,10 @@ impl Store {
 fn place_of(octets: &[u8], slots: &[Slot], port: Port, packet: &[u8]) -> Option<usize>
     requires { AreThere (length octets.now) slots.now }
     ensures there { IfSome result (λ place. place + length packet.now ≤ length octets.now) }
-    ensures same { IfSome result (λ place. take (length packet.now) (drop place octets.now) ≡ packet.now) }
-    ensures repeats { last_to port (packets_at octets.now slots.now) ≡ Some packet.now → is_some result ≡ true }
+    ensures same { IfSome result
+        (λ place. take (length packet.now) (drop place octets.now) ≡ packet.now) }
+    ensures repeats { last_to port (packets_at octets.now slots.now) ≡ Some packet.now
+        → is_some result ≡ true }
 {
     match last_to(slots, port) {
         None => None,
@@ -161,7 +168,8 @@ fn place_of(octets: &[u8], slots: &[Slot], port: Port, packet: &[u8]) -> Option<
 fn place_at(octets: &[u8], slot: &Slot, packet: &[u8]) -> Option<usize>
     requires { IsThere (length octets.now) slot.now }
     ensures there { IfSome result (λ place. place + length packet.now ≤ length octets.now) }
-    ensures same { IfSome result (λ place. take (length packet.now) (drop place octets.now) ≡ packet.now) }
+    ensures same { IfSome result
+        (λ place. take (length packet.now) (drop place octets.now) ≡ packet.now) }
     ensures repeats { (packet_at octets.now slot.now).octets ≡ packet.now → is_some result ≡ true }
 {
     if octets_at(octets, slot) == packet {

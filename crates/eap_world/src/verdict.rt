@@ -2,7 +2,8 @@
 
 ghost use Rattle.std.specs.Prelude.{◌≡◌};
 ghost use Rattle.login_setup.specs.Users.{user_of};
-ghost use Rattle.eap_world.specs.Judgement.{same_report, allows_suite, peer_agrees, server_agrees, agree, agreement_of, is_welcome};
+ghost use Rattle.eap_world.specs.Judgement.{same_report, allows_suite, peer_agrees, server_agrees};
+ghost use Rattle.eap_world.specs.Judgement.{agree, agreement_of, is_welcome};
 
 use eap_method::Report;
 use login_setup::{PeerSetup, ServerSetup};

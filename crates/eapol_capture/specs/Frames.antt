@@ -1,5 +1,6 @@
 -- Ethernet frames that carry EAPOL (IEEE 802.1X-2010 clause 11.3).
-use Rattle.std.specs.Prelude.{ℕ, ◌-◌, List, length, take, drop, slice_index, ◌==◌, ◌||◌, not, nat_lt, if◌then◌else◌}
+use Rattle.std.specs.Prelude.{ℕ, ◌-◌, List, length, take, drop, slice_index, ◌==◌, ◌||◌, not}
+use Rattle.std.specs.Prelude.{nat_lt, if◌then◌else◌}
 use Rattle.std.specs.Int.{w16, from_be_bytes}
 use Rattle.eapol_capture.specs.declared.frame.FrameContents.{FrameContents}
 use Rattle.eapol_capture.specs.declared.frame.FrameContents.TheVariants.{Other, Cut, Eap}
@@ -27,8 +28,8 @@ packet_type frame = slice_index frame 15
 abbrev pub body_length : List ℕ → ℕ
 body_length frame = from_be_bytes w16 (take 2 (drop 16 frame))
 
--- the body behind the header, which is version (1 octet), type (1) and length (2); the octets past it are
--- padding. A packet of more than 2,000 octets isn't read
+-- the body behind the header, which is version (1 octet), type (1) and length (2); the octets past
+-- it are padding. A packet of more than 2,000 octets isn't read
 abbrev pub body_of : List ℕ → Carried
 body_of frame =
     if nat_lt (length frame - 18) (body_length frame) || nat_lt 2000 (body_length frame) then cut

@@ -1,9 +1,11 @@
 -- The parts that a reader of records reads: so many octets, or what keeps it from them.
-use Rattle.std.specs.Prelude.{◌≡◌, ℕ, ◌+◌, ◌<◌, ◌≤◌, List, [], ◌++◌, length, take, Option, Some, None, option_map, Result, Ok, Err}
+use Rattle.std.specs.Prelude.{◌≡◌, ℕ, ◌+◌, ◌<◌, ◌≤◌, List, [], ◌++◌, length, take, Option, Some}
+use Rattle.std.specs.Prelude.{None, option_map, Result, Ok, Err}
 use Rattle.octet_io.specs.Known.{prepend_known, nothing_known}
 use Rattle.eapol_capture.specs.declared.order.OctetOrder.{OctetOrder}
 use Rattle.eapol_capture.specs.declared.reader.NextRecord.{NextRecord}
-use Rattle.eapol_capture.specs.declared.reader.NextRecord.TheVariants.{Record, End, CutFile, BadRecord, TooMuch, Read}
+use Rattle.eapol_capture.specs.declared.reader.NextRecord.TheVariants.{Record, End, CutFile}
+use Rattle.eapol_capture.specs.declared.reader.NextRecord.TheVariants.{BadRecord, TooMuch, Read}
 use Rattle.octet_io.specs.Lines.{max_input}
 use Rattle.eapol_capture.specs.Files.{Contents, ends, order_or_fault, max_stored}
 use Rattle.eapol_capture.specs.Reading.{Reading, octets_left, Waits}
@@ -25,13 +27,15 @@ pub record Preserves (before after : Reading) : Type 0 where
   pub over : after.over ≡ before.over
 
 -- these octets were consumed
-pub record ConsumesPart (part : List ℕ) (before after : Reading) (was left : Option (List ℕ)) : Type 0 where
+pub record ConsumesPart (part : List ℕ) (before after : Reading)
+    (was left : Option (List ℕ)) : Type 0 where
   pub octets : octets_left before was ≡ prepend_known part (octets_left after left)
   pub taken : after.taken ≡ before.taken + length part
   pub spent : length before.held ≤ length part + length after.held
 
 -- so many octets were consumed, and a prefix of them was stored
-pub record ConsumesAll (count : ℕ) (before after : Reading) (was left : Option (List ℕ)) : Type 0 where
+pub record ConsumesAll (count : ℕ) (before after : Reading)
+    (was left : Option (List ℕ)) : Type 0 where
   pub part : List ℕ
   pub all : length part ≡ count
   pub hands : ConsumesPart part before after was left
@@ -70,7 +74,8 @@ Stops Read count before after was left = IsStuck count before after was
 Stops answer count before after was left = ⊥
 
 -- the result of reading so many octets
-abbrev pub Parts : {A : Type 0} → Result A NextRecord → ℕ → Reading → Reading → Option (List ℕ) → Option (List ℕ) → Type 0
+abbrev pub Parts : {A : Type 0} → Result A NextRecord → ℕ → Reading → Reading → Option (List ℕ)
+    → Option (List ℕ) → Type 0
 Parts (Ok value) count before after was left = ConsumesAll count before after was left
 Parts (Err answer) count before after was left = Stops answer count before after was left
 
@@ -84,7 +89,8 @@ pub record HasFrame (size : ℕ) (before after : Reading) (was left : Option (Li
   pub kept : after.frame ≡ take max_stored frame
 
 -- the result of reading such a frame
-abbrev pub Frames : {A : Type 0} → Result A NextRecord → ℕ → Reading → Reading → Option (List ℕ) → Option (List ℕ) → Type 0
+abbrev pub Frames : {A : Type 0} → Result A NextRecord → ℕ → Reading → Reading → Option (List ℕ)
+    → Option (List ℕ) → Type 0
 Frames (Ok value) size before after was left = HasFrame size before after was left
 Frames (Err answer) size before after was left = Stops answer (4 + size) before after was left
 
@@ -102,7 +108,8 @@ Opens (Ok order) before after = before ≡ after
 Opens (Err answer) before after = Fails answer before after
 
 -- a header that gives this octet order
-pub record HasHeader (order : OctetOrder) (before after : Reading) (was left : Option (List ℕ)) : Type 0 where
+pub record HasHeader (order : OctetOrder) (before after : Reading)
+    (was left : Option (List ℕ)) : Type 0 where
   pub head : List ℕ
   pub all : length head ≡ 24
   pub hands : ConsumesPart head before after was left
@@ -110,6 +117,7 @@ pub record HasHeader (order : OctetOrder) (before after : Reading) (was left : O
   pub told : after.order ≡ Some order
 
 -- the result of reading a header
-abbrev pub Heads : Result OctetOrder NextRecord → Reading → Reading → Option (List ℕ) → Option (List ℕ) → Type 0
+abbrev pub Heads : Result OctetOrder NextRecord → Reading → Reading → Option (List ℕ)
+    → Option (List ℕ) → Type 0
 Heads (Ok order) before after was left = HasHeader order before after was left
 Heads (Err answer) before after was left = Waits answer before after was

@@ -1,7 +1,8 @@
 //! EAP packets in Ethernet frames.
 
 ghost use Rattle.std.specs.Prelude.{◌≡◌, ◌≤◌, length, nat_lt};
-ghost use Rattle.eapol_capture.specs.Frames.{contents_of, finding_value, whole_value, size_of, body_of, type_of, body_length};
+ghost use Rattle.eapol_capture.specs.Frames.{contents_of, finding_value, whole_value, size_of};
+ghost use Rattle.eapol_capture.specs.Frames.{body_of, type_of, body_length};
 
 use octet_lists::{Injected, Octets, array_of};
 

@@ -1,6 +1,7 @@
 //! Laws of files and frames. Each is the contract of a function that does nothing.
 
-ghost use Rattle.eapol_capture.specs.Laws.{FrontsCarryTheSame, EncodedFilesAreRead, EncodedFramesCarryTheirPackets};
+ghost use Rattle.eapol_capture.specs.Laws.{FrontsCarryTheSame, EncodedFilesAreRead};
+ghost use Rattle.eapol_capture.specs.Laws.{EncodedFramesCarryTheirPackets};
 
 /// In either octet order a file of frames within the limits is read as its records and its end, whatever the
 /// times, the first lengths and the 12 octets that are unread.

@@ -1,6 +1,7 @@
 //! Reading a source as a pcap file.
 
-ghost use Rattle.std.specs.Prelude.{◌≡◌, ◌≤◌, ◌<◌, ◌+◌, ◌-◌, ◌++◌, min, take, drop, true, false, length, [], Some, Ok, IfOk, IfErr, OnErr, OnOk};
+ghost use Rattle.std.specs.Prelude.{◌≡◌, ◌≤◌, ◌<◌, ◌+◌, ◌-◌, ◌++◌, min, take, drop, true, false};
+ghost use Rattle.std.specs.Prelude.{length, [], Some, Ok, IfOk, IfErr, OnErr, OnOk};
 ghost use Rattle.octet_io.specs.Known.{nothing_known};
 
 use crate::header::judge_header;
@@ -75,12 +76,16 @@ impl PcapReader {
     ghost use Rattle.eapol_capture.specs.declared.reader.NextRecord.TheVariants.{Record, Read};
     ghost use Rattle.octet_io.specs.Lines.{max_input};
     ghost use Rattle.eapol_capture.specs.Files.{max_stored, number, order_or_fault};
-    ghost use Rattle.eapol_capture.specs.Reading.{contents_left, octets_left, Answers, begun, records_start, ConsumesSome, Exhausts, Waits, Faults, is_last};
-    ghost use Rattle.eapol_capture.specs.Parts.{answer_of, order_found, Preserves, Parts, Frames, Opens, Heads};
+    ghost use Rattle.eapol_capture.specs.Reading.{contents_left, octets_left, Answers, begun};
+    ghost use Rattle.eapol_capture.specs.Reading.{records_start, ConsumesSome, Exhausts, Waits};
+    ghost use Rattle.eapol_capture.specs.Reading.{Faults, is_last};
+    ghost use Rattle.eapol_capture.specs.Parts.{answer_of, order_found, Preserves, Parts, Frames};
+    ghost use Rattle.eapol_capture.specs.Parts.{Opens, Heads};
 
     /// A reader that has read nothing.
     pub fn new() -> PcapReader
-        ensures { result ≡ record { taken = 0; held = []; order = None; frame = []; number = 0; over = false } }
+        ensures { result
+            ≡ record { taken = 0; held = []; order = None; frame = []; number = 0; over = false } }
     {
         PcapReader {
             taken: 0,
@@ -99,8 +104,10 @@ impl PcapReader {
 
         // The answers are those of the octets that the reader has buffered and the source has left, however
         // they are cut into reads. If these decide, no further read is asked for.
-        ensures contents { Answers result self.old self.new (S.shown.octets source.old) (S.shown.octets source.new) }
-        ensures number { self.new.number ≡ self.old.number + begun result (records_start self.old) self.new }
+        ensures contents { Answers result self.old self.new (S.shown.octets source.old)
+            (S.shown.octets source.new) }
+        ensures number { self.new.number
+            ≡ self.old.number + begun result (records_start self.old) self.new }
         ensures over { self.new.over ≡ is_last result }
         ensures consumes { ConsumesSome result self.old.taken self.new.taken }
         ensures bounded { self.new.taken ≤ max_input }
@@ -137,7 +144,10 @@ impl PcapReader {
         requires alive { self.old.over ≡ false }
         requires counted { self.old.number ≤ self.old.taken }
         requires capacity { answer ≡ Record → self.old.number < self.old.taken }
-        ensures { self.new ≡ record self.old { number = self.old.number + begun answer start self.old; over = is_last answer } }
+        ensures { self.new ≡ record self.old {
+          number = self.old.number + begun answer start self.old;
+          over = is_last answer;
+        } }
     {
         let has_initiated = match answer {
             NextRecord::Record | NextRecord::BadRecord => true,
@@ -152,7 +162,8 @@ impl PcapReader {
     /// Reads the header, if that wasn't done, and a record.
     fn read_next<S: Source>(&mut self, source: &mut S) -> Result<(), NextRecord>
         requires bounded { self.old.taken ≤ max_input }
-        ensures contents { Answers (answer_of result) self.old self.new (S.shown.octets source.old) (S.shown.octets source.new) }
+        ensures contents { Answers (answer_of result) self.old self.new (S.shown.octets source.old)
+            (S.shown.octets source.new) }
         ensures number { self.new.number ≡ self.old.number }
         ensures over { self.new.over ≡ self.old.over }
         ensures consumes { ConsumesSome (answer_of result) self.old.taken self.new.taken }
@@ -175,8 +186,10 @@ impl PcapReader {
     fn read_header<S: Source>(&mut self, source: &mut S) -> Result<OctetOrder, NextRecord>
         requires header { self.old.order ≡ None }
         requires bounded { self.old.taken ≤ max_input }
-        ensures contents { Opens result (contents_left self.old (S.shown.octets source.old)) (contents_left self.new (S.shown.octets source.new)) }
-        ensures header { Heads result self.old self.new (S.shown.octets source.old) (S.shown.octets source.new) }
+        ensures contents { Opens result (contents_left self.old (S.shown.octets source.old))
+            (contents_left self.new (S.shown.octets source.new)) }
+        ensures header { Heads result self.old self.new (S.shown.octets source.old)
+            (S.shown.octets source.new) }
         ensures order { self.new.order ≡ order_found result }
         ensures number { self.new.number ≡ self.old.number }
         ensures over { self.new.over ≡ self.old.over }
@@ -204,7 +217,8 @@ impl PcapReader {
     fn read_frame<S: Source>(&mut self, source: &mut S, order: OctetOrder) -> Result<(), NextRecord>
         requires order { self.old.order ≡ Some order }
         requires bounded { self.old.taken ≤ max_input }
-        ensures contents { Answers (answer_of result) self.old self.new (S.shown.octets source.old) (S.shown.octets source.new) }
+        ensures contents { Answers (answer_of result) self.old self.new (S.shown.octets source.old)
+            (S.shown.octets source.new) }
         ensures number { self.new.number ≡ self.old.number }
         ensures over { self.new.over ≡ self.old.over }
         ensures consumes { ConsumesSome (answer_of result) self.old.taken self.new.taken }
@@ -231,8 +245,10 @@ impl PcapReader {
         order: OctetOrder,
     ) -> Result<u32, NextRecord>
         requires bounded { self.old.taken ≤ max_input }
-        ensures part { Parts result 12 self.old self.new (S.shown.octets source.old) (S.shown.octets source.new) }
-        ensures length { IfOk result (λ size. size ≡ number order (take 4 (drop 8 self.new.frame))) }
+        ensures part { Parts result 12 self.old self.new (S.shown.octets source.old)
+            (S.shown.octets source.new) }
+        ensures length { IfOk result
+            (λ size. size ≡ number order (take 4 (drop 8 self.new.frame))) }
         ensures preserves { Preserves self.old self.new }
         ensures grows { self.old.taken ≤ self.new.taken }
         ensures bounded { self.new.taken ≤ max_input }
@@ -246,7 +262,8 @@ impl PcapReader {
     /// Reads the length of a frame before it was cut, and the frame, which has so many octets.
     fn read_body<S: Source>(&mut self, source: &mut S, size: u32) -> Result<(), NextRecord>
         requires bounded { self.old.taken ≤ max_input }
-        ensures part { Frames result size self.old self.new (S.shown.octets source.old) (S.shown.octets source.new) }
+        ensures part { Frames result size self.old self.new (S.shown.octets source.old)
+            (S.shown.octets source.new) }
         ensures preserves { Preserves self.old self.new }
         ensures grows { self.old.taken ≤ self.new.taken }
         ensures bounded { self.new.taken ≤ max_input }
@@ -262,7 +279,8 @@ impl PcapReader {
     fn read_part<S: Source>(&mut self, source: &mut S, count: u32) -> Result<(), NextRecord>
         requires bounded { self.old.taken ≤ max_input }
         ensures size { OnOk result (length self.new.frame ≡ min count max_stored) }
-        ensures part { Parts result count self.old self.new (S.shown.octets source.old) (S.shown.octets source.new) }
+        ensures part { Parts result count self.old self.new (S.shown.octets source.old)
+            (S.shown.octets source.new) }
         ensures preserves { Preserves self.old self.new }
         ensures grows { self.old.taken ≤ self.new.taken }
         ensures bounded { self.new.taken ≤ max_input }
@@ -296,11 +314,13 @@ impl PcapReader {
         ensures preserves { Preserves self.old self.new }
         ensures consumed { self.new.taken ≡ self.old.taken }
         ensures frame { self.new.frame ≡ self.old.frame }
-        ensures left { OnOk result (octets_left self.old (S.shown.octets source.old) ≡ octets_left self.new (S.shown.octets source.new)) }
+        ensures left { OnOk result (octets_left self.old (S.shown.octets source.old)
+            ≡ octets_left self.new (S.shown.octets source.new)) }
         ensures pending { OnOk result (length self.old.held ≤ length self.new.held) }
         ensures some { result ≡ Ok true → 0 < length self.new.held }
         ensures none_pending { result ≡ Ok false → self.new.held ≡ [] }
-        ensures none_left { result ≡ Ok false → S.shown.octets source.new ≡ nothing_known (S.shown.octets source.new) }
+        ensures none_left { result ≡ Ok false
+            → S.shown.octets source.new ≡ nothing_known (S.shown.octets source.new) }
         ensures failed { IfErr result (λ answer. answer ≡ Read) }
         ensures spent { OnErr result (self.old.held ≡ []) }
         ensures read { Faults S.shown (answer_of result) source.old source.new }
@@ -321,8 +341,10 @@ impl PcapReader {
         ensures there { result ≤ length self.old.held }
         ensures consumed { self.new.taken ≡ self.old.taken + result }
         ensures pending { self.new.held ≡ drop result self.old.held }
-        ensures stored { self.new.frame ≡ take max_stored (self.old.frame ++ take result self.old.held) }
-        ensures stuck { result ≡ 0 → 0 < most → 0 < length self.old.held → max_input ≤ self.new.taken }
+        ensures stored { self.new.frame
+            ≡ take max_stored (self.old.frame ++ take result self.old.held) }
+        ensures stuck { result ≡ 0 → 0 < most → 0 < length self.old.held
+            → max_input ≤ self.new.taken }
         ensures preserves { Preserves self.old self.new }
         ensures bounded { self.new.taken ≤ max_input }
     {

@@ -1,11 +1,14 @@
 -- The key stream a block longer, and the counter mode back.
-use Rattle.std.proofs.Common.{◌≡◌, ℕ, zero, suc, ◌+◌, ◌*◌, ◌-◌, ◌≤◌, List, [], ◌∷◌, ◌++◌, length, take, drop, min, refl, sym, ap, ◌∙◌, arith, add-one, add-zero, length-append, length-drop}
+use Rattle.std.proofs.Common.{◌≡◌, ℕ, zero, suc, ◌+◌, ◌*◌, ◌-◌, ◌≤◌, List, [], ◌∷◌, ◌++◌, length}
+use Rattle.std.proofs.Common.{take, drop, min, refl, sym, ap, ◌∙◌, arith, add-one, add-zero}
+use Rattle.std.proofs.Common.{length-append, length-drop}
 use Rattle.std.specs.List.{flat_map, range_with_len}
 use Rattle.std.specs.Int.{div_ceil}
 use Rattle.std.proofs.lemmas.List.{append-nil}
 use Rattle.std.proofs.lemmas.List.Concat.{flat_map-append}
 use Rattle.eax_mode.specs.Eax.{combined, counter_mode, key_stream, stream_block}
-use Rattle.eax_mode.proofs.Combining.{combined_append, combined_nil, combined_take, combined_twice, length_combined}
+use Rattle.eax_mode.proofs.Combining.{combined_append, combined_nil, combined_take, combined_twice}
+use Rattle.eax_mode.proofs.Combining.{length_combined}
 
 range_push : (a n : ℕ) → range_with_len a (suc n) ≡ range_with_len a n ++ (a + n) ∷ []
 range_push a zero = ap (λ k. k ∷ []) (sym (add-zero a))
@@ -24,7 +27,8 @@ pub key_stream_more : (key : List ℕ) (start n : ℕ)
 unfolding key_stream
 key_stream_more key start n =
     let grown : range_with_len 0 (n + 1) ≡ range_with_len 0 n ++ n ∷ [] =
-    ap (range_with_len 0) (add-one n) ∙ range_push 0 n ∙ ap (λ k. range_with_len 0 n ++ k ∷ []) (omega arith) in
+    ap (range_with_len 0) (add-one n) ∙ range_push 0 n
+    ∙ ap (λ k. range_with_len 0 n ++ k ∷ []) (omega arith) in
     ap (flat_map (stream_block key start)) grown
     ∙ flat_map-append (stream_block key start) (range_with_len 0 n) (n ∷ [])
     ∙ ap (λ l. key_stream key start n ++ l) (append-nil (stream_block key start n))
@@ -47,7 +51,8 @@ pub combined_block : (key : List ℕ) (start n size : ℕ) (before now block par
     → block ≡ stream_block key start n → length block ≡ 16
     → min 16 (length now - 16 * n) ≤ size
     → part ≡ combined (take size (drop (16 * n) now)) block
-    → IsCombinedFor key start (n + 1) before (take (16 * n) now ++ (part ++ drop size (drop (16 * n) now)))
+    → IsCombinedFor key start (n + 1) before
+    (take (16 * n) now ++ (part ++ drop size (drop (16 * n) now)))
 combined_block key start n size before now block part so_far is_block whole room is_part =
     let stream : List ℕ = key_stream key start n in
     let rest : List ℕ = drop (16 * n) now in
@@ -60,7 +65,8 @@ combined_block key start n size before now block part so_far is_block whole room
     record {
       same = ap (λ l. take (16 * n) now ++ l) joined
           ∙ ap (λ l. take (16 * n) l ++ combined (drop (16 * n) l) block) so_far.same
-          ∙ ap (λ m. take m (combined before stream) ++ combined (drop m (combined before stream)) block) (sym so_far.whole)
+          ∙ ap (λ m. take m (combined before stream) ++ combined (drop m
+          (combined before stream)) block) (sym so_far.whole)
           ∙ combined_append before stream block
           ∙ ap (combined before) (sym grown);
       whole =
@@ -75,5 +81,6 @@ pub counter_mode_twice : (key : List ℕ) (start : ℕ) (text : List ℕ)
 unfolding counter_mode
 counter_mode_twice key start text =
     let stream : ℕ → List ℕ = λ n. key_stream key start (div_ceil n 16) in
-    ap (λ n. combined (combined text (stream (length text))) (stream n)) (length_combined text (stream (length text)))
+    ap (λ n. combined (combined text (stream (length text))) (stream n))
+    (length_combined text (stream (length text)))
     ∙ combined_twice text (stream (length text))

@@ -69,4 +69,5 @@ eax_sealed key nonce header text =
 -- the text is the one that is sealed to this ciphertext and tag, and no other is
 pub record IsOnlyTextOf (key nonce header ciphertext tag text : List ℕ) : Type 0 where
   pub seals : eax_sealed key nonce header text ≡ record { ciphertext = ciphertext; tag = tag }
-  pub no_other : (other : List ℕ) → eax_sealed key nonce header other ≡ record { ciphertext = ciphertext; tag = tag } → other ≡ text
+  pub no_other : (other : List ℕ) → eax_sealed key nonce header other
+      ≡ record { ciphertext = ciphertext; tag = tag } → other ≡ text

@@ -4,7 +4,8 @@
 
 ghost use Rattle.std.specs.Prelude.{◌≡◌, ◌≤◌, ◌↔◌, IsTrue, length};
 ghost use Rattle.std.specs.Bool.{OnTrue, OnFalse};
-ghost use Rattle.eax_mode.specs.Eax.{IsOnlyTextOf, combined, counter_mode, eax_accepts, eax_plaintext, eax_sealed, eax_tag};
+ghost use Rattle.eax_mode.specs.Eax.{IsOnlyTextOf, combined, counter_mode, eax_accepts};
+ghost use Rattle.eax_mode.specs.Eax.{eax_plaintext, eax_sealed, eax_tag};
 ghost use Rattle.eax_mode.specs.Eax as spec;
 
 use aes_block::{Aes128, BLOCK_LEN};
@@ -57,7 +58,8 @@ fn tag_over(
     header: &[u8],
     ciphertext: &[u8],
 ) -> [u8; BLOCK_LEN]
-    ensures { result ≡ combined (combined nonce_mac.now (spec.omac key.now 1 header.now)) (spec.omac key.now 2 ciphertext.now) }
+    ensures { result ≡ combined (combined nonce_mac.now
+        (spec.omac key.now 1 header.now)) (spec.omac key.now 2 ciphertext.now) }
 {
     let mut tag = *nonce_mac;
     combine(&mut tag, &omac(key, 1, header));
@@ -104,7 +106,8 @@ pub fn eax_unseal_with(
 
     // The text that is left.
     ensures opened { OnTrue result (text.new ≡ eax_plaintext key.now nonce.now text.old) }
-    ensures only { OnTrue result (IsOnlyTextOf key.now nonce.now header.now text.old tag.now text.new) }
+    ensures only { OnTrue result
+        (IsOnlyTextOf key.now nonce.now header.now text.old tag.now text.new) }
     ensures unchanged { OnFalse result (text.new ≡ text.old) }
 {
     let nonce_mac = omac(key, 0, nonce);
@@ -131,7 +134,8 @@ pub fn eax_unseal(
 
     // The text that is left.
     ensures opened { OnTrue result (text.new ≡ eax_plaintext key.now nonce.now text.old) }
-    ensures only { OnTrue result (IsOnlyTextOf key.now nonce.now header.now text.old tag.now text.new) }
+    ensures only { OnTrue result
+        (IsOnlyTextOf key.now nonce.now header.now text.old tag.now text.new) }
     ensures unchanged { OnFalse result (text.new ≡ text.old) }
 {
     eax_unseal_with(&CmacKey::new(key), nonce, header, text, tag)

@@ -13,13 +13,17 @@ use Rattle.end_commands.specs.ServerCommand.{server_answer}
 use Rattle.end_commands.proofs.Scripted.{answers_are}
 
 -- what is made of settings that are whole
-made : {A B : Type 0} (x : Result A LineFault) (f : A → B) → is_err x ≡ false → IsOk (x >>= λ a. Ok (f a))
+made : {A B : Type 0} (x : Result A LineFault) (f : A → B) → is_err x ≡ false
+    → IsOk (x >>= λ a. Ok (f a))
 made (Ok a) f e = refl
 made (Err fault) f e = absurd cc
 
-pub peer_answers : (octets : List ℕ) → answer (end_line_result peer_table) (end_closing peer_table) 0 (initial_command Peer) (lines octets) ≡ peer_answer octets
+pub peer_answers : (octets : List ℕ) → answer (end_line_result peer_table) (end_closing
+    peer_table) 0 (initial_command Peer) (lines octets) ≡ peer_answer octets
 peer_answers octets = answers_are Peer peer_table (λ s whole. made (peer_setup_of s) _ whole) octets
 
 pub server_answers : (octets : List ℕ)
-    → answer (end_line_result server_table) (end_closing server_table) 0 (initial_command Server) (lines octets) ≡ server_answer octets
-server_answers octets = answers_are Server server_table (λ s whole. made (server_setup_of s) _ whole) octets
+    → answer (end_line_result server_table) (end_closing server_table) 0 (initial_command
+    Server) (lines octets) ≡ server_answer octets
+server_answers octets =
+    answers_are Server server_table (λ s whole. made (server_setup_of s) _ whole) octets

@@ -1,5 +1,6 @@
 -- No line of `peer` or `server` begins as the line of the result does.
-use Rattle.std.proofs.Common.{◌≡◌, ℕ, ◌+◌, List, [], Bool, true, false, nat_le, cond, codes, Option, Some, None, Result, Ok, Err, refl, subst}
+use Rattle.std.proofs.Common.{◌≡◌, ℕ, ◌+◌, List, [], Bool, true, false, nat_le, cond, codes, Option}
+use Rattle.std.proofs.Common.{Some, None, Result, Ok, Err, refl, subst}
 use Rattle.octet_io.specs.Lines.{lines}
 use Rattle.eap_method.specs.declared.values.Report.{Report}
 use Rattle.eap_packet.specs.Words.{state_word}
@@ -8,7 +9,8 @@ use Rattle.login_keys.specs.KeyName.{key_name_of}
 use Rattle.text_tables.specs.declared.fault.LineFault.{LineFault}
 use Rattle.end_pipe.specs.EndReading.{Item, ReadLine, finish_of, read_line}
 use Rattle.end_pipe.specs.EndReading as item
-use Rattle.end_pipe.specs.EndRun.{EndStart, EndNow, EndOutcome, EndTold, MachineTable, end_step, peer_table, server_table}
+use Rattle.end_pipe.specs.EndRun.{EndStart, EndNow, EndOutcome, EndTold, MachineTable, end_step}
+use Rattle.end_pipe.specs.EndRun.{peer_table, server_table}
 use Rattle.end_pipe.specs.declared.input.EndInput.{EndInput}
 use Rattle.end_pipe.specs.declared.table.Role.{Role}
 use Rattle.end_pipe.specs.declared.table.Role.TheVariants.{Peer, Server}
@@ -21,9 +23,12 @@ use Rattle.answer_text.proofs.PlainKeys.{starts_result, no_result}
 use Rattle.command_driver.specs.Commands.{LineResult, answer, goes, refuses}
 use Rattle.command_driver.specs.declared.status.Status.TheVariants as status
 use Rattle.command_driver.proofs.Quiet.{IsQuiet, IsQuietLine, quiet_answer}
-use Rattle.end_commands.specs.EndCommand.{CommandNow, initiates_in, begins_with, closing_by, end_closing, end_line_result, last_of, initial_command, steps_in, item_result, reading_result}
+use Rattle.end_commands.specs.EndCommand.{CommandNow, initiates_in, begins_with, closing_by}
+use Rattle.end_commands.specs.EndCommand.{end_closing, end_line_result, last_of, initial_command}
+use Rattle.end_commands.specs.EndCommand.{steps_in, item_result, reading_result}
 use Rattle.end_commands.specs.EndScript.{max_inputs}
-use Rattle.end_commands.specs.EndText.{acted_text, keys_text, last_text, send_text, start_text, told_by, told_text}
+use Rattle.end_commands.specs.EndText.{acted_text, keys_text, last_text, send_text, start_text}
+use Rattle.end_commands.specs.EndText.{told_by, told_text}
 use Rattle.end_commands.specs.PeerCommand.{peer_answer}
 use Rattle.end_commands.specs.ServerCommand.{server_answer}
 use Rattle.end_commands.proofs.Answering.{peer_answers, server_answers}
@@ -35,7 +40,8 @@ IsPlain text = plain starts_result true text ≡ true
 
 send_plain : (number : ℕ) (sent : Option (List ℕ)) → IsPlain (send_text number sent)
 send_plain number None = refl
-send_plain number (Some octets) = decimal_first starts_result no_result number _ (through starts_result (hex_text octets) _ (hex_within octets) refl)
+send_plain number (Some octets) = decimal_first starts_result no_result number _
+    (through starts_result (hex_text octets) _ (hex_within octets) refl)
 
 keys_plain : (number : ℕ) (named : Option Report) → IsPlain (keys_text number named)
 keys_plain number None = refl
@@ -43,16 +49,20 @@ keys_plain number (Some report) =
     let msk = key_name_of report.msk in
     let emsk = key_name_of report.emsk in
     decimal_first starts_result no_result number _
-    (through starts_result (hex_text msk) _ (hex_within msk) (through starts_result (hex_text emsk) _ (hex_within emsk) refl))
+    (through starts_result (hex_text msk) _ (hex_within msk)
+    (through starts_result (hex_text emsk) _ (hex_within emsk) refl))
 
 states_plain : (number : ℕ) (path : List State) → IsPlain (states_line number path)
-states_plain number path = decimal_first starts_result no_result number (path_text path) (path_plain starts_result no_result path)
+states_plain number path = decimal_first starts_result no_result number (path_text path)
+    (path_plain starts_result no_result path)
 
 acted_plain : (number : ℕ) (told : EndTold) → IsPlain (acted_text number told)
 acted_plain number told =
-    join starts_result (states_line number told.step.path) _ true (states_plain number told.step.path)
-    (join starts_result (cause_text number told.step.cause) _ true (cause_plain starts_result no_result number told.step.cause)
-    (join starts_result (send_text number told.step.sent) (keys_text number told.named) true (send_plain number told.step.sent) (keys_plain number told.named)))
+    join starts_result (states_line number told.step.path) _ true
+    (states_plain number told.step.path) (join starts_result (cause_text number told.step.cause)
+    _ true (cause_plain starts_result no_result number told.step.cause)
+    (join starts_result (send_text number told.step.sent) (keys_text number told.named) true
+    (send_plain number told.step.sent) (keys_plain number told.named)))
 
 by_plain : (number : ℕ) (told : EndTold) (skipped : Bool) → IsPlain (told_by number told skipped)
 by_plain number told true = decimal_first starts_result no_result number _ refl
@@ -79,21 +89,30 @@ module _ {N : Type 0} (table : MachineTable N) where
   abbrev IsQuietEnd : LineResult (CommandNow N) → Type 0
   IsQuietEnd t = IsQuietLine starts_result Any t
 
-  starts_quiet : (c : CommandNow N) (x : Result (EndStart N) LineFault) → IsQuietEnd (begins_with c x)
+  starts_quiet : (c : CommandNow N) (x : Result (EndStart N) LineFault)
+      → IsQuietEnd (begins_with c x)
   starts_quiet c (Err fault) = record { text = refl; refusing = tt; after = tt }
   starts_quiet c (Ok start) = record { text = start_plain start.told; refusing = tt; after = tt }
 
-  ready_quiet : (c : CommandNow N) (pipe : Option (EndNow N)) → IsQuietEnd (initiates_in table c pipe)
+  ready_quiet : (c : CommandNow N) (pipe : Option (EndNow N))
+      → IsQuietEnd (initiates_in table c pipe)
   ready_quiet c (Some e) = record { text = refl; refusing = tt; after = tt }
   ready_quiet c None = starts_quiet c (table.begins c.reader.settings)
 
   by_quiet : (c : CommandNow N) (out : EndOutcome N) (over : Bool)
-      → IsQuietEnd (cond over (record { text = []; ruling = refuses (codes "TooMuch") status.TooMuch; after = c })
-      (record { text = told_text (c.taken + 1) out.told; ruling = goes; after = record c { pipe = Some out.after; taken = c.taken + 1 } }))
+      → IsQuietEnd (cond over
+      (record { text = []; ruling = refuses (codes "TooMuch") status.TooMuch; after = c })
+      (record {
+        text = told_text (c.taken + 1) out.told;
+        ruling = goes;
+        after = record c { pipe = Some out.after; taken = c.taken + 1 };
+      }))
   by_quiet c out true = record { text = refl; refusing = tt; after = tt }
-  by_quiet c out false = record { text = reported_plain (c.taken + 1) out.told; refusing = tt; after = tt }
+  by_quiet c out false =
+      record { text = reported_plain (c.taken + 1) out.told; refusing = tt; after = tt }
 
-  steps_quiet : (c : CommandNow N) (pipe : Option (EndNow N)) (input : EndInput) → IsQuietEnd (steps_in table c pipe input)
+  steps_quiet : (c : CommandNow N) (pipe : Option (EndNow N)) (input : EndInput)
+      → IsQuietEnd (steps_in table c pipe input)
   steps_quiet c None input = record { text = refl; refusing = tt; after = tt }
   steps_quiet c (Some e) input = by_quiet c (end_step table e input) (nat_le max_inputs c.taken)
 
@@ -103,7 +122,8 @@ module _ {N : Type 0} (table : MachineTable N) where
   item_quiet c (item.Input input) = steps_quiet c c.pipe input
   item_quiet c item.End = record { text = refl; refusing = tt; after = tt }
 
-  reading_quiet : (c : CommandNow N) (x : Result ReadLine LineFault) → IsQuietEnd (reading_result table c x)
+  reading_quiet : (c : CommandNow N) (x : Result ReadLine LineFault)
+      → IsQuietEnd (reading_result table c x)
   reading_quiet c (Err fault) = record { text = refl; refusing = tt; after = tt }
   reading_quiet c (Ok r) = item_quiet (record c { reader = r.after }) r.item
 
@@ -115,7 +135,8 @@ module _ {N : Type 0} (table : MachineTable N) where
   last_quiet None = refl
   last_quiet (Some e) = last_plain (table.state e.now)
 
-  by_end : (c : CommandNow N) (x : Result (Unit {0}) LineFault) → IsPlain (closing_by table c x).text
+  by_end : (c : CommandNow N) (x : Result (Unit {0}) LineFault)
+      → IsPlain (closing_by table c x).text
   by_end c (Err fault) = refl
   by_end c (Ok done) = last_quiet c.pipe
 
@@ -123,14 +144,18 @@ module _ {N : Type 0} (table : MachineTable N) where
   unfolding end_closing
   closing_quiet c = by_end c (finish_of c.reader)
 
-  quiet : (role : Role) (octets : List ℕ) → IsQuiet starts_result (answer (end_line_result table) (end_closing table) 0 (initial_command role) (lines octets))
+  quiet : (role : Role) (octets : List ℕ) → IsQuiet starts_result (answer (end_line_result table)
+      (end_closing table) 0 (initial_command role) (lines octets))
   quiet role octets =
-      quiet_answer starts_result (end_line_result table) (end_closing table) Any result_quiet closing_quiet (lines octets) 0 (initial_command role) tt
+      quiet_answer starts_result (end_line_result table) (end_closing table)
+      Any result_quiet closing_quiet (lines octets) 0 (initial_command role) tt
 
 -- ---- both commands
 
 pub peer_quiet : (octets : List ℕ) → IsQuiet starts_result (peer_answer octets)
-peer_quiet octets = subst (IsQuiet starts_result) (peer_answers octets) (quiet peer_table Peer octets)
+peer_quiet octets =
+    subst (IsQuiet starts_result) (peer_answers octets) (quiet peer_table Peer octets)
 
 pub server_quiet : (octets : List ℕ) → IsQuiet starts_result (server_answer octets)
-server_quiet octets = subst (IsQuiet starts_result) (server_answers octets) (quiet server_table Server octets)
+server_quiet octets =
+    subst (IsQuiet starts_result) (server_answers octets) (quiet server_table Server octets)

@@ -1,5 +1,7 @@
--- A command over one end, line by line: its text is read, and what comes to the end is answered as it comes.
-use Rattle.std.specs.Prelude.{◌≡◌, ℕ, ◌+◌, List, [], Bool, false, nat_le, if◌then◌else◌, Option, Some, None, option_map, IfSome, IsSome, Result, Ok, Err, codes}
+-- A command over one end, line by line: its text is read, and what comes to the end is answered as
+-- it comes.
+use Rattle.std.specs.Prelude.{◌≡◌, ℕ, ◌+◌, List, [], Bool, false, nat_le, if◌then◌else◌, Option}
+use Rattle.std.specs.Prelude.{Some, None, option_map, IfSome, IsSome, Result, Ok, Err, codes}
 use Rattle.text_tables.specs.Words.{fault_word}
 use Rattle.text_tables.specs.declared.fault.LineFault.{LineFault}
 use Rattle.end_pipe.specs.EndReading.{EndReading, ReadLine, Item, finish_of, read_line, unread}
@@ -13,8 +15,8 @@ use Rattle.end_commands.specs.EndScript.{max_inputs}
 use Rattle.end_commands.specs.EndText.{told_text, start_text, last_text}
 use Rattle.end_commands.specs.declared.end.End.{End}
 
--- what of the command decides its lines: what has been read, the end from the line `events` on, and how many inputs it has
--- taken
+-- what of the command decides its lines: what has been read, the end from the line `events` on, and
+-- how many inputs it has taken
 pub record CommandNow (N : Type 0) : Type 0 where
   pub reader : EndReading
   pub pipe : Option (EndNow N)
@@ -28,11 +30,17 @@ abbrev pub is_refused : {N : Type 0} → CommandNow N → List ℕ → LineResul
 is_refused c word = record { text = []; ruling = refuses word status.Refused; after = c }
 
 -- the line `events`: the end begins
-abbrev pub begins_with : {N : Type 0} → CommandNow N → Result (EndStart N) LineFault → LineResult (CommandNow N)
+abbrev pub begins_with : {N : Type 0} → CommandNow N → Result (EndStart N) LineFault
+    → LineResult (CommandNow N)
 begins_with c (Err fault) = proceeds_silently c
-begins_with c (Ok start) = record { text = start_text start.told; ruling = goes; after = record c { pipe = Some start.after } }
+begins_with c (Ok start) = record {
+  text = start_text start.told;
+  ruling = goes;
+  after = record c { pipe = Some start.after };
+}
 
-abbrev pub initiates_in : {N : Type 0} → MachineTable N → CommandNow N → Option (EndNow N) → LineResult (CommandNow N)
+abbrev pub initiates_in : {N : Type 0} → MachineTable N → CommandNow N → Option (EndNow N)
+    → LineResult (CommandNow N)
 initiates_in table c (Some e) = proceeds_silently c
 initiates_in table c None = begins_with c (table.begins c.reader.settings)
 
@@ -47,7 +55,8 @@ steps_to c out =
       after = record c { pipe = Some out.after; taken = c.taken + 1 };
     }
 
-abbrev pub steps_in : {N : Type 0} → MachineTable N → CommandNow N → Option (EndNow N) → EndInput → LineResult (CommandNow N)
+abbrev pub steps_in : {N : Type 0} → MachineTable N → CommandNow N → Option (EndNow N) → EndInput
+    → LineResult (CommandNow N)
 steps_in table c None input = proceeds_silently c
 steps_in table c (Some e) input = steps_to c (end_step table e input)
 
@@ -93,10 +102,12 @@ abbrev pub end_lacks : {N : Type 0} → CommandNow N → List ℕ → Bool
 end_lacks c line = false
 
 abbrev pub end_seen : {M E N : Type 0} → (E → N) → End M E → CommandNow N
-end_seen shown c = record { reader = c.reader; pipe = option_map (end_now shown) c.pipe; taken = c.taken }
+end_seen shown
+    c = record { reader = c.reader; pipe = option_map (end_now shown) c.pipe; taken = c.taken }
 
 -- the objects of both methods are there until the end begins, and then inputs may come to it
-pub record IsReady {M E : Type 0} (is_running : E → Type 0) (has_both : List M → Type 0) (c : End M E) (lines : ℕ) : Type 0 where
+pub record IsReady {M E : Type 0} (is_running : E → Type 0) (has_both : List M → Type 0)
+    (c : End M E) (lines : ℕ) : Type 0 where
   pub there : c.pipe ≡ None → IsSome c.methods
   pub objects : IfSome c.methods (λ methods. has_both methods.items)
   pub going : IfSome c.pipe (λ p. is_running p.machine)

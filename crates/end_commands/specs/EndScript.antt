@@ -1,5 +1,6 @@
 -- An end's text, as all its lines make it, and what it answers: the text of the end's run.
-use Rattle.std.specs.Prelude.{ℕ, ◌+◌, List, [], ◌∷◌, Bool, true, false, nat_le, ◌&&◌, if◌then◌else◌, Option, Some, None, Result, Ok, Err, codes}
+use Rattle.std.specs.Prelude.{ℕ, ◌+◌, List, [], ◌∷◌, Bool, true, false, nat_le, ◌&&◌, if◌then◌else◌}
+use Rattle.std.specs.Prelude.{Option, Some, None, Result, Ok, Err, codes}
 use Rattle.octet_io.specs.Lines.{Lines, ended, too_long, too_much, line, lines}
 use Rattle.text_tables.specs.Words.{fault_word}
 use Rattle.text_tables.specs.declared.fault.LineFault.{LineFault}
@@ -65,7 +66,8 @@ accepted_after taken (Err fault) = taken
 abbrev pub with_line : ℕ → ℕ → Result ReadLine LineFault → Script → Script
 with_line number taken (Err fault) s = stops (refused number (fault_word fault) status.Refused)
 with_line number taken (Ok x) s =
-    if is_input x.item && nat_le max_inputs taken then stops (too_much_at number) else adds x.item x.after.settings s
+    if is_input x.item && nat_le max_inputs taken then stops (too_much_at number)
+    else adds x.item x.after.settings s
 
 -- the script that the lines make, if n lines and so many inputs have come before them
 unfoldable pub script_from : ℕ → ℕ → EndReading → Lines → Script
@@ -73,7 +75,8 @@ script_from n taken r ended = stops (finish_ending (n + 1) (finish_of r))
 script_from n taken r too_long = stops (too_much_at (n + 1))
 script_from n taken r too_much = stops (too_much_at (n + 1))
 script_from n taken r (line l rest) =
-    with_line (n + 1) taken (read_line r l) (script_from (n + 1) (accepted_after taken (read_line r l)) (read_after r (read_line r l)) rest)
+    with_line (n + 1) taken (read_line r l)
+    (script_from (n + 1) (accepted_after taken (read_line r l)) (read_after r (read_line r l)) rest)
 
 -- the script that an input is to this end
 abbrev pub script_of : Role → List ℕ → Script
@@ -91,18 +94,22 @@ module _ {N : Type 0} (table : MachineTable N) where
   ending_answer e whole = record { text = last_text (table.state e.now); status = status.Done }
   ending_answer e (refused number word s) = refusal number word s
 
-  -- the answer from an end on that has taken so many inputs: the results of the inputs to come, and the ending
+  -- the answer from an end on that has taken so many inputs: the results of the inputs to come, and
+  -- the ending
   abbrev pub run_answer : ℕ → EndNow N → List EndInput → Ending → Answer
   run_answer taken e inputs ending =
-      after_text (tolds_text taken (told_of (end_step table) e inputs)) (ending_answer (end_after (end_step table) e inputs) ending)
+      after_text (tolds_text taken (told_of (end_step table) e inputs))
+      (ending_answer (end_after (end_step table) e inputs) ending)
 
   abbrev pub started_answer : Result (EndStart N) LineFault → List EndInput → Ending → Answer
   started_answer (Err fault) inputs ending = unset_answer ending
-  started_answer (Ok start) inputs ending = after_text (start_text start.told) (run_answer 0 start.after inputs ending)
+  started_answer (Ok start) inputs ending =
+      after_text (start_text start.told) (run_answer 0 start.after inputs ending)
 
   abbrev pub settings_answer : Option Settings → List EndInput → Ending → Answer
   settings_answer None inputs ending = unset_answer ending
-  settings_answer (Some settings) inputs ending = started_answer (table.begins settings) inputs ending
+  settings_answer (Some settings) inputs ending =
+      started_answer (table.begins settings) inputs ending
 
   abbrev pub script_answer : Script → Answer
   script_answer s = settings_answer s.settings s.inputs s.ending

@@ -1,5 +1,7 @@
--- The text that says what one end does: the lines of its start and of each input, and its last lines.
-use Rattle.std.specs.Prelude.{ℕ, ◌+◌, List, [], ◌∷◌, ◌++◌, Bool, true, false, Option, Some, None, codes, decimal}
+-- The text that says what one end does: the lines of its start and of each input, and its last
+-- lines.
+use Rattle.std.specs.Prelude.{ℕ, ◌+◌, List, [], ◌∷◌, ◌++◌, Bool, true, false, Option, Some, None}
+use Rattle.std.specs.Prelude.{codes, decimal}
 use Rattle.std.specs.List.{concat}
 use Rattle.eap_method.specs.declared.values.Report.{Report}
 use Rattle.eap_packet.specs.Words.{state_word}
@@ -12,12 +14,14 @@ use Rattle.answer_text.specs.Paths.{cause_text, states_line}
 -- the line of the packet that is sent, if one is
 abbrev pub send_text : ℕ → Option (List ℕ) → List ℕ
 send_text number None = []
-send_text number (Some octets) = concat (decimal number ∷ codes " send " ∷ hex_text octets ∷ codes "\n" ∷ [])
+send_text number (Some octets) =
+    concat (decimal number ∷ codes " send " ∷ hex_text octets ∷ codes "\n" ∷ [])
 
 -- the names of the keys of a report that the end first has
 abbrev pub keys_line : ℕ → List ℕ → List ℕ → List ℕ
 keys_line number msk emsk =
-    concat (decimal number ∷ codes " keys msk " ∷ hex_text msk ∷ codes " emsk " ∷ hex_text emsk ∷ codes "\n" ∷ [])
+    concat (decimal number ∷ codes " keys msk " ∷ hex_text msk ∷ codes " emsk " ∷ hex_text emsk
+    ∷ codes "\n" ∷ [])
 
 abbrev pub keys_text : ℕ → Option Report → List ℕ
 keys_text number None = []
@@ -27,7 +31,8 @@ keys_text number (Some report) = keys_line number (key_name_of report.msk) (key_
 abbrev pub acted_text : ℕ → EndTold → List ℕ
 acted_text number told =
     states_line number told.step.path
-    ++ (cause_text number told.step.cause ++ (send_text number told.step.sent ++ keys_text number told.named))
+    ++ (cause_text number told.step.cause
+    ++ (send_text number told.step.sent ++ keys_text number told.named))
 
 abbrev pub skip_line : ℕ → List ℕ
 skip_line number = concat (decimal number ∷ codes " skip Ended\n" ∷ [])

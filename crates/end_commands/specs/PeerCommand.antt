@@ -14,5 +14,6 @@ peer_answer octets = script_answer peer_table (script_of Peer octets)
 
 -- the peer has an object of each method that settings can name, and none of another
 pub record HasBothPeers {M : Type 0} (shown : M → PeerShown) (methods : List M) : Type 0 where
-  pub each : (kinds : List ℕ) → IsTrue (are_kinds kinds) → have_each (peer_kinds (map shown methods)) kinds ≡ true
+  pub each : (kinds : List ℕ) → IsTrue (are_kinds kinds)
+      → have_each (peer_kinds (map shown methods)) kinds ≡ true
   pub both : are_both (map shown methods) ≡ true

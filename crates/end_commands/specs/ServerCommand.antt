@@ -15,5 +15,6 @@ server_answer octets = script_answer server_table (script_of Server octets)
 
 -- the server has an object of each method that settings can name, and none of another
 pub record HasBothServers {M : Type 0} (shown : M → ServerShown) (methods : List M) : Type 0 where
-  pub each : (kinds : List ℕ) → IsTrue (are_kinds kinds) → have_each (server_kinds (map shown methods)) kinds ≡ true
+  pub each : (kinds : List ℕ) → IsTrue (are_kinds kinds)
+      → have_each (server_kinds (map shown methods)) kinds ≡ true
   pub both : are_both (map shown methods) ≡ true

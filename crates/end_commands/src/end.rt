@@ -51,7 +51,8 @@ pub trait CanStart<M>: Machine {
         ensures ready_after { IsReady Self.is_running has_both end.new 0 }
         ensures starts { starts_at Self.table (end_seen Self.shown end.old)
             ≡ record {
-              text = start_text (option_map (λ step. result_with step end.new.packet end.new.tags) result);
+              text = start_text
+                  (option_map (λ step. result_with step end.new.packet end.new.tags) result);
               ruling = goes;
               after = end_seen Self.shown end.new;
             } };
@@ -60,7 +61,8 @@ pub trait CanStart<M>: Machine {
 impl<M, E: CanStart<M>> End<M, E> {
     ghost use Rattle.command_driver.specs.Commands.{AnswersLine, AnswersEnd, ends};
     ghost use Rattle.command_driver.specs.declared.status.Status.{Status};
-    ghost use Rattle.end_commands.specs.EndCommand.{IsReady, starts_at, end_seen, last_of, initial_command, steps_at};
+    ghost use Rattle.end_commands.specs.EndCommand.{IsReady, starts_at, end_seen, last_of};
+    ghost use Rattle.end_commands.specs.EndCommand.{initial_command, steps_at};
 
     /// Nothing has been read yet of this end's text.
     pub fn new(role: Role, methods: Vec<M>) -> End<M, E>
@@ -100,7 +102,8 @@ impl<M, E: CanStart<M>> End<M, E> {
         ensures ready_after { IfOk result (λ next. IsReady E.is_running E.has_both self.new 0) }
         ensures answers { AnswersLine W.shown
             result sink.old sink.new
-            (steps_at E.table (end_seen E.shown self.old) input.now) false (end_seen E.shown self.new) }
+            (steps_at E.table (end_seen E.shown self.old) input.now) false
+            (end_seen E.shown self.new) }
     {
         match &mut self.pipe {
             None => Ok(Next::Proceed),
@@ -142,7 +145,8 @@ fn tell<E: Machine, W: Sink>(
 ) -> Result<(), Failed>
     requires { E.is_running pipe.old.machine }
     ensures running { E.is_running pipe.new.machine }
-    ensures after { (end_step E.table (end_now E.shown pipe.old) input.now).after ≡ end_now E.shown pipe.new }
+    ensures after { (end_step E.table (end_now E.shown pipe.old) input.now).after
+        ≡ end_now E.shown pipe.new }
     ensures text { Appends W.shown result sink.old sink.new
         (told_text number (end_step E.table (end_now E.shown pipe.old) input.now).told) }
 {
@@ -151,7 +155,8 @@ fn tell<E: Machine, W: Sink>(
 }
 
 impl<M, E: CanStart<M>> Command for End<M, E> {
-    ghost use Rattle.end_commands.specs.EndCommand.{CommandNow, IsReady, end_closing, end_lacks, end_seen, end_line_result};
+    ghost use Rattle.end_commands.specs.EndCommand.{CommandNow, IsReady, end_closing, end_lacks};
+    ghost use Rattle.end_commands.specs.EndCommand.{end_seen, end_line_result};
 
     ghost Seen = { CommandNow E.Now };
 

@@ -5,7 +5,8 @@ ghost use Rattle.std.specs.Prelude.{Some, None, if◌then◌else◌};
 ghost use Rattle.eap_method.specs.Tags.{Tags};
 ghost use Rattle.answer_text.specs.Writes.{Appends};
 ghost use Rattle.end_pipe.specs.EndRun.{result_with};
-ghost use Rattle.end_commands.specs.EndText.{acted_text, keys_line, keys_text, last_text, send_text, skip_line, told_text};
+ghost use Rattle.end_commands.specs.EndText.{acted_text, keys_line, keys_text, last_text};
+ghost use Rattle.end_commands.specs.EndText.{send_text, skip_line, told_text};
 
 use answer_text::Piece::{Hex, Leading, Text};
 use answer_text::{write_cause, write_nothing, write_pieces, write_states};
@@ -76,7 +77,8 @@ fn write_acted<W: Sink>(
 
 /// Writes all octets of the packet that is sent in hex, in one line, if one is.
 fn write_sent<W: Sink>(sink: &mut W, number: u32, octets: &[u8], sends: bool) -> Result<(), Failed>
-    ensures { Appends W.shown result sink.old sink.new (send_text number (if sends then Some octets.now else None)) }
+    ensures { Appends W.shown result sink.old sink.new
+        (send_text number (if sends then Some octets.now else None)) }
 {
     if sends {
         write_pieces(

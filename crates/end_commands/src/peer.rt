@@ -39,7 +39,8 @@ impl<M: PeerMethod> CanStart<M> for PeerMachine<M> {
 fn pipe_of<M: PeerMethod>(setup: PeerSetup, methods: Vec<M>) -> PeerPipe<M>
     requires sound { IsSoundPeer setup }
     requires keys { HasKeys setup }
-    requires objects { have_each (peer_kinds (map M.peer_shown methods.items)) setup.methods ≡ true }
+    requires objects { have_each (peer_kinds (map M.peer_shown methods.items)) setup.methods
+        ≡ true }
     requires both { are_both (map M.peer_shown methods.items) ≡ true }
     ensures { peer_end M.peer_shown result ≡ started_peer setup (both_of setup.methods) }
 {
@@ -54,7 +55,8 @@ pub fn answer_peer<M: PeerMethod, S: Source, W: Sink>(
     methods: Vec<M>,
 ) -> Status
     requires { HasBothPeers M.peer_shown methods.items }
-    ensures { Responds S.shown W.shown (reading peer_answer never) result source.old source.new sink.old sink.new }
+    ensures { Responds S.shown W.shown (reading peer_answer never)
+        result source.old source.new sink.old sink.new }
 {
     let mut end = End::<M, PeerMachine<M>>::new(Role::Peer, methods);
     drive(&mut end, source, sink)

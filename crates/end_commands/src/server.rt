@@ -48,9 +48,11 @@ fn pipe_of<M: ServerMethod>(
 ) -> ServerPipe<M>
     requires sound { IsSoundServer setup }
     requires few { max_retrans ≤ 10 }
-    requires objects { have_each (server_kinds (map M.server_shown methods.items)) setup.methods ≡ true }
+    requires objects { have_each (server_kinds (map M.server_shown methods.items)) setup.methods
+        ≡ true }
     requires both { are_both (map M.server_shown methods.items) ≡ true }
-    ensures { server_end M.server_shown result ≡ server_unstarted setup (both_of setup.methods) first_id max_retrans }
+    ensures { server_end M.server_shown result
+        ≡ server_unstarted setup (both_of setup.methods) first_id max_retrans }
 {
     ServerPipe::new(setup, first_id, max_retrans, methods)
 }
@@ -63,7 +65,8 @@ pub fn answer_server<M: ServerMethod, S: Source, W: Sink>(
     methods: Vec<M>,
 ) -> Status
     requires { HasBothServers M.server_shown methods.items }
-    ensures { Responds S.shown W.shown (reading server_answer never) result source.old source.new sink.old sink.new }
+    ensures { Responds S.shown W.shown (reading server_answer never)
+        result source.old source.new sink.old sink.new }
 {
     let mut end = End::<M, StandAloneServer<M>>::new(Role::Server, methods);
     drive(&mut end, source, sink)

@@ -11,17 +11,22 @@ use Rattle.end_objects.specs.declared.objects.PeerObject.{PeerObject}
 use Rattle.end_objects.specs.declared.objects.ServerObject.{ServerObject}
 
 pub one_more_peer : (before : List PeerObject) (object : PeerObject) (rest : List ℕ)
-    → peer_kinds (map peer_object_shown (before ++ object ∷ [])) ++ rest ≡ peer_kinds (map peer_object_shown before) ++ peer_kind (peer_object_shown object) ∷ rest
+    → peer_kinds (map peer_object_shown (before ++ object ∷ [])) ++ rest
+    ≡ peer_kinds (map peer_object_shown before) ++ peer_kind (peer_object_shown object) ∷ rest
 one_more_peer [] object rest = refl
-one_more_peer (first ∷ more) object rest = ap (λ kinds. peer_kind (peer_object_shown first) ∷ kinds) (one_more_peer more object rest)
+one_more_peer (first ∷ more) object rest =
+    ap (λ kinds. peer_kind (peer_object_shown first) ∷ kinds) (one_more_peer more object rest)
 
 pub one_more_server : (before : List ServerObject) (object : ServerObject) (rest : List ℕ)
-    → server_kinds (map server_object_shown (before ++ object ∷ [])) ++ rest ≡ server_kinds (map server_object_shown before) ++ server_kind (server_object_shown object) ∷ rest
+    → server_kinds (map server_object_shown (before ++ object ∷ [])) ++ rest ≡ server_kinds (map
+    server_object_shown before) ++ server_kind (server_object_shown object) ∷ rest
 one_more_server [] object rest = refl
-one_more_server (first ∷ more) object rest = ap (λ kinds. server_kind (server_object_shown first) ∷ kinds) (one_more_server more object rest)
+one_more_server (first ∷ more) object rest =
+    ap (λ kinds. server_kind (server_object_shown first) ∷ kinds) (one_more_server more object rest)
 
 -- those that stand among some stand among one more
-still_among : (kinds : List ℕ) (kind : ℕ) (wanted : List ℕ) → list_all (is_among kinds) wanted ≡ true → list_all (is_among (kind ∷ kinds)) wanted ≡ true
+still_among : (kinds : List ℕ) (kind : ℕ) (wanted : List ℕ) → list_all (is_among kinds) wanted
+    ≡ true → list_all (is_among (kind ∷ kinds)) wanted ≡ true
 still_among kinds kind [] h = refl
 still_among kinds kind (first ∷ rest) h =
     let parts = and_parts (is_among kinds first) (list_all (is_among kinds) rest) h in

@@ -1,4 +1,5 @@
--- What an object of either method shows: its view, the nonces of a login that has succeeded, and whether it has failed.
+-- What an object of either method shows: its view, the nonces of a login that has succeeded, and
+-- whether it has failed.
 use Rattle.std.specs.Prelude.{Bool, false, Option, None, option_map}
 use Rattle.eap_method.specs.Peer as peer
 use Rattle.eap_method.specs.Peer.{PeerShown}

@@ -1,11 +1,13 @@
 -- When settings are refused, and why.
-use Rattle.std.specs.Prelude.{◌≡◌, ℕ, ◌≤◌, List, [], ◌∷◌, length, Bool, true, false, ◌&&◌, ◌||◌, ◌==◌, not, nat_lt, nat_le, if◌then◌else◌, Option, Some, None}
+use Rattle.std.specs.Prelude.{◌≡◌, ℕ, ◌≤◌, List, [], ◌∷◌, length, Bool, true, false, ◌&&◌, ◌||◌}
+use Rattle.std.specs.Prelude.{◌==◌, not, nat_lt, nat_le, if◌then◌else◌, Option, Some, None}
 use Rattle.std.specs.List.{list_any, list_all}
 use Rattle.octet_lists.specs.Among.{is_filled}
 use Rattle.octet_lists.specs.Sizes.{max_name}
 use Rattle.login_setup.specs.Setup.{are_kinds, are_suites, is_valid_for}
 use Rattle.eap_method.specs.Peer.{have_each}
-use Rattle.end_objects.specs.Settings.{SettingsValue, is_set, keyed_kinds, named_kinds, kinds_of, suites_of, key_for}
+use Rattle.end_objects.specs.Settings.{SettingsValue, is_set, keyed_kinds, named_kinds, kinds_of}
+use Rattle.end_objects.specs.Settings.{suites_of, key_for}
 use Rattle.end_objects.specs.declared.refusals.Refusal.{Refusal}
 use Rattle.end_objects.specs.declared.refusals.Refusal.TheVariants as refusal
 
@@ -45,11 +47,13 @@ has_long_other told = nat_lt max_name (length told.other)
 
 -- whether each key fits its method, and there is one for each of these methods
 unfoldable pub has_keys : List ℕ → SettingsValue → Bool
-has_keys wanted told = list_all (λ kind. is_valid_for kind (key_for told kind)) (keyed_kinds told) && have_each (keyed_kinds told) wanted
+has_keys wanted told = list_all (λ kind. is_valid_for kind
+    (key_for told kind)) (keyed_kinds told) && have_each (keyed_kinds told) wanted
 
 -- whether there is a key exactly if there is a user
 unfoldable pub has_key_of_user : SettingsValue → Bool
-has_key_of_user told = if is_filled told.other then is_filled (keyed_kinds told) else not (is_filled (keyed_kinds told))
+has_key_of_user told = if is_filled told.other then is_filled (keyed_kinds told)
+    else not (is_filled (keyed_kinds told))
 
 -- the first reason to refuse settings, the methods or keys of which may be bad for their end
 abbrev pub end_refusal : SettingsValue → Bool → Bool → Option Refusal
@@ -64,11 +68,13 @@ end_refusal told bad_methods bad_keys =
 -- the first reason to refuse a peer's settings; no name means any server
 unfoldable pub peer_refusal : SettingsValue → Option Refusal
 peer_refusal told =
-    end_refusal told (has_bad_methods told || not (is_filled (named_kinds told))) (not (has_keys (kinds_of told) told))
+    end_refusal told (has_bad_methods told || not (is_filled (named_kinds told)))
+    (not (has_keys (kinds_of told) told))
 
 -- the first reason to refuse a server's settings; no name means no user
 unfoldable pub server_refusal : SettingsValue → Option Refusal
-server_refusal told = end_refusal told (has_bad_methods told) (not (has_keys [] told && has_key_of_user told))
+server_refusal told =
+    end_refusal told (has_bad_methods told) (not (has_keys [] told && has_key_of_user told))
 
 -- why MaxRetrans of RFC 4137 is refused
 abbrev pub retry_refusal : ℕ → Option Refusal

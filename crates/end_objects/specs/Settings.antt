@@ -1,5 +1,6 @@
 -- The settings of an end, from what a program gives.
-use Rattle.std.specs.Prelude.{ℕ, List, [], ◌∷◌, ◌++◌, map, slice_index, Bool, ◌==◌, not, if◌then◌else◌, Option, Some, None}
+use Rattle.std.specs.Prelude.{ℕ, List, [], ◌∷◌, ◌++◌, map, slice_index, Bool, ◌==◌, not}
+use Rattle.std.specs.Prelude.{if◌then◌else◌, Option, Some, None}
 use Rattle.octet_lists.specs.Among.{psk_kind, gpsk_kind, is_filled}
 use Rattle.login_setup.specs.declared.setup.Accepts.{Accepts}
 use Rattle.login_setup.specs.declared.setup.Accepts.TheVariants.{Any, One}
@@ -107,7 +108,12 @@ peer_setup_of told nonce = record {
 
 -- the other end as a user of a method, with the key that both ends share
 abbrev pub user_with : SettingsValue → ℕ → User
-user_with told kind = record { name = told.other; kind = kind; psk = key_for told kind; barred = is_set told.barred }
+user_with told kind = record {
+  name = told.other;
+  kind = kind;
+  psk = key_for told kind;
+  barred = is_set told.barred;
+}
 
 -- the most users that settings give a server
 abbrev pub max_others : ℕ

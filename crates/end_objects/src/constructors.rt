@@ -15,8 +15,10 @@ use std::alloc::{AllocError, Global};
 #[tactic(auto, using(crate::proofs::Constructed::each_of_its_own))]
 pub fn peer_objects(alloc: Global, kinds: &[u8]) -> Result<Vec<PeerObject>, AllocError>
     requires { IsTrue (are_kinds kinds.now) }
-    ensures kinds { IfOk result (λ objects. peer_kinds (map peer_object_shown objects.items) ≡ kinds.now) }
-    ensures each { IfOk result (λ objects. have_each (peer_kinds (map peer_object_shown objects.items)) kinds.now ≡ true) }
+    ensures kinds { IfOk result
+        (λ objects. peer_kinds (map peer_object_shown objects.items) ≡ kinds.now) }
+    ensures each { IfOk result
+        (λ objects. have_each (peer_kinds (map peer_object_shown objects.items)) kinds.now ≡ true) }
 {
     let mut objects = Vec::with_capacity(alloc, kinds.len())?;
     add_peers(&mut objects, kinds)?;
@@ -27,7 +29,8 @@ pub fn peer_objects(alloc: Global, kinds: &[u8]) -> Result<Vec<PeerObject>, Allo
 #[tactic(auto, using(crate::proofs::Constructed::one_more_peer))]
 fn add_peers(objects: &mut Vec<PeerObject>, kinds: &[u8]) -> Result<(), AllocError>
     requires { list_all is_kind kinds.now ≡ true }
-    ensures { OnOk result (peer_kinds (map peer_object_shown objects.new.items) ≡ peer_kinds (map peer_object_shown objects.old.items) ++ kinds.now) }
+    ensures { OnOk result (peer_kinds (map peer_object_shown objects.new.items)
+        ≡ peer_kinds (map peer_object_shown objects.old.items) ++ kinds.now) }
 {
     match kinds {
         [] => Ok(()),
@@ -42,8 +45,10 @@ fn add_peers(objects: &mut Vec<PeerObject>, kinds: &[u8]) -> Result<(), AllocErr
 #[tactic(auto, using(crate::proofs::Constructed::each_of_its_own))]
 pub fn server_objects(alloc: Global, kinds: &[u8]) -> Result<Vec<ServerObject>, AllocError>
     requires { IsTrue (are_kinds kinds.now) }
-    ensures kinds { IfOk result (λ objects. server_kinds (map server_object_shown objects.items) ≡ kinds.now) }
-    ensures each { IfOk result (λ objects. have_each (server_kinds (map server_object_shown objects.items)) kinds.now ≡ true) }
+    ensures kinds { IfOk result
+        (λ objects. server_kinds (map server_object_shown objects.items) ≡ kinds.now) }
+    ensures each { IfOk result (λ objects.
+        have_each (server_kinds (map server_object_shown objects.items)) kinds.now ≡ true) }
 {
     let mut objects = Vec::with_capacity(alloc, kinds.len())?;
     add_servers(&mut objects, kinds)?;
@@ -54,7 +59,8 @@ pub fn server_objects(alloc: Global, kinds: &[u8]) -> Result<Vec<ServerObject>, 
 #[tactic(auto, using(crate::proofs::Constructed::one_more_server))]
 fn add_servers(objects: &mut Vec<ServerObject>, kinds: &[u8]) -> Result<(), AllocError>
     requires { list_all is_kind kinds.now ≡ true }
-    ensures { OnOk result (server_kinds (map server_object_shown objects.new.items) ≡ server_kinds (map server_object_shown objects.old.items) ++ kinds.now) }
+    ensures { OnOk result (server_kinds (map server_object_shown objects.new.items)
+        ≡ server_kinds (map server_object_shown objects.old.items) ++ kinds.now) }
 {
     match kinds {
         [] => Ok(()),

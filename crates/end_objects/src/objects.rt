@@ -58,7 +58,8 @@ pub enum PeerObject {
 pub fn peer_object(kind: u8) -> PeerObject
     requires { is_kind kind ≡ true }
     ensures kind { peer_kind (peer_object_shown result) ≡ kind }
-    ensures method { peers.method_of (peer_object_shown result) ≡ (if kind == psk_kind then peers.by_psk else peers.by_gpsk) }
+    ensures method { peers.method_of (peer_object_shown result)
+        ≡ (if kind == psk_kind then peers.by_psk else peers.by_gpsk) }
 {
     if kind == PSK_KIND {
         PeerObject::Psk(PskPeer::new())
@@ -155,7 +156,8 @@ pub enum ServerObject {
 pub fn server_object(kind: u8) -> ServerObject
     requires { is_kind kind ≡ true }
     ensures kind { server_kind (server_object_shown result) ≡ kind }
-    ensures method { servers.method_of (server_object_shown result) ≡ (if kind == psk_kind then servers.by_psk else servers.by_gpsk) }
+    ensures method { servers.method_of (server_object_shown result)
+        ≡ (if kind == psk_kind then servers.by_psk else servers.by_gpsk) }
 {
     if kind == PSK_KIND {
         ServerObject::Psk(PskServer::new())
@@ -165,7 +167,8 @@ pub fn server_object(kind: u8) -> ServerObject
 }
 
 impl ServerObject {
-    ghost use Rattle.end_objects.specs.Objects.{server_object_shown, server_nonces, is_unknown, server_has_failed};
+    ghost use Rattle.end_objects.specs.Objects.{server_object_shown, server_nonces, is_unknown};
+    ghost use Rattle.end_objects.specs.Objects.{server_has_failed};
 
     /// The nonces of a login that has succeeded; None before and after any other.
     pub fn nonces(&self) -> Option<Nonces>

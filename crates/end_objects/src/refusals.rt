@@ -5,7 +5,11 @@ ghost use Rattle.std.specs.List.{list_all};
 ghost use Rattle.login_setup.specs.Setup.{are_kinds, is_valid_for};
 ghost use Rattle.eap_method.specs.Peer.{have_each};
 ghost use Rattle.end_objects.specs.Settings.{settings_of, kinds_of, key_for};
-ghost use Rattle.end_objects.specs.Refusals.{has_other_size, has_gap, has_bad_methods, has_bad_suites, is_name, has_keys, has_key_of_user, end_refusal, peer_refusal, server_refusal, retry_refusal, stand_alone_refusal, user_refusal, IsSoundOther};
+ghost use Rattle.end_objects.specs.Refusals.{has_other_size, has_gap, has_bad_methods};
+ghost use Rattle.end_objects.specs.Refusals.{has_bad_suites, is_name, has_keys, has_key_of_user};
+ghost use Rattle.end_objects.specs.Refusals.{end_refusal, peer_refusal, server_refusal};
+ghost use Rattle.end_objects.specs.Refusals.{retry_refusal, stand_alone_refusal, user_refusal};
+ghost use Rattle.end_objects.specs.Refusals.{IsSoundOther};
 
 use crate::settings::{
     SETTINGS_SIZE, Settings, key_for, keyed_kinds, kinds_of, named_kinds, suites_of,
@@ -76,7 +80,8 @@ fn is_name(name: &[u8]) -> bool
 
 /// Whether the keys for these methods fit them.
 fn are_valid(kinds: &[u8], settings: &Settings) -> bool
-    ensures { result ≡ list_all (λ kind. is_valid_for kind (key_for (settings_of settings.now) kind)) kinds.now }
+    ensures { result
+        ≡ list_all (λ kind. is_valid_for kind (key_for (settings_of settings.now) kind)) kinds.now }
 {
     kinds
         .iter()

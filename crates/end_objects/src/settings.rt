@@ -3,8 +3,12 @@
 ghost use Rattle.std.specs.Prelude.{◌≡◌, ◌≤◌, [], length, map, true, None, All, IsTrue};
 ghost use Rattle.octet_lists.specs.Among.{is_among, is_kind};
 ghost use Rattle.octet_lists.specs.Sizes.{max_name};
-ghost use Rattle.login_setup.specs.Setup.{are_kinds, is_valid_for, IsSoundPeer, HasKeys, IsSoundServer};
-ghost use Rattle.end_objects.specs.Settings.{settings_of, or_else, numbers_of, keyed_kinds, named_kinds, kinds_of, first_kind, suites_of, key_for, key_or_none, accepts_of, peer_setup_of, user_with, users_of, server_setup_of, credential_of, side_of};
+ghost use Rattle.login_setup.specs.Setup.{are_kinds, is_valid_for, IsSoundPeer, HasKeys};
+ghost use Rattle.login_setup.specs.Setup.{IsSoundServer};
+ghost use Rattle.end_objects.specs.Settings.{settings_of, or_else, numbers_of, keyed_kinds};
+ghost use Rattle.end_objects.specs.Settings.{named_kinds, kinds_of, first_kind, suites_of, key_for};
+ghost use Rattle.end_objects.specs.Settings.{key_or_none, accepts_of, peer_setup_of, user_with};
+ghost use Rattle.end_objects.specs.Settings.{users_of, server_setup_of, credential_of, side_of};
 ghost use Rattle.end_objects.specs.Refusals.{peer_refusal, server_refusal, IsSoundOther};
 
 use eap_method::{Credential, ServerSide};
@@ -213,7 +217,8 @@ pub fn user_of(settings: &Settings, kind: u8) -> User
 fn add_keyed(users: &mut OtherUsers, settings: &Settings)
     requires none { users.old ≡ [] }
     requires other { IsSoundOther (settings_of settings.now) }
-    ensures { users.new ≡ map (user_with (settings_of settings.now)) (keyed_kinds (settings_of settings.now)) }
+    ensures { users.new
+        ≡ map (user_with (settings_of settings.now)) (keyed_kinds (settings_of settings.now)) }
 {
     match (settings.gpsk_key, settings.psk_key) {
         ([], []) => {}
@@ -260,7 +265,8 @@ pub fn add_users(users: &mut OtherUsers, settings: &Settings)
 #[inline(always)]
 pub fn server_alone(settings: &Settings, nonce: &Nonce) -> ServerSetup<OtherUsers>
     requires accepted { server_refusal (settings_of settings.now) ≡ None }
-    ensures computed { result ≡ record (server_setup_of (settings_of settings.now) nonce.now) { users = [] } }
+    ensures computed { result
+        ≡ record (server_setup_of (settings_of settings.now) nonce.now) { users = [] } }
     ensures sound { IsSoundServer result }
 {
     ServerSetup {

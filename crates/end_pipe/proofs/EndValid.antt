@@ -1,5 +1,6 @@
 -- What has been read of an end's text is within its limits.
-use Rattle.std.proofs.Common.{◌≡◌, ℕ, ◌≤◌, false, List, Option, Some, None, IfSome, IsOk, Result, Ok, Err, is_err, refl, subst, lit≤, unwrap_or}
+use Rattle.std.proofs.Common.{◌≡◌, ℕ, ◌≤◌, false, List, Option, Some, None, IfSome, IsOk, Result}
+use Rattle.std.proofs.Common.{Ok, Err, is_err, refl, subst, lit≤, unwrap_or}
 use Rattle.text_tables.specs.IsValidRow.{IsValidRow}
 use Rattle.text_tables.specs.declared.fault.LineFault.{LineFault}
 use Rattle.scenario_text.proofs.ValidReading as scenario
@@ -28,18 +29,23 @@ setting_valid : (e : item.Entry) → valid.IsValidEntry e → IsValidEntry (sett
 setting_valid (item.Set v) h = h
 setting_valid other h = tt
 
-entry_of_valid : (k : EndWord) (ws : List (List ℕ)) → IsValidRow (row_of k) ws → IsValidEntry (entry_of k ws)
+entry_of_valid : (k : EndWord) (ws : List (List ℕ)) → IsValidRow (row_of k) ws
+    → IsValidEntry (entry_of k ws)
 unfolding entry_of
-entry_of_valid (word.Setting keyword) ws h = setting_valid (item_of keyword ws) (scenario.item_of_valid keyword ws h)
+entry_of_valid (word.Setting keyword) ws h =
+    setting_valid (item_of keyword ws) (scenario.item_of_valid keyword ws h)
 entry_of_valid other ws h = tt
 
-reported_valid : (it : told.Entry) (input : EndInput) → IsValidEntry (entry_with it input) → IsValidContent it
+reported_valid : (it : told.Entry) (input : EndInput) → IsValidEntry (entry_with it input)
+    → IsValidContent it
 reported_valid (told.TheVariants.Set v) input h = h
 reported_valid other input h = tt
 
 -- what is told of a line whose words fit its row
-pub read_valid : (k : EndWord) (ws : List (List ℕ)) (it : told.Entry) (input : EndInput) → IsValidRow (row_of k) ws → entry_of k ws ≡ entry_with it input → IsValidContent it
-read_valid k ws it input h e = reported_valid it input (subst IsValidEntry e (entry_of_valid k ws h))
+pub read_valid : (k : EndWord) (ws : List (List ℕ)) (it : told.Entry) (input : EndInput)
+    → IsValidRow (row_of k) ws → entry_of k ws ≡ entry_with it input → IsValidContent it
+read_valid k ws it input h e =
+    reported_valid it input (subst IsValidEntry e (entry_of_valid k ws h))
 
 there : {A : Type 0} (r : Result A LineFault) → is_err r ≡ false → IsOk r
 there (Ok a) e = refl

@@ -2,9 +2,11 @@
 pub mod EndSteps
 -- What has been read of an end's text is within its limits.
 pub mod EndValid
--- One more input at the end of others: what is told of it comes last, and the end is where it leaves it.
+-- One more input at the end of others: what is told of it comes last, and the end is where it
+-- leaves it.
 mod Folding
 -- A stand-alone server that has started stays one, whatever comes to it.
 mod Serving
--- An end whose objects are of EAP-PSK and EAP-GPSK alone, one at least of each method that it names, begins as over lines.
+-- An end whose objects are of EAP-PSK and EAP-GPSK alone, one at least of each method that it
+-- names, begins as over lines.
 pub mod BothMethods

@@ -17,7 +17,8 @@ pub data Entry : Type 0 where
   Arrives : EndInput → Entry
   End : Entry
 
--- a setting says what it says in a scenario; no other line of a scenario is in the tables of both ends
+-- a setting says what it says in a scenario; no other line of a scenario is in the tables of both
+-- ends
 abbrev pub setting_entry : scenario.Entry → Entry
 setting_entry (scenario.Set v) = Set v
 setting_entry other = End

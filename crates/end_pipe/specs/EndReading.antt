@@ -1,5 +1,6 @@
 -- An end's text: what has been read, and what each line adds.
-use Rattle.std.specs.Prelude.{◌≡◌, ◌≤◌, ℕ, List, Bool, false, unwrap_or, Ok, if◌then◌else◌, codes, Option, Some, None, Result, IsOk, is_err}
+use Rattle.std.specs.Prelude.{◌≡◌, ◌≤◌, ℕ, List, Bool, false, unwrap_or, Ok, if◌then◌else◌, codes}
+use Rattle.std.specs.Prelude.{Option, Some, None, Result, IsOk, is_err}
 use Rattle.std.specs.Str.{bytes_eq}
 use Rattle.text_tables.specs.Phases as phases
 use Rattle.text_tables.specs.Texts as texts
@@ -9,7 +10,8 @@ use Rattle.text_tables.specs.declared.phase.Part.TheVariants as part
 use Rattle.text_tables.specs.declared.phase.Phase.{Phase}
 use Rattle.text_tables.specs.declared.phase.Phase.TheVariants as phase
 use Rattle.scenario_text.specs.Reading as scenario
-use Rattle.scenario_text.specs.Reading.{no_settings, has_setting, with_setting, peer_setup_of, server_setup_of}
+use Rattle.scenario_text.specs.Reading.{no_settings, has_setting, with_setting, peer_setup_of}
+use Rattle.scenario_text.specs.Reading.{server_setup_of}
 use Rattle.scenario_text.specs.Valid.{IsValidSetting, IsValidPeer, IsValidServer}
 use Rattle.login_setup.specs.declared.setup.PeerSetup.{PeerSetup}
 use Rattle.login_setup.specs.Setup.{ServerSetup}
@@ -27,7 +29,8 @@ use Rattle.end_pipe.specs.declared.table.EndWord.TheVariants as word
 use Rattle.end_pipe.specs.declared.table.Role.{Role}
 use Rattle.end_pipe.specs.declared.table.Role.TheVariants.{Peer, Server}
 
--- what a line says: nothing that happens; the line `events`, at which the settings are whole; an input; the line `end`
+-- what a line says: nothing that happens; the line `events`, at which the settings are whole; an
+-- input; the line `end`
 pub data Item : Type 0 where
   Nothing : Item
   Ready : Item
@@ -40,7 +43,8 @@ pub record EndReading : Type 0 where
   pub phase : Phase
   pub settings : Settings
 
--- an end's text has one conversation, so one nonce: its settings are those of the first version, in which none comes again
+-- an end's text has one conversation, so one nonce: its settings are those of the first version, in
+-- which none comes again
 abbrev pub unread : Role → EndReading
 unread role = record { role = role; phase = phase.Unread; settings = no_settings }
 
@@ -73,7 +77,8 @@ pub record IsReadyPeer (setup : PeerSetup) (r : EndReading) : Type 0 where
   pub valid : IsValidPeer setup
 
 -- those of the server's text, with the first Identifier and MaxRetrans (RFC 4137 section 5.1.2)
-pub record IsReadyServer (setup : ServerSetup) (first_id max_retrans : ℕ) (r : EndReading) : Type 0 where
+pub record IsReadyServer (setup : ServerSetup) (first_id max_retrans : ℕ)
+    (r : EndReading) : Type 0 where
   pub role : r.role ≡ Server
   pub made : server_setup_of r.settings ≡ Ok setup
   pub valid : IsValidServer setup
@@ -83,7 +88,8 @@ pub record IsReadyServer (setup : ServerSetup) (first_id max_retrans : ℕ) (r :
 
 abbrev pub IsReady : EndItem → EndReading → Type 0
 IsReady (whole.ReadyPeer setup) r = IsReadyPeer setup r
-IsReady (whole.ReadyServer setup first_id max_retrans) r = IsReadyServer setup first_id max_retrans r
+IsReady (whole.ReadyServer setup first_id max_retrans) r =
+    IsReadyServer setup first_id max_retrans r
 IsReady other r = Unit {0}
 
 -- the text of the server or of the peer
@@ -108,7 +114,8 @@ HasSetup other after = Unit {0}
 -- line 1
 abbrev pub reading_after_header : Role → List ℕ → Option EndReading
 reading_after_header role line =
-    if bytes_eq line (codes "eap-end 1") then Some (record { role = role; phase = phase.Settings; settings = no_settings })
+    if bytes_eq line (codes "eap-end 1")
+    then Some (record { role = role; phase = phase.Settings; settings = no_settings })
     else None
 
 -- settings come before the line `events`, inputs and the line `end` after it

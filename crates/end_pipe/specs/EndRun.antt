@@ -1,5 +1,6 @@
 -- One end over its inputs: what it does at each of them, and its state then.
-use Rattle.std.specs.Prelude.{◌≡◌, ℕ, List, [], ◌∷◌, ◌++◌, Bool, true, false, ◌||◌, if◌then◌else◌, Option, Some, None, is_some, unwrap_or, Result, Ok}
+use Rattle.std.specs.Prelude.{◌≡◌, ℕ, List, [], ◌∷◌, ◌++◌, Bool, true, false, ◌||◌, if◌then◌else◌}
+use Rattle.std.specs.Prelude.{Option, Some, None, is_some, unwrap_or, Result, Ok}
 use Rattle.login_setup.specs.declared.setup.PeerSetup.{PeerSetup}
 use Rattle.login_setup.specs.Setup.{ServerSetup}
 use Rattle.eap_packet.specs.declared.state.State.{State}
@@ -15,7 +16,8 @@ use Rattle.peer_machine.specs.PeerTable as peers
 use Rattle.peer_machine.specs.PeerTable.{PeerValue, PeerNow, PeerAnswer, initial_peer, peer_reports}
 use Rattle.server_machine.specs.Inputs.{ServerInput, server_accepts}
 use Rattle.server_machine.specs.ServerTable as servers
-use Rattle.server_machine.specs.ServerTable.{ServerValue, ServerNow, ServerAnswer, is_started, initial_server, server_reports, server_start}
+use Rattle.server_machine.specs.ServerTable.{ServerValue, ServerNow, ServerAnswer, is_started}
+use Rattle.server_machine.specs.ServerTable.{initial_server, server_reports, server_start}
 use Rattle.server_machine.specs.declared.variables.Role.TheVariants.{StandAlone}
 use Rattle.server_machine.specs.Variables.{ServerVariables}
 use Rattle.text_tables.specs.Fields.{◌>>=◌}
@@ -26,8 +28,8 @@ use Rattle.end_pipe.specs.Inputs.{peer_input, server_input, is_skipped}
 use Rattle.end_pipe.specs.declared.input.EndInput.{EndInput}
 use Rattle.end_pipe.specs.declared.told.EndStep as brief
 
--- what an end does at its start or at an input: its machine's step, whether the input was skipped, and a report that
--- the end first has
+-- what an end does at its start or at an input: its machine's step, whether the input was skipped,
+-- and a report that the end first has
 pub record EndTold : Type 0 where
   pub step : Step
   pub skipped : Bool
@@ -88,7 +90,8 @@ goes reports held out =
 
 -- an end at an input
 unfoldable pub end_step : {N : Type 0} → MachineTable N → EndNow N → EndInput → EndOutcome N
-end_step table e input = if is_skipped (table.state e.now) input then skips e else goes table.reports e.held (table.moves e.now input)
+end_step table e input = if is_skipped (table.state e.now) input then skips e
+    else goes table.reports e.held (table.moves e.now input)
 
 -- the peer
 
@@ -106,7 +109,8 @@ started_peer setup views = record { now = initial_peer setup views; held = false
 -- over lines it has an object of each of the two methods that it allows
 abbrev pub peer_table : MachineTable PeerNow
 peer_table = record {
-  begins = λ settings. peer_setup_of settings >>= λ setup. Ok (record { told = None; after = started_peer setup (both_peers.both_of setup.methods) });
+  begins = λ settings. peer_setup_of settings >>= λ setup.
+      Ok (record { told = None; after = started_peer setup (both_peers.both_of setup.methods) });
   moves = λ now input. peer_moved (peer_answers now (peer_input input));
   state = λ now. now.vars.state;
   reports = peer_reports;
@@ -125,7 +129,10 @@ abbrev pub server_moved : ServerAnswer → Moved ServerNow
 server_moved out = move_of out.step out.after
 
 abbrev pub server_unstarted : ServerSetup → ServerViews → ℕ → ℕ → EndNow ServerNow
-server_unstarted setup views first_id max_retrans = record { now = initial_server StandAlone setup views first_id max_retrans; held = false }
+server_unstarted setup views first_id max_retrans = record {
+  now = initial_server StandAlone setup views first_id max_retrans;
+  held = false;
+}
 
 unfoldable pub server_starts : EndNow ServerNow → EndOutcome ServerNow
 server_starts e = goes server_reports e.held (server_moved (server_start e.now))
@@ -134,13 +141,15 @@ abbrev pub started_with : EndOutcome ServerNow → EndStart ServerNow
 started_with out = record { told = Some out.told; after = out.after }
 
 abbrev pub started_server : ServerSetup → ServerViews → ℕ → ℕ → EndNow ServerNow
-started_server setup views first_id max_retrans = (server_starts (server_unstarted setup views first_id max_retrans)).after
+started_server setup views first_id max_retrans =
+    (server_starts (server_unstarted setup views first_id max_retrans)).after
 
 abbrev pub server_table : MachineTable ServerNow
 server_table = record {
   begins = λ settings.
       server_setup_of settings >>= λ setup.
-      Ok (started_with (server_starts (server_unstarted setup (both_servers.both_of setup.methods) (unwrap_or settings.first_id 0) (unwrap_or settings.max_retrans 4))));
+      Ok (started_with (server_starts (server_unstarted setup (both_servers.both_of setup.methods)
+      (unwrap_or settings.first_id 0) (unwrap_or settings.max_retrans 4))));
   moves = λ now input. server_moved (server_answers now (server_input input));
   state = λ now. now.vars.state;
   reports = server_reports;
@@ -164,8 +173,10 @@ module _ {N : Type 0} (step : EndNow N → EndInput → EndOutcome N) where
   abbrev pub IsStateAfter : EndNow N → List EndInput → EndNow N → Type 0
   IsStateAfter begun inputs e = e ≡ end_after begun inputs
 
-  -- one more input, and its result: that is the next of the results of the inputs, and the end has then had them all
-  pub record HasContinued (begun : EndNow N) (inputs : List EndInput) (input : EndInput) (told : EndTold) (after : EndNow N) : Type 0 where
+  -- one more input, and its result: that is the next of the results of the inputs, and the end has
+  -- then had them all
+  pub record HasContinued (begun : EndNow N) (inputs : List EndInput) (input : EndInput)
+      (told : EndTold) (after : EndNow N) : Type 0 where
     pub next : told_of begun (inputs ++ input ∷ []) ≡ told_of begun inputs ++ told ∷ []
     pub stands : IsStateAfter begun (inputs ++ input ∷ []) after
 
@@ -173,8 +184,10 @@ abbrev pub IsPeerAfter : PeerSetup → PeerViews → List EndInput → EndNow Pe
 IsPeerAfter setup views = IsStateAfter peer_step (started_peer setup views)
 
 -- a server that has started
-abbrev pub IsServerAfter : ServerSetup → ServerViews → ℕ → ℕ → List EndInput → EndNow ServerNow → Type 0
-IsServerAfter setup views first_id max_retrans = IsStateAfter server_step (started_server setup views first_id max_retrans)
+abbrev pub IsServerAfter : ServerSetup → ServerViews → ℕ → ℕ → List EndInput
+    → EndNow ServerNow → Type 0
+IsServerAfter setup views first_id max_retrans =
+    IsStateAfter server_step (started_server setup views first_id max_retrans)
 
 -- a pipe as its fields show it, and what it is, if that of its machine is shown
 pub record PipeValue (E : Type 0) : Type 0 where
@@ -187,7 +200,8 @@ end_now shown pipe = record { now = shown pipe.machine; held = pipe.held }
 abbrev pub peer_end : {M : Type 0} → (M → PeerShown) → PipeValue (PeerValue M) → EndNow PeerNow
 peer_end shown = end_now (peers.now_of shown)
 
-abbrev pub server_end : {M : Type 0} → (M → ServerShown) → PipeValue (ServerValue M) → EndNow ServerNow
+abbrev pub server_end : {M : Type 0} → (M → ServerShown) → PipeValue (ServerValue M)
+    → EndNow ServerNow
 server_end shown = end_now (servers.now_of shown)
 
 -- a stand-alone server that has started

@@ -23,10 +23,13 @@ row_of word.End = row (codes "end") 0 []
 -- the keywords of each end's text
 abbrev pub end_words : Role → List EndWord
 end_words Peer =
-    word.Setting key.PeerName ∷ word.Setting key.PeerServer ∷ word.Setting key.PeerMethods ∷ word.Setting key.PeerSuites
+    word.Setting key.PeerName ∷ word.Setting key.PeerServer ∷ word.Setting key.PeerMethods
+    ∷ word.Setting key.PeerSuites
     ∷ word.Setting key.PeerPsk ∷ word.Setting key.PeerNonce ∷ word.Setting key.PeerExpanded
     ∷ word.Events ∷ word.Packet ∷ word.Idle ∷ word.AltAccept ∷ word.AltReject ∷ word.End ∷ []
 end_words Server =
-    word.Setting key.FirstId ∷ word.Setting key.MaxRetrans ∷ word.Setting key.ServerName ∷ word.Setting key.ServerMethods
-    ∷ word.Setting key.ServerSuites ∷ word.Setting key.ServerNonce ∷ word.Setting key.ServerExpanded ∷ word.Setting key.User
+    word.Setting key.FirstId ∷ word.Setting key.MaxRetrans ∷ word.Setting key.ServerName
+    ∷ word.Setting key.ServerMethods
+    ∷ word.Setting key.ServerSuites ∷ word.Setting key.ServerNonce ∷ word.Setting key.ServerExpanded
+    ∷ word.Setting key.User
     ∷ word.Events ∷ word.Packet ∷ word.Timeout ∷ word.End ∷ []

@@ -37,7 +37,8 @@ pub fn entry_of(word: EndWord, line: &[u8], input: &mut EndInput) -> Entry
 /// What a setting says with the words of its line. (By itself, so that no other line makes room for an event.)
 fn setting_entry(keyword: Keyword, line: &[u8]) -> Entry
     requires { IsValidRow (scenario.row_of keyword) (words line.now) }
-    ensures { (input : EndInput) → setting_entry (item_of keyword (words line.now)) ≡ entry_with result input }
+    ensures { (input : EndInput) → setting_entry (item_of keyword (words line.now))
+        ≡ entry_with result input }
 {
     let mut event = Event::Idle;
     match item_of(keyword, line, &mut event) {

@@ -22,9 +22,12 @@ impl<M: PeerMethod> PeerPipe<M> {
     pub fn new(setup: PeerSetup, methods: Vec<M>) -> PeerPipe<M>
         requires sound { IsSoundPeer setup }
         requires keys { HasKeys setup }
-        requires objects { have_each (peer_kinds (map M.peer_shown methods.items)) setup.methods ≡ true }
-        ensures started { peer_end M.peer_shown result ≡ started_peer setup (peer_views setup.methods (map M.peer_shown methods.items)) }
-        ensures state { IsPeerAfter setup (peer_views setup.methods (map M.peer_shown methods.items)) [] (peer_end M.peer_shown result) }
+        requires objects { have_each (peer_kinds (map M.peer_shown methods.items)) setup.methods
+            ≡ true }
+        ensures started { peer_end M.peer_shown result
+            ≡ started_peer setup (peer_views setup.methods (map M.peer_shown methods.items)) }
+        ensures state { IsPeerAfter setup (peer_views setup.methods
+            (map M.peer_shown methods.items)) [] (peer_end M.peer_shown result) }
     {
         EndPipe {
             machine: PeerMachine::new(setup, methods),

@@ -2,7 +2,8 @@
 
 ghost use Rattle.std.specs.Prelude.{◌≡◌, ◌||◌, List, false, is_some};
 ghost use Rattle.eap_method.specs.Steps.{step_with};
-ghost use Rattle.end_pipe.specs.EndRun.{EndNow, HasContinued, IsStateAfter, end_now, end_step, first_report, move_of, outcome, result_with};
+ghost use Rattle.end_pipe.specs.EndRun.{EndNow, HasContinued, IsStateAfter, end_now, end_step};
+ghost use Rattle.end_pipe.specs.EndRun.{first_report, move_of, outcome, result_with};
 ghost use Rattle.end_pipe.specs.Inputs.{is_skipped};
 ghost use Rattle.end_pipe.specs.declared.input.EndInput.{EndInput};
 
@@ -84,7 +85,8 @@ impl<E: Machine> EndPipe<E> {
         ensures running { E.is_running self.new.machine }
         ensures continues { (begun : EndNow E.Now) (inputs : List EndInput)
             → IsStateAfter (end_step E.table) begun inputs (end_now E.shown self.old)
-            → HasContinued (end_step E.table) begun inputs input.now (result_with result packet.new tags.new)
+            → HasContinued (end_step E.table) begun inputs input.now
+            (result_with result packet.new tags.new)
             (end_now E.shown self.new) }
     {
         self.step_by_table(input, packet, tags)
@@ -93,11 +95,13 @@ impl<E: Machine> EndPipe<E> {
     /// The same, with the packet and the records in its answer.
     pub fn step(&mut self, input: &EndInput) -> EndTold
         requires { E.is_running self.old.machine }
-        ensures step { end_step E.table (end_now E.shown self.old) input.now ≡ outcome result (end_now E.shown self.new) }
+        ensures step { end_step E.table (end_now E.shown self.old) input.now
+            ≡ outcome result (end_now E.shown self.new) }
         ensures running { E.is_running self.new.machine }
         ensures continues { (begun : EndNow E.Now) (inputs : List EndInput)
             → IsStateAfter (end_step E.table) begun inputs (end_now E.shown self.old)
-            → HasContinued (end_step E.table) begun inputs input.now result (end_now E.shown self.new) }
+            → HasContinued (end_step E.table) begun inputs input.now result
+            (end_now E.shown self.new) }
     {
         let mut packet = Packet::new();
         let mut tags = Tags::new();

@@ -5,7 +5,8 @@ ghost use Rattle.std.specs.Prelude.{◌≡◌, ◌≤◌, unwrap_or, IfOk, IsOk,
 ghost use Rattle.text_tables.specs.Texts.{line_result};
 ghost use Rattle.scenario_text.specs.Reading.{peer_setup_of, server_setup_of};
 ghost use Rattle.scenario_text.specs.Valid.{IsValidPeer, IsValidServer};
-ghost use Rattle.end_pipe.specs.EndReading.{AreWhole, HasSetup, IsReady, finish_of, item_value, item_with, lacks_some, role_of};
+ghost use Rattle.end_pipe.specs.EndReading.{AreWhole, HasSetup, IsReady, finish_of, item_value};
+ghost use Rattle.end_pipe.specs.EndReading.{item_with, lacks_some, role_of};
 ghost use Rattle.end_pipe.specs.EndReading as reading;
 
 use crate::entry::entry_of;
@@ -66,7 +67,8 @@ impl EndReader {
     /// `ItemKind::Event`. The line is refused with its first fault, and then the reader is as it was.
     #[tactic(auto, unfolding(crate::specs::EndReading::read_line))]
     pub fn line_into(&mut self, line: &[u8], input: &mut EndInput) -> Result<ItemKind, LineFault>
-        ensures read { reading.read_line self.old line.now ≡ line_result item_with result self.new input.new }
+        ensures read { reading.read_line self.old line.now
+            ≡ line_result item_with result self.new input.new }
         ensures ready { IfOk result (λ item. HasSetup item self.new) }
         ensures unchanged { OnErr result (self.new ≡ self.old) }
     {
@@ -83,7 +85,8 @@ impl EndReader {
     /// Reads the next line, without its end, and says what it says, whole. The line is refused with its first fault, and
     /// then the reader is as it was.
     pub fn line(&mut self, line: &[u8]) -> Result<EndItem, LineFault>
-        ensures read { reading.read_line self.old line.now ≡ line_result (λ item after none. item_value item) result self.new (tt {0}) }
+        ensures read { reading.read_line self.old line.now
+            ≡ line_result (λ item after none. item_value item) result self.new (tt {0}) }
         ensures ready { IfOk result (λ item. IsReady item self.new) }
         ensures unchanged { OnErr result (self.new ≡ self.old) }
     {

@@ -6,7 +6,8 @@ ghost use Rattle.login_setup.specs.Setup as settings;
 ghost use Rattle.eap_method.specs.Peer.{have_each};
 ghost use Rattle.eap_method.specs.Server.{server_kinds, server_views, ServerViews};
 ghost use Rattle.server_machine.specs.ServerTable.{is_started};
-ghost use Rattle.end_pipe.specs.EndRun.{IsServerAfter, outcome, server_end, server_starts, server_unstarted, result_with};
+ghost use Rattle.end_pipe.specs.EndRun.{IsServerAfter, outcome, server_end, server_starts};
+ghost use Rattle.end_pipe.specs.EndRun.{server_unstarted, result_with};
 
 use crate::input::EndInput;
 use crate::pipe::{EndPipe, Machine, first_report};
@@ -45,9 +46,11 @@ impl<M: ServerMethod> ServerPipe<M> {
     pub fn new(setup: ServerSetup, first_id: u8, max_retrans: u8, methods: Vec<M>) -> ServerPipe<M>
         requires sound { IsSoundServer setup }
         requires few { max_retrans ≤ 10 }
-        requires objects { have_each (server_kinds (map M.server_shown methods.items)) setup.methods ≡ true }
+        requires objects { have_each (server_kinds (map M.server_shown methods.items)) setup.methods
+            ≡ true }
         ensures unstarted { server_end M.server_shown result
-            ≡ server_unstarted setup (server_views setup.methods (map M.server_shown methods.items)) first_id max_retrans }
+            ≡ server_unstarted setup (server_views setup.methods (map M.server_shown methods.items))
+            first_id max_retrans }
     {
         EndPipe {
             machine: StandAloneServer {
@@ -61,11 +64,14 @@ impl<M: ServerMethod> ServerPipe<M> {
     pub fn start_into<R: Turns>(&mut self, packet: &mut Packet, tags: &mut Tags<R>) -> EndStep
         requires { is_started self.old.machine.vars ≡ false }
         ensures start { server_starts (server_end M.server_shown self.old)
-            ≡ outcome (result_with result packet.new tags.new) (server_end M.server_shown self.new) }
+            ≡ outcome (result_with result packet.new tags.new)
+            (server_end M.server_shown self.new) }
         ensures started { is_started self.new.machine.vars ≡ true }
-        ensures state { (setup : settings.ServerSetup) (views : ServerViews) (first_id max_retrans : ℕ)
+        ensures state { (setup : settings.ServerSetup) (views : ServerViews)
+            (first_id max_retrans : ℕ)
             → server_end M.server_shown self.old ≡ server_unstarted setup views first_id max_retrans
-            → IsServerAfter setup views first_id max_retrans [] (server_end M.server_shown self.new) }
+            → IsServerAfter setup views first_id max_retrans []
+            (server_end M.server_shown self.new) }
     {
         self.start_by_table(packet, tags)
     }
@@ -73,11 +79,14 @@ impl<M: ServerMethod> ServerPipe<M> {
     /// The same, with the packet and the records in its answer.
     pub fn start(&mut self) -> EndTold
         requires { is_started self.old.machine.vars ≡ false }
-        ensures start { server_starts (server_end M.server_shown self.old) ≡ outcome result (server_end M.server_shown self.new) }
+        ensures start { server_starts (server_end M.server_shown self.old)
+            ≡ outcome result (server_end M.server_shown self.new) }
         ensures started { is_started self.new.machine.vars ≡ true }
-        ensures state { (setup : settings.ServerSetup) (views : ServerViews) (first_id max_retrans : ℕ)
+        ensures state { (setup : settings.ServerSetup) (views : ServerViews)
+            (first_id max_retrans : ℕ)
             → server_end M.server_shown self.old ≡ server_unstarted setup views first_id max_retrans
-            → IsServerAfter setup views first_id max_retrans [] (server_end M.server_shown self.new) }
+            → IsServerAfter setup views first_id max_retrans []
+            (server_end M.server_shown self.new) }
     {
         let mut packet = Packet::new();
         let mut tags = Tags::new();
@@ -98,7 +107,8 @@ impl<M: ServerMethod> ServerPipe<M> {
     fn start_by_table<R: Turns>(&mut self, packet: &mut Packet, tags: &mut Tags<R>) -> EndStep
         requires { is_started self.old.machine.vars ≡ false }
         ensures start { server_starts (server_end M.server_shown self.old)
-            ≡ outcome (result_with result packet.new tags.new) (server_end M.server_shown self.new) }
+            ≡ outcome (result_with result packet.new tags.new)
+            (server_end M.server_shown self.new) }
         ensures started { is_started self.new.machine.vars ≡ true }
     {
         tags.clear();

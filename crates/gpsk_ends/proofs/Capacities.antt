@@ -10,7 +10,9 @@ use Rattle.eap_method.specs.Capacity.{HasCapacity}
 use Rattle.eap_method.proofs.Capacities.{typed_has_capacity}
 
 -- a packet of at most 1,493 octets
-pub message_has_capacity : (code : Code) (id : ℕ) (message : Message) (packet : List ℕ) → IsTrue (has_type code) → size_of message + 5 ≤ max_wrapped →
+pub message_has_capacity : (code : Code) (id : ℕ) (message : Message) (packet : List ℕ)
+    → IsTrue (has_type code) → size_of message + 5 ≤ max_wrapped →
     packet ≡ packets.spelled (value_with code id 51 (spelled message)) → HasCapacity packet
 message_has_capacity code id message packet typed short e =
-    rw e (typed_has_capacity code id 51 (spelled message) typed (omega (arith, short, encodings_are_sized message)))
+    rw e (typed_has_capacity code id 51 (spelled message) typed
+    (omega (arith, short, encodings_are_sized message)))

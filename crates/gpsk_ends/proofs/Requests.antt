@@ -12,7 +12,8 @@ has_a_type kind octets h = omega (arith, ap length h.encoding_of)
 
 -- and at most 1,500 octets
 pub request_bounded : (kind : ℕ) (octets : List ℕ) → IsRequest kind octets → length octets ≤ 1500
-request_bounded kind octets h = omega (arith, ap length h.encoding_of, encoding_bounded (request h.id kind h.body) h.packet)
+request_bounded kind octets h =
+    omega (arith, ap length h.encoding_of, encoding_bounded (request h.id kind h.body) h.packet)
 
 -- so has a Response
 pub response_has_a_type : (kind : ℕ) (octets : List ℕ) → IsResponse kind octets → 5 ≤ length octets
@@ -20,4 +21,5 @@ unfolding spelled
 response_has_a_type kind octets h = omega (arith, ap length h.encoding_of)
 
 pub response_bounded : (kind : ℕ) (octets : List ℕ) → IsResponse kind octets → length octets ≤ 1500
-response_bounded kind octets h = omega (arith, ap length h.encoding_of, encoding_bounded (response h.id kind h.body) h.packet)
+response_bounded kind octets h =
+    omega (arith, ap length h.encoding_of, encoding_bounded (response h.id kind h.body) h.packet)

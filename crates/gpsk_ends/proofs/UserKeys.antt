@@ -1,5 +1,6 @@
 -- The keys of the users that a server knows.
-use Rattle.std.proofs.Common.{◌≡◌, ℕ, ◌≤◌, List, [], ◌∷◌, length, All, IsTrue, Bool, true, false, Option, Some, cond, refl, subst, inl, inr}
+use Rattle.std.proofs.Common.{◌≡◌, ℕ, ◌≤◌, List, [], ◌∷◌, length, All, IsTrue, Bool, true, false}
+use Rattle.std.proofs.Common.{Option, Some, cond, refl, subst, inl, inr}
 use Rattle.std.specs.Prelude.{◌⊎◌}
 use Rattle.std.specs.List.{find}
 use Rattle.std.proofs.lemmas.Bool.{and_parts, eqb-true, leb-true}
@@ -11,12 +12,14 @@ use Rattle.login_setup.specs.Setup.{is_valid_for}
 use Rattle.login_setup.specs.Users.{user_of, is_named}
 
 -- what is found stands here, or behind
-found_here : {X : Type 0} (test : Bool) (y x : X) (rest : Option X) → cond test (Some y) rest ≡ Some x → ((test ≡ true) × (y ≡ x)) ⊎ (rest ≡ Some x)
+found_here : {X : Type 0} (test : Bool) (y x : X) (rest : Option X)
+    → cond test (Some y) rest ≡ Some x → ((test ≡ true) × (y ≡ x)) ⊎ (rest ≡ Some x)
 found_here true y x rest e = inl (refl, same_Some y x e)
 found_here false y x rest e = inr e
 
 -- what holds of each element holds of the one found, and so does the test
-found_satisfies : {X : Type 0} (p : X → Bool) (P : X → Type 0) (xs : List X) (x : X) → All P xs → find p xs ≡ Some x → P x × (p x ≡ true)
+found_satisfies : {X : Type 0} (p : X → Bool) (P : X → Type 0) (xs : List X) (x : X) → All P xs
+    → find p xs ≡ Some x → P x × (p x ≡ true)
 found_satisfies p P [] x all e = absurd cc
 found_satisfies p P (y ∷ ys) x all e =
     elim (found_here (p y) y x (find p ys) e) [
@@ -31,8 +34,10 @@ long_key kind key e fits =
     leb-true 32 (length key) (and_parts _ _ at).0
 
 -- a user of EAP-GPSK has a key of 32 octets or more
-pub key_is_long : (users : List User) (name : List ℕ) (user : User) → All (λ user. IsTrue (is_valid_for user.kind user.psk)) users →
+pub key_is_long : (users : List User) (name : List ℕ) (user : User)
+    → All (λ user. IsTrue (is_valid_for user.kind user.psk)) users →
     user_of users name gpsk_kind ≡ Some user → 32 ≤ length user.psk
 key_is_long users name user keys e =
-    let h = found_satisfies (is_named name gpsk_kind) (λ (u : User). IsTrue (is_valid_for u.kind u.psk)) users user keys e in
+    let h = found_satisfies (is_named name gpsk_kind)
+    (λ (u : User). IsTrue (is_valid_for u.kind u.psk)) users user keys e in
     long_key user.kind user.psk (eqb-true user.kind 51 (and_parts _ _ h.1).0) h.0

@@ -1,5 +1,6 @@
 -- The state of a peer of EAP-GPSK, and its state after a call, as its definition says it.
-use Rattle.std.specs.Prelude.{◌≡◌, ◌≤◌, ℕ, List, length, Option, Some, None, if◌then◌else◌, Result, Ok, Err, ⊤}
+use Rattle.std.specs.Prelude.{◌≡◌, ◌≤◌, ℕ, List, length, Option, Some, None, if◌then◌else◌, Result}
+use Rattle.std.specs.Prelude.{Ok, Err, ⊤}
 use Rattle.eap_packet.specs.declared.cause.Cause.{Cause}
 use Rattle.eap_method.specs.Tags.{Tags}
 use Rattle.eap_method.specs.declared.turn.PeerAnswer as brief
@@ -22,7 +23,13 @@ view_in login (phase.Over good) = over login good
 
 -- a login in the parts of the peer's state
 abbrev pub login_of : Side → List ℕ → List ℕ → SuiteKeys → Login
-login_of side nonce rand_s keys = record { cred = side.cred; nonce = nonce; id_s = side.id_s; rand_s = rand_s; suite = keys.suite }
+login_of side nonce rand_s keys = record {
+  cred = side.cred;
+  nonce = nonce;
+  id_s = side.id_s;
+  rand_s = rand_s;
+  suite = keys.suite;
+}
 
 -- the keys are those of the login; a nonce has 32 octets
 pub record AreReady (side : Side) (own server : List ℕ) (derived : SuiteKeys) : Type 0 where
@@ -34,7 +41,8 @@ pub record AreReady (side : Side) (own server : List ℕ) (derived : SuiteKeys) 
 abbrev pub view_of : Side → List ℕ → Progress → View
 view_of side nonce progress.Unset = unset
 view_of side nonce progress.Fresh = fresh side.cred nonce
-view_of side nonce (progress.Known added phase) = view_in (login_of side nonce added.rand_s added.keys) phase
+view_of side nonce (progress.Known added phase) =
+    view_in (login_of side nonce added.rand_s added.keys) phase
 
 -- the key is one of EAP-GPSK, and the keys of a login are its own
 abbrev pub IsReady : Side → List ℕ → Progress → Type 0
@@ -44,17 +52,26 @@ IsReady side nonce (progress.Known added phase) = AreReady side nonce added.rand
 
 -- a turn with what it wrote, and the peer's state after it
 abbrev pub outcome_with : brief.PeerAnswer → List ℕ → Tags → View → PeerOutcome View
-outcome_with turn packet tags after = record { turn = peer_turn_with turn packet tags; after = after }
+outcome_with turn packet tags
+    after = record { turn = peer_turn_with turn packet tags; after = after }
 
 -- the login that begins with an offer
 abbrev pub login_with : Credential → List ℕ → Offer → Login
-login_with cred nonce offer = record { cred = cred; nonce = nonce; id_s = offer.id_s.now; rand_s = offer.rand_s; suite = offer.suite }
+login_with cred nonce offer = record {
+  cred = cred;
+  nonce = nonce;
+  id_s = offer.id_s.now;
+  rand_s = offer.rand_s;
+  suite = offer.suite;
+}
 
 -- its keys
 abbrev pub keys_with : Credential → List ℕ → Offer → SuiteKeys
-keys_with cred nonce offer = record { suite = offer.suite; keys = keys_of (login_with cred nonce offer) }
+keys_with cred nonce
+    offer = record { suite = offer.suite; keys = keys_of (login_with cred nonce offer) }
 
--- what a peer that has begun makes of the offer that it accepts, or of the cause why it accepts none
+-- what a peer that has begun makes of the offer that it accepts, or of the cause why it accepts
+-- none
 abbrev pub outcome_of_offer : Credential → List ℕ → ℕ → Result Offer Cause → PeerOutcome View
 outcome_of_offer cred nonce id (Err cause) = discarded (fresh cred nonce) cause
 outcome_of_offer cred nonce id (Ok offer) = answers (login_with cred nonce offer) id offer.list.now

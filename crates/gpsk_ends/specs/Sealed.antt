@@ -12,7 +12,8 @@ use Rattle.eap_method.specs.GpskTags.{message_with_mac, sk_record}
 
 -- the packet of a message with its MAC
 abbrev pub packet_of : Code → ℕ → Suite → List ℕ → Message → List ℕ
-packet_of code id suite sk message = packets.spelled (value_with code id gpsk_kind (messages.spelled (message_with_mac suite sk message)))
+packet_of code id suite sk message = packets.spelled
+    (value_with code id gpsk_kind (messages.spelled (message_with_mac suite sk message)))
 
 -- and the MAC's record
 abbrev pub record_of : Suite → List ℕ → List ℕ → Message → TagRecord

@@ -7,7 +7,9 @@ use Rattle.gpsk_messages.specs.declared.view.Gpsk2.{Gpsk2}
 use Rattle.eap_method.specs.Tags.{Tags}
 use Rattle.eap_method.specs.declared.turn.ServerAnswer as brief
 use Rattle.eap_method.specs.declared.values.ServerSide.{ServerSide}
-use Rattle.eap_method.specs.GpskServer.{Login, View, unset, begun, asked, refusing, barring, checked, refused, over, keys_of, barring_reads, checked_reads, idle_reads}
+use Rattle.eap_method.specs.GpskServer.{Login, View, unset, begun, asked, refusing, barring}
+use Rattle.eap_method.specs.GpskServer.{checked, refused, over, keys_of, barring_reads}
+use Rattle.eap_method.specs.GpskServer.{checked_reads, idle_reads}
 use Rattle.eap_method.specs.ServerTurn.{server_turn_with}
 use Rattle.eap_method.specs.Turns.{ServerOutcome}
 use Rattle.gpsk_ends.specs.Keys.{SuiteKeys}
@@ -74,7 +76,8 @@ login_with own nonce gpsk2 user = record {
 }
 
 abbrev pub keys_with : ServerSide → List ℕ → Gpsk2 → User → SuiteKeys
-keys_with own nonce gpsk2 user = record { suite = gpsk2.suite; keys = keys_of (login_with own nonce gpsk2 user) }
+keys_with own nonce gpsk2
+    user = record { suite = gpsk2.suite; keys = keys_of (login_with own nonce gpsk2 user) }
 
 -- what it adds to the server's state
 abbrev pub added_with : ServerSide → List ℕ → Gpsk2 → User → Added
@@ -87,7 +90,8 @@ added_with own nonce gpsk2 user = record {
 
 -- a turn with what it wrote, and the server's state after it
 abbrev pub outcome_with : brief.ServerAnswer → List ℕ → Tags → View → ServerOutcome View
-outcome_with turn packet tags after = record { turn = server_turn_with turn packet tags; after = after }
+outcome_with turn packet tags
+    after = record { turn = server_turn_with turn packet tags; after = after }
 
 -- the Type-Data at a server in a login
 abbrev pub reads_in : Login → Phase → Result Message Cause → ServerOutcome View

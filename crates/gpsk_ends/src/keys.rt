@@ -44,7 +44,8 @@ impl Model for Keys {
 /// 5433, sections 8.1.2 and 8.2.2). All octets of the MAC are compared. MACs are compared here alone.
 pub(crate) fn is_tagged(mac: &MacKey, view: &GpskMessage, body: &[u8]) -> bool
     requires { body.now ≡ spelled (message_of view.now) }
-    ensures { (suite : Suite) (sk : List ℕ) → IsMacKey mac.now suite sk → result ≡ is_tagged suite sk (message_of view.now) }
+    ensures { (suite : Suite) (sk : List ℕ) → IsMacKey mac.now suite sk
+        → result ≡ is_tagged suite sk (message_of view.now) }
 {
     let tag = mac.tag_whole(covered_part(view, body));
     equal_in_full(tag.as_slice(), mac_part(view))
@@ -103,8 +104,10 @@ impl Keys {
         requires typed { IsTrue (has_type code) }
         requires bounded { size_of (message_of view.now) + 5 ≤ max_wrapped }
         requires mac { length (mac_of (message_of view.now)) ≡ ks_of self.now.suite }
-        ensures packet { packet.new ≡ packet_of code id self.now.suite self.now.keys.sk (without_mac (message_of view.now)) }
-        ensures record { made.new ≡ record_of self.now.suite self.now.keys.sk psk.now (without_mac (message_of view.now)) ∷ [] }
+        ensures packet { packet.new ≡ packet_of code id self.now.suite self.now.keys.sk (without_mac
+            (message_of view.now)) }
+        ensures record { made.new ≡ record_of self.now.suite self.now.keys.sk psk.now (without_mac
+            (message_of view.now)) ∷ [] }
         ensures capacity { HasCapacity packet.new }
     {
         write_front(view, code, id, self.suite, packet);

@@ -16,7 +16,13 @@ use octet_lists::{GPSK_KIND, Secret};
 pub(crate) fn set_alone<R: Records>(list: &mut TagList<R>, psk: &Secret, covered: &[u8], mac: &[u8])
     requires covered { length covered.now ≤ max_packet }
     requires mac { length mac.now ≤ 32 }
-    ensures { list.new ≡ record { method = 51; label = Sk; psk = psk.now; octets = covered.now; tag = mac.now } ∷ [] }
+    ensures { list.new ≡ record {
+      method = 51;
+      label = Sk;
+      psk = psk.now;
+      octets = covered.now;
+      tag = mac.now;
+    } ∷ [] }
 {
     list.clear();
     list.add(GPSK_KIND, Label::Sk, psk, &[covered], mac);

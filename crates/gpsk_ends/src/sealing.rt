@@ -35,7 +35,8 @@ pub(crate) fn write_front(view: &GpskMessage, code: Code, id: u8, suite: Suite, 
     ensures capacity { length packet.new + ks_of suite ≤ max_packet }
     ensures covered { drop 6 packet.new ≡ covered_of (message_of view.now) }
     ensures sealed { (tag : List ℕ) → length tag ≡ ks_of suite
-        → packet.new ++ tag ≡ packets.spelled (value_with code id 51 (spelled (with_mac (message_of view.now) tag))) }
+        → packet.new ++ tag
+        ≡ packets.spelled (value_with code id 51 (spelled (with_mac (message_of view.now) tag))) }
 {
     write_gpsk_into(packet, view, code, id);
     packet.truncate(packet.len() - suite.ks());

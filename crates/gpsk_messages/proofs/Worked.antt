@@ -1,9 +1,13 @@
 -- The grammar at worked values.
-use Rattle.std.proofs.Common.{◌≡◌, ℕ, List, [], ◌∷◌, ◌++◌, replicate, ◌*◌, Some, None, Ok, Err, refl}
+use Rattle.std.proofs.Common.{◌≡◌, ℕ, List, [], ◌∷◌, ◌++◌, replicate, ◌*◌, Some, None, Ok, Err}
+use Rattle.std.proofs.Common.{refl}
 use Rattle.octet_lists.specs.declared.suite.Suite.TheVariants.{Cmac, Hmac}
 use Rattle.eap_packet.specs.declared.cause.Cause.TheVariants.{GpskShape, ListTooLong}
-use Rattle.gpsk_messages.specs.Message.{gpsk1, gpsk2, gpsk3, gpsk4, fail, protected_fail, covered_of, spelled}
-use Rattle.gpsk_messages.specs.Reading.{and_then, exact_at, sized_at, identity_at, suites_at, suite_at, code_at, gpsk1_at, gpsk2_at, gpsk3_at, gpsk4_at, fail_at, protected_fail_at, fields_at, loose_of, read_of}
+use Rattle.gpsk_messages.specs.Message.{gpsk1, gpsk2, gpsk3, gpsk4, fail, protected_fail}
+use Rattle.gpsk_messages.specs.Message.{covered_of, spelled}
+use Rattle.gpsk_messages.specs.Reading.{and_then, exact_at, sized_at, identity_at, suites_at}
+use Rattle.gpsk_messages.specs.Reading.{suite_at, code_at, gpsk1_at, gpsk2_at, gpsk3_at, gpsk4_at}
+use Rattle.gpsk_messages.specs.Reading.{fail_at, protected_fail_at, fields_at, loose_of, read_of}
 
 -- the name srv, and both suites of the standard in a list
 srv : List ℕ
@@ -27,7 +31,8 @@ unfolding spelled covered_of first_octets srv suite_1 suite_2 rand
 first_encoded = refl
 
 first_read : read_of None first_octets ≡ Ok (gpsk1 srv rand (suite_1 ++ suite_2))
-unfolding read_of loose_of fields_at gpsk1_at and_then exact_at sized_at identity_at suites_at first_octets srv suite_1 suite_2 rand
+unfolding read_of loose_of fields_at gpsk1_at and_then exact_at sized_at identity_at suites_at
+    first_octets srv suite_1 suite_2 rand
 first_read = refl
 
 -- an octet after the last field, or no list, spells nothing
@@ -52,11 +57,13 @@ suites : ℕ → List ℕ
 suites count = replicate (6 * count) 0
 
 twenty : read_of None (1 ∷ 0 ∷ 0 ∷ rand ++ (0 ∷ 120 ∷ suites 20)) ≡ Ok (gpsk1 [] rand (suites 20))
-unfolding read_of loose_of fields_at gpsk1_at and_then exact_at sized_at identity_at suites_at rand suites
+unfolding read_of loose_of fields_at gpsk1_at and_then exact_at sized_at identity_at
+    suites_at rand suites
 twenty = refl
 
 twenty_one : read_of None (1 ∷ 0 ∷ 0 ∷ rand ++ (0 ∷ 126 ∷ suites 21)) ≡ Err ListTooLong
-unfolding read_of loose_of fields_at gpsk1_at and_then exact_at sized_at identity_at suites_at rand suites
+unfolding read_of loose_of fields_at gpsk1_at and_then exact_at sized_at identity_at
+    suites_at rand suites
 twenty_one = refl
 
 -- the MAC of GPSK-4 has KS octets, and 16 or 32 where the suite isn't known
@@ -76,22 +83,30 @@ unfolding read_of loose_of fields_at gpsk4_at and_then exact_at sized_at fourth
 fourth_other = refl
 
 -- a peer's answer, and what its MAC covers
-second_read : read_of None (spelled (gpsk2 srv srv rand rand suite_2 Hmac [] (replicate 32 9))) ≡ Ok (gpsk2 srv srv rand rand suite_2 Hmac [] (replicate 32 9))
-unfolding read_of loose_of fields_at gpsk2_at and_then exact_at sized_at identity_at suites_at suite_at spelled covered_of srv suite_2 rand
+second_read : read_of None (spelled (gpsk2 srv srv rand rand suite_2 Hmac [] (replicate 32 9)))
+    ≡ Ok (gpsk2 srv srv rand rand suite_2 Hmac [] (replicate 32 9))
+unfolding read_of loose_of fields_at gpsk2_at and_then exact_at sized_at identity_at suites_at
+    suite_at spelled covered_of srv suite_2 rand
 second_read = refl
 
-second_short : read_of None (spelled (gpsk2 srv srv rand rand suite_2 Hmac [] (replicate 16 9))) ≡ Err GpskShape
-unfolding read_of loose_of fields_at gpsk2_at and_then exact_at sized_at identity_at suites_at suite_at spelled covered_of srv suite_2 rand
+second_short : read_of None (spelled (gpsk2 srv srv rand rand suite_2 Hmac [] (replicate 16 9)))
+    ≡ Err GpskShape
+unfolding read_of loose_of fields_at gpsk2_at and_then exact_at sized_at identity_at suites_at
+    suite_at spelled covered_of srv suite_2 rand
 second_short = refl
 
-third_read : read_of None (spelled (gpsk3 rand rand srv Cmac [] (replicate 16 9))) ≡ Ok (gpsk3 rand rand srv Cmac [] (replicate 16 9))
-unfolding read_of loose_of fields_at gpsk3_at and_then exact_at sized_at identity_at suite_at spelled covered_of srv rand
+third_read : read_of None (spelled (gpsk3 rand rand srv Cmac [] (replicate 16 9)))
+    ≡ Ok (gpsk3 rand rand srv Cmac [] (replicate 16 9))
+unfolding read_of loose_of fields_at gpsk3_at and_then exact_at sized_at identity_at suite_at
+    spelled covered_of srv rand
 third_read = refl
 
-covered_third : covered_of (gpsk3 rand rand srv Cmac [] (replicate 16 9)) ≡ rand ++ rand ++ (0 ∷ 3 ∷ srv) ++ suite_1 ++ 0 ∷ 0 ∷ []
+covered_third : covered_of (gpsk3 rand rand srv Cmac [] (replicate 16 9))
+    ≡ rand ++ rand ++ (0 ∷ 3 ∷ srv) ++ suite_1 ++ 0 ∷ 0 ∷ []
 unfolding covered_of srv rand suite_1
 covered_third = refl
 
-protected_failure : read_of (Some 16) (6 ∷ 0 ∷ 0 ∷ 0 ∷ 3 ∷ replicate 16 9) ≡ Ok (protected_fail 3 (replicate 16 9))
+protected_failure : read_of (Some 16) (6 ∷ 0 ∷ 0 ∷ 0 ∷ 3 ∷ replicate 16 9)
+    ≡ Ok (protected_fail 3 (replicate 16 9))
 unfolding read_of loose_of fields_at protected_fail_at code_at and_then exact_at
 protected_failure = refl

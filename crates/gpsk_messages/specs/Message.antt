@@ -1,5 +1,6 @@
 -- EAP-GPSK messages (RFC 5433 section 9): message values, their encoding, their limits.
-use Rattle.std.specs.Prelude.{◌≡◌, ℕ, ◌+◌, ◌*◌, ◌^◌, ◌%◌, ◌<◌, ◌≤◌, ◌⊎◌, List, [], ◌∷◌, ◌++◌, length, Option, Some, None, Result, Ok, Err}
+use Rattle.std.specs.Prelude.{◌≡◌, ℕ, ◌+◌, ◌*◌, ◌^◌, ◌%◌, ◌<◌, ◌≤◌, ◌⊎◌, List, [], ◌∷◌, ◌++◌}
+use Rattle.std.specs.Prelude.{length, Option, Some, None, Result, Ok, Err}
 use Rattle.std.specs.Int.{w32, to_be_bytes}
 use Rattle.octet_lists.specs.declared.suite.Suite.{Suite}
 use Rattle.octet_lists.specs.Suite.{ks_of, suite_octets}
@@ -58,8 +59,10 @@ field_with_length field = two_octets (length field) ++ field
 unfoldable pub covered_of : Message → List ℕ
 covered_of (gpsk1 id_s rand_s list) = field_with_length id_s ++ (rand_s ++ field_with_length list)
 covered_of (gpsk2 id_p id_s rand_p rand_s list suite pd mac) =
-    field_with_length id_p ++ (field_with_length id_s ++ (rand_p ++ (rand_s ++ (field_with_length list ++ (suite_octets suite ++ field_with_length pd)))))
-covered_of (gpsk3 rand_p rand_s id_s suite pd mac) = rand_p ++ (rand_s ++ (field_with_length id_s ++ (suite_octets suite ++ field_with_length pd)))
+    field_with_length id_p ++ (field_with_length id_s ++ (rand_p
+    ++ (rand_s ++ (field_with_length list ++ (suite_octets suite ++ field_with_length pd)))))
+covered_of (gpsk3 rand_p rand_s id_s suite pd mac) =
+    rand_p ++ (rand_s ++ (field_with_length id_s ++ (suite_octets suite ++ field_with_length pd)))
 covered_of (gpsk4 pd mac) = field_with_length pd
 covered_of (fail code) = to_be_bytes w32 code
 covered_of (protected_fail code mac) = to_be_bytes w32 code
@@ -72,8 +75,10 @@ spelled message = op_code message ∷ covered_of message ++ mac_of message
 abbrev pub size_of : Message → ℕ
 size_of (gpsk1 id_s rand_s list) = 5 + length id_s + length rand_s + length list
 size_of (gpsk2 id_p id_s rand_p rand_s list suite pd mac) =
-    15 + length id_p + length id_s + length rand_p + length rand_s + length list + length pd + length mac
-size_of (gpsk3 rand_p rand_s id_s suite pd mac) = 11 + length rand_p + length rand_s + length id_s + length pd + length mac
+    15 + length id_p + length id_s + length rand_p + length rand_s + length list + length pd
+    + length mac
+size_of (gpsk3 rand_p rand_s id_s suite pd mac) =
+    11 + length rand_p + length rand_s + length id_s + length pd + length mac
 size_of (gpsk4 pd mac) = 3 + length pd + length mac
 size_of (fail code) = 5
 size_of (protected_fail code mac) = 5 + length mac
@@ -102,8 +107,10 @@ max_list = 120
 abbrev pub AreFields : Message → Type 0
 AreFields (gpsk1 id_s rand_s list) = IsIdentity id_s × IsRand rand_s × IsSuiteList list
 AreFields (gpsk2 id_p id_s rand_p rand_s list suite pd mac) =
-    IsIdentity id_p × IsIdentity id_s × IsRand rand_p × IsRand rand_s × IsSuiteList list × IsBlock pd
-AreFields (gpsk3 rand_p rand_s id_s suite pd mac) = IsRand rand_p × IsRand rand_s × IsIdentity id_s × IsBlock pd
+    IsIdentity id_p × IsIdentity id_s × IsRand rand_p × IsRand rand_s × IsSuiteList list
+    × IsBlock pd
+AreFields (gpsk3 rand_p rand_s id_s suite pd mac) =
+    IsRand rand_p × IsRand rand_s × IsIdentity id_s × IsBlock pd
 AreFields (gpsk4 pd mac) = IsBlock pd
 AreFields (fail code) = code < 2 ^ 32
 AreFields (protected_fail code mac) = code < 2 ^ 32
@@ -136,7 +143,8 @@ pub record IsGpsk (ks : Option ℕ) (message : Message) (octets : List ℕ) : Ty
 -- the message without its MAC
 abbrev pub without_mac : Message → Message
 without_mac (gpsk1 id_s rand_s list) = gpsk1 id_s rand_s list
-without_mac (gpsk2 id_p id_s rand_p rand_s list suite pd mac) = gpsk2 id_p id_s rand_p rand_s list suite pd []
+without_mac (gpsk2 id_p id_s rand_p rand_s list suite pd mac) =
+    gpsk2 id_p id_s rand_p rand_s list suite pd []
 without_mac (gpsk3 rand_p rand_s id_s suite pd mac) = gpsk3 rand_p rand_s id_s suite pd []
 without_mac (gpsk4 pd mac) = gpsk4 pd []
 without_mac (fail code) = fail code
@@ -145,7 +153,8 @@ without_mac (protected_fail code mac) = protected_fail code []
 -- the message that a view shows
 abbrev pub message_of : GpskMessage → Message
 message_of (view.M1 m) = gpsk1 m.id_s.now m.rand_s m.list.now
-message_of (view.M2 m) = gpsk2 m.id_p.now m.id_s.now m.rand_p m.rand_s m.list.now m.suite m.pd.now m.mac.now
+message_of (view.M2 m) =
+    gpsk2 m.id_p.now m.id_s.now m.rand_p m.rand_s m.list.now m.suite m.pd.now m.mac.now
 message_of (view.M3 m) = gpsk3 m.rand_p m.rand_s m.id_s.now m.suite m.pd.now m.mac.now
 message_of (view.M4 m) = gpsk4 m.pd.now m.mac.now
 message_of (view.Fail code) = fail code

@@ -7,8 +7,10 @@ use Rattle.gpsk_messages.specs.declared.plain.GpskView.TheVariants as view
 
 abbrev pub fields_of : GpskView → Message
 fields_of (view.M1 id_s rand_s list) = gpsk1 id_s.now rand_s list.now
-fields_of (view.M2 id_p id_s rand_p rand_s list suite pd mac) = gpsk2 id_p.now id_s.now rand_p rand_s list.now suite pd.now mac.now
-fields_of (view.M3 rand_p rand_s id_s suite pd mac) = gpsk3 rand_p rand_s id_s.now suite pd.now mac.now
+fields_of (view.M2 id_p id_s rand_p rand_s list suite pd mac) =
+    gpsk2 id_p.now id_s.now rand_p rand_s list.now suite pd.now mac.now
+fields_of (view.M3 rand_p rand_s id_s suite pd mac) =
+    gpsk3 rand_p rand_s id_s.now suite pd.now mac.now
 fields_of (view.M4 pd mac) = gpsk4 pd.now mac.now
 fields_of (view.Fail code) = fail code
 fields_of (view.ProtectedFail code mac) = protected_fail code mac.now

@@ -1,12 +1,15 @@
 -- Reading Type-Data as an EAP-GPSK message (RFC 5433 section 9), field by field.
-use Rattle.std.specs.Prelude.{ℕ, zero, ◌+◌, ◌*◌, ◌%◌, List, [], ◌∷◌, length, take, drop, Bool, nat_lt, nat_le, ◌==◌, ◌&&◌, ◌||◌, if◌then◌else◌, Option, Some, None, option_map, Result, Ok, Err}
+use Rattle.std.specs.Prelude.{ℕ, zero, ◌+◌, ◌*◌, ◌%◌, List, [], ◌∷◌, length, take, drop, Bool}
+use Rattle.std.specs.Prelude.{nat_lt, nat_le, ◌==◌, ◌&&◌, ◌||◌, if◌then◌else◌, Option, Some, None}
+use Rattle.std.specs.Prelude.{option_map, Result, Ok, Err}
 use Rattle.std.specs.Int.{w32, from_be_bytes}
 use Rattle.octet_lists.specs.declared.suite.Suite.{Suite}
 use Rattle.octet_lists.specs.Suite.{ks_of, suite_numbered}
 use Rattle.octet_lists.specs.Sizes.{max_name}
 use Rattle.eap_packet.specs.declared.cause.Cause.{Cause}
 use Rattle.eap_packet.specs.declared.cause.Cause.TheVariants.{GpskShape, ListTooLong}
-use Rattle.gpsk_messages.specs.Message.{Message, gpsk1, gpsk2, gpsk3, gpsk4, fail, protected_fail, list_of}
+use Rattle.gpsk_messages.specs.Message.{Message, gpsk1, gpsk2, gpsk3, gpsk4, fail, protected_fail}
+use Rattle.gpsk_messages.specs.Message.{list_of}
 
 -- what a step gives to the next; nothing if it read nothing
 unfoldable pub and_then : {A B : Type 0} → Option A → (A → Option B) → Option B
@@ -24,7 +27,8 @@ some_if test x = if test then Some x else None
 
 -- this many octets
 unfoldable pub exact_at : ℕ → List ℕ → Option (List ℕ × List ℕ)
-exact_at count octets = some_if (nat_le count (length octets)) (take count octets, drop count octets)
+exact_at count octets =
+    some_if (nat_le count (length octets)) (take count octets, drop count octets)
 
 -- a field behind its length in two octets
 unfoldable pub sized_at : List ℕ → Option (List ℕ × List ℕ)
@@ -44,7 +48,8 @@ suites_at octets = do
 
 -- one of the two suites that the standard defines
 unfoldable pub suite_at : List ℕ → Option (Suite × List ℕ)
-suite_at (zero ∷ zero ∷ zero ∷ zero ∷ zero ∷ number ∷ octets) = option_map (λ suite. (suite, octets)) (suite_numbered number)
+suite_at (zero ∷ zero ∷ zero ∷ zero ∷ zero ∷ number ∷ octets) =
+    option_map (λ suite. (suite, octets)) (suite_numbered number)
 suite_at octets = None
 
 -- a Failure-Code, in four octets
@@ -125,14 +130,16 @@ accepts_mac ks (protected_fail code mac) size = is_mac_size ks size
 -- the message with this MAC
 abbrev pub with_mac : Message → List ℕ → Message
 with_mac (gpsk1 id_s rand_s list) mac = gpsk1 id_s rand_s list
-with_mac (gpsk2 id_p id_s rand_p rand_s list suite pd none) mac = gpsk2 id_p id_s rand_p rand_s list suite pd mac
+with_mac (gpsk2 id_p id_s rand_p rand_s list suite pd none) mac =
+    gpsk2 id_p id_s rand_p rand_s list suite pd mac
 with_mac (gpsk3 rand_p rand_s id_s suite pd none) mac = gpsk3 rand_p rand_s id_s suite pd mac
 with_mac (gpsk4 pd none) mac = gpsk4 pd mac
 with_mac (fail code) mac = fail code
 with_mac (protected_fail code none) mac = protected_fail code mac
 
 abbrev pub message_if_mac_matches : Option ℕ → Message × List ℕ → Option Message
-message_if_mac_matches ks fields = some_if (accepts_mac ks fields.0 (length fields.1)) (with_mac fields.0 fields.1)
+message_if_mac_matches ks fields =
+    some_if (accepts_mac ks fields.0 (length fields.1)) (with_mac fields.0 fields.1)
 
 -- the message that the octets encode, with any number of suites in a list
 unfoldable pub loose_of : Option ℕ → List ℕ → Option Message
@@ -144,7 +151,8 @@ loose_of ks (op ∷ octets) = do
 -- a list has at most 20 suites
 abbrev pub outcome_of : Option Message → Result Message Cause
 outcome_of None = Err GpskShape
-outcome_of (Some message) = if nat_le (length (list_of message)) (6 * 20) then Ok message else Err ListTooLong
+outcome_of (Some message) =
+    if nat_le (length (list_of message)) (6 * 20) then Ok message else Err ListTooLong
 
 -- the message that the octets encode, or why there is none
 unfoldable pub read_of : Option ℕ → List ℕ → Result Message Cause

@@ -1,7 +1,8 @@
 //! The kinds of fields (RFC 5433 section 9): each is split off the octets, with those after it.
 
 ghost use Rattle.std.specs.Prelude.{◌≡◌, IfSome, length, option_map};
-ghost use Rattle.gpsk_messages.specs.Reading.{exact_at, sized_at, identity_at, suites_at, suite_at, code_at};
+ghost use Rattle.gpsk_messages.specs.Reading.{exact_at, sized_at, identity_at, suites_at, suite_at};
+ghost use Rattle.gpsk_messages.specs.Reading.{code_at};
 
 use byteorder::{BigEndian, ByteOrder};
 use octet_lists::{MAX_NAME, SUITE_SIZE, Suite, array_of};

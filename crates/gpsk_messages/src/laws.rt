@@ -1,6 +1,9 @@
 //! Laws of the messages' grammar (RFC 5433 section 9). Each is the contract of a function that does nothing.
 
-ghost use Rattle.gpsk_messages.specs.Laws.{EncodingsAreRead, ReadsTheEncoding, EncodingsAreApart, ShapelessEncodesNothing, LongListsAreNamed, EncodingsAreSized, CoveredIsTheMiddle, CoveredOctetsFixFields};
+ghost use Rattle.gpsk_messages.specs.Laws.{EncodingsAreRead, ReadsTheEncoding, EncodingsAreApart};
+ghost use Rattle.gpsk_messages.specs.Laws.{ShapelessEncodesNothing, LongListsAreNamed};
+ghost use Rattle.gpsk_messages.specs.Laws.{EncodingsAreSized, CoveredIsTheMiddle};
+ghost use Rattle.gpsk_messages.specs.Laws.{CoveredOctetsFixFields};
 
 /// What is encoded so is read.
 #[tactic(auto, using(crate::proofs::Grammar::encodings_are_read))]

@@ -1,9 +1,12 @@
 //! Reading Type-Data as a message (RFC 5433 section 9).
 
-ghost use Rattle.std.specs.Prelude.{◌≡◌, ◌+◌, ◌-◌, ◌≤◌, length, take, drop, option_map, IfOk, IfErr};
+ghost use Rattle.std.specs.Prelude.{◌≡◌, ◌+◌, ◌-◌, ◌≤◌, length, take, drop, option_map, IfOk};
+ghost use Rattle.std.specs.Prelude.{IfErr};
 ghost use Rattle.gpsk_messages.specs.Message.{message_of, read_value, list_of, IsGpsk};
 ghost use Rattle.gpsk_messages.specs.Laws.{Refuses};
-ghost use Rattle.gpsk_messages.specs.Reading.{and_then, gpsk1_at, gpsk2_at, gpsk3_at, gpsk4_at, fail_at, protected_fail_at, message_if_mac_matches, is_mac_size, loose_of, read_of};
+ghost use Rattle.gpsk_messages.specs.Reading.{and_then, gpsk1_at, gpsk2_at, gpsk3_at, gpsk4_at};
+ghost use Rattle.gpsk_messages.specs.Reading.{fail_at, protected_fail_at, message_if_mac_matches};
+ghost use Rattle.gpsk_messages.specs.Reading.{is_mac_size, loose_of, read_of};
 
 use crate::fields::{
     code_field, identity_field, rand_field, sized_field, suite_field, suites_field,
@@ -27,7 +30,8 @@ fn is_size_of_mac(size: usize, ks: Option<u8>) -> bool
 /// GPSK-1: ID_Server, RAND_Server, CSuite_List.
 #[tactic(auto, unfolding(crate::specs::Reading::and_then, crate::specs::Reading::gpsk1_at))]
 fn read_gpsk1<'a>(octets: &'a [u8], ks: Option<u8>) -> Option<GpskMessage<'a>>
-    ensures { option_map message_of result ≡ and_then (gpsk1_at octets.now) (message_if_mac_matches ks) }
+    ensures { option_map message_of result
+        ≡ and_then (gpsk1_at octets.now) (message_if_mac_matches ks) }
 {
     let (id_s, rest) = identity_field(octets)?;
     let (rand_s, rest) = rand_field(rest)?;
@@ -42,7 +46,8 @@ fn read_gpsk1<'a>(octets: &'a [u8], ks: Option<u8>) -> Option<GpskMessage<'a>>
 /// GPSK-2: ID_Peer, ID_Server, RAND_Peer, RAND_Server, CSuite_List, CSuite_Sel, PD block, MAC.
 #[tactic(auto, unfolding(crate::specs::Reading::and_then, crate::specs::Reading::gpsk2_at))]
 fn read_gpsk2<'a>(octets: &'a [u8], ks: Option<u8>) -> Option<GpskMessage<'a>>
-    ensures { option_map message_of result ≡ and_then (gpsk2_at octets.now) (message_if_mac_matches ks) }
+    ensures { option_map message_of result
+        ≡ and_then (gpsk2_at octets.now) (message_if_mac_matches ks) }
 {
     let (id_p, rest) = identity_field(octets)?;
     let (id_s, rest) = identity_field(rest)?;
@@ -70,7 +75,8 @@ fn read_gpsk2<'a>(octets: &'a [u8], ks: Option<u8>) -> Option<GpskMessage<'a>>
 /// GPSK-3: RAND_Peer, RAND_Server, ID_Server, CSuite_Sel, PD block, MAC.
 #[tactic(auto, unfolding(crate::specs::Reading::and_then, crate::specs::Reading::gpsk3_at))]
 fn read_gpsk3<'a>(octets: &'a [u8], ks: Option<u8>) -> Option<GpskMessage<'a>>
-    ensures { option_map message_of result ≡ and_then (gpsk3_at octets.now) (message_if_mac_matches ks) }
+    ensures { option_map message_of result
+        ≡ and_then (gpsk3_at octets.now) (message_if_mac_matches ks) }
 {
     let (rand_p, rest) = rand_field(octets)?;
     let (rand_s, rest) = rand_field(rest)?;
@@ -94,7 +100,8 @@ fn read_gpsk3<'a>(octets: &'a [u8], ks: Option<u8>) -> Option<GpskMessage<'a>>
 /// GPSK-4: PD block, MAC.
 #[tactic(auto, unfolding(crate::specs::Reading::and_then, crate::specs::Reading::gpsk4_at))]
 fn read_gpsk4<'a>(octets: &'a [u8], ks: Option<u8>) -> Option<GpskMessage<'a>>
-    ensures { option_map message_of result ≡ and_then (gpsk4_at octets.now) (message_if_mac_matches ks) }
+    ensures { option_map message_of result
+        ≡ and_then (gpsk4_at octets.now) (message_if_mac_matches ks) }
 {
     let (pd, mac) = sized_field(octets)?;
     if is_size_of_mac(mac.len(), ks) {
@@ -107,7 +114,8 @@ fn read_gpsk4<'a>(octets: &'a [u8], ks: Option<u8>) -> Option<GpskMessage<'a>>
 /// GPSK-Fail: Failure-Code.
 #[tactic(auto, unfolding(crate::specs::Reading::and_then, crate::specs::Reading::fail_at))]
 fn read_fail<'a>(octets: &'a [u8], ks: Option<u8>) -> Option<GpskMessage<'a>>
-    ensures { option_map message_of result ≡ and_then (fail_at octets.now) (message_if_mac_matches ks) }
+    ensures { option_map message_of result
+        ≡ and_then (fail_at octets.now) (message_if_mac_matches ks) }
 {
     let (code, rest) = code_field(octets)?;
     if rest.is_empty() {
@@ -120,7 +128,8 @@ fn read_fail<'a>(octets: &'a [u8], ks: Option<u8>) -> Option<GpskMessage<'a>>
 /// GPSK-Protected-Fail: Failure-Code, MAC.
 #[tactic(auto, unfolding(crate::specs::Reading::and_then, crate::specs::Reading::protected_fail_at))]
 fn read_protected_fail<'a>(octets: &'a [u8], ks: Option<u8>) -> Option<GpskMessage<'a>>
-    ensures { option_map message_of result ≡ and_then (protected_fail_at octets.now) (message_if_mac_matches ks) }
+    ensures { option_map message_of result
+        ≡ and_then (protected_fail_at octets.now) (message_if_mac_matches ks) }
 {
     let (code, mac) = code_field(octets)?;
     if is_size_of_mac(mac.len(), ks) {

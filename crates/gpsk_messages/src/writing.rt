@@ -6,7 +6,8 @@ ghost use Rattle.octet_lists.specs.Suite.{suite_octets};
 ghost use Rattle.octet_lists.specs.Sizes.{max_packet};
 ghost use Rattle.eap_packet.specs.Packet.{value_with, has_type, max_type_data};
 ghost use Rattle.eap_packet.specs.Packet as packets;
-ghost use Rattle.gpsk_messages.specs.Message.{message_of, op_code, spelled, field_with_length, size_of};
+ghost use Rattle.gpsk_messages.specs.Message.{message_of, op_code, spelled, field_with_length};
+ghost use Rattle.gpsk_messages.specs.Message.{size_of};
 
 use crate::view::{Gpsk1, Gpsk2, GpskMessage};
 use byteorder::{BigEndian, ByteOrder};
@@ -82,7 +83,8 @@ fn put_offer(packet: &mut Packet, gpsk2: &Gpsk2)
 #[inline(never)]
 fn put_sealed(packet: &mut Packet, suite: Suite, pd: &[u8], mac: &[u8])
     requires { length packet.old + 8 + length pd.now + length mac.now ≤ max_packet }
-    ensures { packet.new ≡ packet.old ++ (suite_octets suite ++ (field_with_length pd.now ++ mac.now)) }
+    ensures { packet.new
+        ≡ packet.old ++ (suite_octets suite ++ (field_with_length pd.now ++ mac.now)) }
 {
     packet.put(&suite.octets());
     put_sized(packet, pd);

@@ -1,6 +1,7 @@
--- HMAC (RFC 2104, section 2), on whole lists of octets, over any hash of blocks of 64 octets, and with
--- SHA-256: FIPS 180-4 as the crate `sha2` defines it.
-use Rattle.std.specs.Prelude.{ℕ, ◌-◌, List, ◌++◌, length, map, replicate, bit_xor, nat_le, if◌then◌else◌}
+-- HMAC (RFC 2104, section 2), on whole lists of octets, over any hash of blocks of 64 octets, and
+-- with SHA-256: FIPS 180-4 as the crate `sha2` defines it.
+use Rattle.std.specs.Prelude.{ℕ, ◌-◌, List, ◌++◌, length, map, replicate, bit_xor, nat_le}
+use Rattle.std.specs.Prelude.{if◌then◌else◌}
 use Rattle.sha2.specs.Sha256.{sha256}
 
 -- the octets of a block of the hash
@@ -33,7 +34,8 @@ padded octets pad = map (λ octet. bit_xor octet pad) octets
 -- H(K XOR opad, H(K XOR ipad, text))
 unfoldable pub hmac : (List ℕ → List ℕ) → List ℕ → List ℕ → List ℕ
 hmac hash key text =
-    hash (padded (block_key_of hash key) outer_pad ++ hash (padded (block_key_of hash key) inner_pad ++ text))
+    hash (padded (block_key_of hash
+    key) outer_pad ++ hash (padded (block_key_of hash key) inner_pad ++ text))
 
 unfoldable pub hmac_sha256 : List ℕ → List ℕ → List ℕ
 hmac_sha256 key text = hmac sha256 key text

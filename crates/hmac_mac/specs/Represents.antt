@@ -1,5 +1,5 @@
--- What a contract sees of an `HmacKey` and an `Hmac`: the key that they were made of, and the text that
--- was fed.
+-- What a contract sees of an `HmacKey` and an `Hmac`: the key that they were made of, and the text
+-- that was fed.
 use Rattle.std.specs.Prelude.{ℕ, List, ◌++◌}
 use Rattle.sha2.specs.Hashers.{Holds256}
 use Rattle.hmac_mac.specs.Hmac.{block_key, padded, inner_pad, outer_pad}

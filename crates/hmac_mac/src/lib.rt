@@ -151,7 +151,8 @@ impl Hmac {
     /// Adds `piece` at the end of the text.
     #[tactic(auto, unfolding(crate::specs::Represents::Represents))]
     pub fn update(&mut self, piece: &[u8])
-        ensures { (key text : List ℕ) → Represents self.old key text → Represents self.new key (text ++ piece.now) }
+        ensures { (key text : List ℕ) → Represents self.old key text
+            → Represents self.new key (text ++ piece.now) }
     {
         self.inner.update(piece);
     }

@@ -19,16 +19,21 @@ agreed false same e = absurd cc
 
 judged_in : (w : WorldNow) → verdict_of w ≡ Agree → ReportTheSame w.parties.peer w.parties.server
 unfolding verdict_of
-judged_in w e = agreed (is_success w.parties.peer.vars.state && is_success w.parties.server.vars.state) _ e
+judged_in w e =
+    agreed (is_success w.parties.peer.vars.state && is_success w.parties.server.vars.state) _ e
 
 pub joined_ends_agree : JoinedEndsAgree
 joined_ends_agree setup list alone whole fit honest both =
     let w = world_of setup list in
     let ends = interleavings_are_runs setup list alone fit in
-    let one : is_success w.parties.peer.vars.state ≡ true = subst (λ (now : PeerNow). is_success now.vars.state ≡ true) (sym ends.peer) both.0 in
-    let other : is_success w.parties.server.vars.state ≡ true = subst (λ (now : ServerNow). is_success now.vars.state ≡ true) (sym ends.server) both.1 in
-    let same = judged_in w ((honest_ends_agree setup _ whole).reflected_agrees honest (start_once setup list fit) one other) in
-    let theirs = (honest_names_are_theirs setup _ whole).reflected_theirs honest (start_once setup list fit) one other in
+    let one : is_success w.parties.peer.vars.state ≡ true =
+    subst (λ (now : PeerNow). is_success now.vars.state ≡ true) (sym ends.peer) both.0 in
+    let other : is_success w.parties.server.vars.state ≡ true =
+    subst (λ (now : ServerNow). is_success now.vars.state ≡ true) (sym ends.server) both.1 in
+    let same = judged_in w ((honest_ends_agree setup _ whole).reflected_agrees honest
+    (start_once setup list fit) one other) in
+    let theirs = (honest_names_are_theirs setup _ whole).reflected_theirs honest
+    (start_once setup list fit) one other in
     record {
       same = subst (λ (now : ServerNow). ReportTheSame (peer_alone setup list) now) ends.server
           (subst (λ (now : PeerNow). ReportTheSame now w.parties.server) ends.peer same);

@@ -1,5 +1,6 @@
 -- Blocks of a list that is made block by block.
-use Rattle.std.proofs.Common.{◌≡◌, ℕ, zero, suc, ◌+◌, ◌*◌, List, [], ◌∷◌, ◌++◌, length, sym, ap, ◌∙◌, arith, add-one, add-zero, length-append}
+use Rattle.std.proofs.Common.{◌≡◌, ℕ, zero, suc, ◌+◌, ◌*◌, List, [], ◌∷◌, ◌++◌, length, sym, ap}
+use Rattle.std.proofs.Common.{◌∙◌, arith, add-one, add-zero, length-append}
 use Rattle.std.specs.List.{flat_map, range_with_len}
 use Rattle.std.proofs.lemmas.List.{append-nil}
 use Rattle.std.proofs.lemmas.List.Concat.{flat_map-append}
@@ -17,7 +18,8 @@ mul_more : (n size : ℕ) → (n + 1) * size ≡ n * size + size
 mul_more n size = omega arith
 
 -- one block more
-blocks_more : (f : ℕ → List ℕ) (a n : ℕ) → flat_map f (range_with_len a (n + 1)) ≡ flat_map f (range_with_len a n) ++ f (a + n)
+blocks_more : (f : ℕ → List ℕ) (a n : ℕ) → flat_map f (range_with_len a (n + 1))
+    ≡ flat_map f (range_with_len a n) ++ f (a + n)
 blocks_more f a n =
     ap (λ k. flat_map f (range_with_len a k)) (add-one n)
     ∙ ap (flat_map f) (range_push a n)
@@ -30,15 +32,20 @@ pub record IsJoined (f : ℕ → List ℕ) (a n size : ℕ) (list : List ℕ) : 
   pub whole : length list ≡ n * size
 
 -- before the first block
-pub joined_none : (f : ℕ → List ℕ) (a size : ℕ) (list : List ℕ) → list ≡ [] → IsJoined f a 0 size list
+pub joined_none : (f : ℕ → List ℕ) (a size : ℕ) (list : List ℕ) → list ≡ []
+    → IsJoined f a 0 size list
 joined_none f a size list e = record { same = e; whole = ap length e ∙ sym (zero_mul size) }
 
 -- one block is appended
-pub joined_push : (f : ℕ → List ℕ) (a n size : ℕ) (list block after : List ℕ) → IsJoined f a n size list
-    → block ≡ f (a + n) → length block ≡ size → after ≡ list ++ block → IsJoined f a (n + 1) size after
+pub joined_push : (f : ℕ → List ℕ) (a n size : ℕ) (list block after : List ℕ)
+    → IsJoined f a n size list
+    → block ≡ f (a + n) → length block ≡ size → after ≡ list ++ block
+    → IsJoined f a (n + 1) size after
 joined_push f a n size list block after so_far is_block is_whole e = record {
-  same = e ∙ ap (λ l. l ++ block) so_far.same ∙ ap (λ l. flat_map f (range_with_len a n) ++ l) is_block ∙ sym (blocks_more f a n);
+  same = e ∙ ap (λ l. l ++ block) so_far.same
+      ∙ ap (λ l. flat_map f (range_with_len a n) ++ l) is_block ∙ sym (blocks_more f a n);
   whole =
-      let sum : length after ≡ n * size + length block = ap length e ∙ length-append list block ∙ ap (λ k. k + length block) so_far.whole in
+      let sum : length after ≡ n * size + length block =
+      ap length e ∙ length-append list block ∙ ap (λ k. k + length block) so_far.whole in
       sum ∙ ap (λ k. n * size + k) is_whole ∙ sym (mul_more n size);
 }

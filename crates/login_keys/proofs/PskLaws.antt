@@ -1,5 +1,8 @@
--- The keys of two EAP-PSK logins differ if their RAND_P does: AES gives different blocks for different ones.
-use Rattle.std.proofs.Common.{◌≡◌, ℕ, zero, suc, ◌+◌, ◌*◌, ◌^◌, ◌<◌, ◌≤◌, List, [], ◌∷◌, length, take, refl, sym, ap, ◌∙◌, arith, inl, inr, bit_xor, slice_index, append-nil, mod-lt, mul-le-mul_right, add-mul}
+-- The keys of two EAP-PSK logins differ if their RAND_P does: AES gives different blocks for
+-- different ones.
+use Rattle.std.proofs.Common.{◌≡◌, ℕ, zero, suc, ◌+◌, ◌*◌, ◌^◌, ◌<◌, ◌≤◌, List, [], ◌∷◌, length}
+use Rattle.std.proofs.Common.{take, refl, sym, ap, ◌∙◌, arith, inl, inr, bit_xor, slice_index}
+use Rattle.std.proofs.Common.{append-nil, mod-lt, mul-le-mul_right, add-mul}
 use Rattle.std.specs.Prelude.{◌⊎◌}
 use Rattle.std.specs.Int.{byte_at, bytes_high_first, from_be_bytes, to_be_bytes, w128}
 use Rattle.std.specs.List.{flat_map}
@@ -48,7 +51,8 @@ same_digits p x y r s hr hs e = elim (compare x y) [
       ]
     ]
 
-same_octets : (n : ℕ) (xs ys : List ℕ) → length xs ≡ n → length ys ≡ n → AreOctets xs → AreOctets ys → big_from 0 n xs ≡ big_from 0 n ys → xs ≡ ys
+same_octets : (n : ℕ) (xs ys : List ℕ) → length xs ≡ n → length ys ≡ n → AreOctets xs → AreOctets ys
+    → big_from 0 n xs ≡ big_from 0 n ys → xs ≡ ys
 same_octets zero [] [] hx hy ox oy e = refl
 same_octets zero [] (y ∷ ys) hx hy ox oy e = absurd (omega arith)
 same_octets zero (x ∷ xs) ys hx hy ox oy e = absurd (omega arith)
@@ -61,8 +65,10 @@ same_octets (suc n) (x ∷ xs) (y ∷ ys) hx hy ox oy e =
     let at_y = big_from-cons 0 n y ys in
     let same : x * 256 ^ n + big_from 0 n xs ≡ y * 256 ^ n + big_from 0 n ys =
     sym (ap (λ (r : ℕ). x * 256 ^ n + r) at_x) ∙ e ∙ ap (λ (r : ℕ). y * 256 ^ n + r) at_y in
-    let both = same_digits (256 ^ n) x y (big_from 0 n xs) (big_from 0 n ys) (big_from-lt 0 n xs rx) (big_from-lt 0 n ys ry) same in
-    ap (λ (h : ℕ). h ∷ xs) both.0 ∙ ap (λ (t : List ℕ). y ∷ t) (same_octets n xs ys (omega arith) (omega arith) rx ry both.1)
+    let both = same_digits (256 ^ n) x y (big_from 0 n xs) (big_from 0 n ys) (big_from-lt 0 n xs rx)
+    (big_from-lt 0 n ys ry) same in
+    ap (λ (h : ℕ). h ∷ xs) both.0
+    ∙ ap (λ (t : List ℕ). y ∷ t) (same_octets n xs ys (omega arith) (omega arith) rx ry both.1)
 
 as_number : (xs : List ℕ) → from_be_bytes w128 xs ≡ big_from 0 16 xs
 as_number xs = omega arith
@@ -83,16 +89,19 @@ byte_octets (suc k) n (suc i) = byte_octets k n i
 
 combined_is_block : (block : List ℕ) (c : ℕ) → IsBlock (combined_with block c)
 unfolding combined_with
-combined_is_block block c = record { whole = refl; octets = byte_octets 16 (bit_xor (from_be_bytes w128 block) c) }
+combined_is_block block c =
+    record { whole = refl; octets = byte_octets 16 (bit_xor (from_be_bytes w128 block) c) }
 
 xor_back : (a c : ℕ) → bit_xor (bit_xor a c) c ≡ a
 xor_back a c = xor_assoc a c c ∙ ap (bit_xor a) (xor_self c) ∙ xor_zero_r a
 
 written_back : (n : ℕ) → n < 2 ^ 128 → big_from 0 16 (to_be_bytes w128 n) ≡ n
 written_back n h =
-    ap (big_from 0 16) (sym (append-nil (to_be_bytes w128 n))) ∙ big_number-reads_back 16 n [] (omega arith)
+    ap (big_from 0 16) (sym (append-nil (to_be_bytes w128 n)))
+    ∙ big_number-reads_back 16 n [] (omega arith)
 
-combined_differ : (one other : List ℕ) (c : ℕ) → c < 2 ^ 128 → IsBlock one → IsBlock other → combined_with one c ≡ combined_with other c → one ≡ other
+combined_differ : (one other : List ℕ) (c : ℕ) → c < 2 ^ 128 → IsBlock one → IsBlock other
+    → combined_with one c ≡ combined_with other c → one ≡ other
 unfolding combined_with
 combined_differ one other c small is_one is_other e =
     let n : ℕ = from_be_bytes w128 one in
@@ -102,29 +111,37 @@ combined_differ one other c small is_one is_other e =
     ∙ ap (big_from 0 16) e
     ∙ written_back (bit_xor m c) (xor_lt 128 m c (number_lt other is_other.octets) small) in
     let numbers : n ≡ m = sym (xor_back n c) ∙ ap (λ (x : ℕ). bit_xor x c) sums ∙ xor_back m c in
-    same_octets 16 one other is_one.whole is_other.whole is_one.octets is_other.octets (sym (as_number one) ∙ numbers ∙ as_number other)
+    same_octets 16 one other is_one.whole is_other.whole is_one.octets is_other.octets
+    (sym (as_number one) ∙ numbers ∙ as_number other)
 
 -- ---- the modified counter mode
 
-blocks_differ : (key one other : List ℕ) (c : ℕ) → c < 2 ^ 128 → IsBlock key → IsBlock one → IsBlock other
+blocks_differ : (key one other : List ℕ) (c : ℕ) → c < 2 ^ 128 → IsBlock key → IsBlock one
+    → IsBlock other
     → counter_block key one c ≡ counter_block key other c → one ≡ other
 unfolding counter_block
 blocks_differ key one other c small is_key is_one is_other e =
     encryptions_differ key one other is_key is_one is_other
-    (combined_differ (aes128 key one) (aes128 key other) c small (encryptions_are_blocks key one is_key) (encryptions_are_blocks key other is_key)
-    (encryptions_differ key (combined_with (aes128 key one) c) (combined_with (aes128 key other) c) is_key
-    (combined_is_block (aes128 key one) c) (combined_is_block (aes128 key other) c) e))
+    (combined_differ (aes128 key one) (aes128 key other) c small
+    (encryptions_are_blocks key one is_key) (encryptions_are_blocks key other is_key)
+    (encryptions_differ key (combined_with (aes128 key one) c)
+    (combined_with (aes128 key other) c) is_key (combined_is_block (aes128 key one) c)
+    (combined_is_block (aes128 key other) c) e))
 
 block_whole : (key block : List ℕ) (c : ℕ) → length (counter_block key block c) ≡ 16
 unfolding counter_block
 block_whole key block c = length_aes128 key (combined_with (aes128 key block) c)
 
 -- the first of several blocks
-first_of : (f : ℕ → List ℕ) (c : ℕ) (more : List ℕ) → length (f c) ≡ 16 → take 16 (flat_map f (c ∷ more)) ≡ f c
-first_of f c more whole = take-append-le 16 (f c) (flat_map f more) (omega arith) ∙ take_all 16 (f c) (omega arith)
+first_of : (f : ℕ → List ℕ) (c : ℕ) (more : List ℕ) → length (f c) ≡ 16
+    → take 16 (flat_map f (c ∷ more)) ≡ f c
+first_of f c more whole =
+    take-append-le 16 (f c) (flat_map f more) (omega arith) ∙ take_all 16 (f c) (omega arith)
 
-several_differ : (key one other : List ℕ) (c : ℕ) (more : List ℕ) → c < 2 ^ 128 → IsBlock key → IsBlock one → IsBlock other
-    → flat_map (counter_block key one) (c ∷ more) ≡ flat_map (counter_block key other) (c ∷ more) → one ≡ other
+several_differ : (key one other : List ℕ) (c : ℕ) (more : List ℕ) → c < 2 ^ 128 → IsBlock key
+    → IsBlock one → IsBlock other
+    → flat_map (counter_block key one) (c ∷ more) ≡ flat_map (counter_block key other) (c ∷ more)
+    → one ≡ other
 several_differ key one other c more small is_key is_one is_other e =
     blocks_differ key one other c small is_key is_one is_other
     (sym (first_of (counter_block key one) c more (block_whole key one c)) ∙ ap (take 16) e
@@ -140,6 +157,8 @@ psk_keys_differ psk one other is_key is_one is_other =
     let kdk = kdk_is_block psk is_key in
     record {
       tek = blocks_differ (psk_long_of psk).kdk one other 1 (omega arith) kdk is_one is_other;
-      msk = several_differ (psk_long_of psk).kdk one other 2 (3 ∷ 4 ∷ 5 ∷ []) (omega arith) kdk is_one is_other;
-      emsk = several_differ (psk_long_of psk).kdk one other 6 (7 ∷ 8 ∷ 9 ∷ []) (omega arith) kdk is_one is_other;
+      msk = several_differ (psk_long_of psk).kdk one other 2 (3 ∷ 4 ∷ 5 ∷ [])
+          (omega arith) kdk is_one is_other;
+      emsk = several_differ (psk_long_of psk).kdk one other 6 (7 ∷ 8 ∷ 9 ∷ [])
+          (omega arith) kdk is_one is_other;
     }

@@ -1,5 +1,5 @@
--- The MAC of an EAP-GPSK ciphersuite, the key derivation function over it and the key schedule (RFC 5433), on whole
--- lists of octets.
+-- The MAC of an EAP-GPSK ciphersuite, the key derivation function over it and the key schedule (RFC
+-- 5433), on whole lists of octets.
 use Rattle.std.specs.Prelude.{ℕ, ◌+◌, List, ◌++◌, length, take, slice_range}
 use Rattle.std.specs.Int.{w16, div_ceil, to_be_bytes}
 use Rattle.std.specs.List.{flat_map, range_with_len}
@@ -39,7 +39,8 @@ input_string rand_p id_p rand_s id_s = rand_p ++ (id_p ++ (rand_s ++ id_s))
 -- MK = GKDF-KS (PSK[0..KS-1], PL || PSK || CSuite_Sel || inputString)
 unfoldable pub master_key : Suite → List ℕ → List ℕ → List ℕ
 master_key suite psk input =
-    gkdf suite (ks_of suite) (take (ks_of suite) psk) (two_octets (length psk) ++ (psk ++ (suite_octets suite ++ input)))
+    gkdf suite (ks_of suite) (take (ks_of suite) psk)
+    (two_octets (length psk) ++ (psk ++ (suite_octets suite ++ input)))
 
 -- the octets of PK, the key of AES-CBC: suite 2 has none
 abbrev pub pk_size : Suite → ℕ

@@ -1,5 +1,5 @@
--- The key schedule of EAP-PSK (RFC 4764, sections 3.1 and 3.2), on whole lists of octets. A block is a list of
--- sixteen octets.
+-- The key schedule of EAP-PSK (RFC 4764, sections 3.1 and 3.2), on whole lists of octets. A block
+-- is a list of sixteen octets.
 use Rattle.std.specs.Prelude.{ℕ, List, [], ◌∷◌, replicate, bit_xor}
 use Rattle.std.specs.Int.{w128, from_be_bytes, to_be_bytes}
 use Rattle.std.specs.List.{flat_map}
@@ -21,7 +21,8 @@ counter_block key block c = aes128 key (combined_with (aes128 key block) c)
 
 -- AK and KDK: the blocks 1 and 2 of the shared key and the block of zeros (3.1)
 unfoldable pub psk_long_of : List ℕ → PskLong
-psk_long_of psk = record { ak = counter_block psk zero_block 1; kdk = counter_block psk zero_block 2 }
+psk_long_of
+    psk = record { ak = counter_block psk zero_block 1; kdk = counter_block psk zero_block 2 }
 
 -- TEK, MSK and EMSK: the blocks 1, 2 to 5 and 6 to 9 of KDK and RAND_P (3.2)
 unfoldable pub psk_keys_of : List ℕ → List ℕ → PskKeys

@@ -15,4 +15,5 @@ pub record ShareNone (psk one other : List ℕ) : Type 0 where
   pub emsk : (login_keys_of psk one).emsk ≡ (login_keys_of psk other).emsk → one ≡ other
 
 abbrev pub PskKeysDiffer : Type 0
-PskKeysDiffer = (psk one other : List ℕ) → IsBlock psk → IsBlock one → IsBlock other → ShareNone psk one other
+PskKeysDiffer =
+    (psk one other : List ℕ) → IsBlock psk → IsBlock one → IsBlock other → ShareNone psk one other

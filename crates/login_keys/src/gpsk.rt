@@ -3,7 +3,8 @@
 ghost use Rattle.std.specs.Prelude.{◌≡◌, ℕ, ◌+◌, List, ◌++◌, ◌≤◌, length, take, drop};
 ghost use Rattle.octet_lists.specs.Suite.{ks_of, suite_octets};
 ghost use Rattle.octet_lists.specs.Sizes.{max_name};
-ghost use Rattle.login_keys.specs.Gpsk.{gpsk_keys_of, gpsk_tag_of, input_string, keys_from, pk_size};
+ghost use Rattle.login_keys.specs.Gpsk.{gpsk_keys_of, gpsk_tag_of, input_string, keys_from};
+ghost use Rattle.login_keys.specs.Gpsk.{pk_size};
 ghost use Rattle.login_keys.specs.Gpsk as spec;
 ghost use Rattle.login_keys.specs.GpskMacKey.{IsMacKey};
 
@@ -71,7 +72,8 @@ pub fn gpsk_keys(
 fn derive_keys(suite: Suite, mk: Octets<32>, mac: &MacKey, front: &mut [u8]) -> GpskKeys
     requires mac { IsMacKey mac.now suite mk }
     requires number { 2 ≤ length front.old }
-    ensures keys { (input : List ℕ) → drop 2 front.old ≡ input → result ≡ keys_from suite mk (spec.gkdf suite 160 mk input) }
+    ensures keys { (input : List ℕ) → drop 2 front.old ≡ input
+        → result ≡ keys_from suite mk (spec.gkdf suite 160 mk input) }
     ensures mk { result.mk ≡ mk }
     ensures sk_size { length result.sk ≡ ks_of suite }
     ensures pk_size { length result.pk ≡ pk_size suite }
@@ -96,7 +98,8 @@ fn put(room: &mut [u8; TEXT_SIZE], used: usize, octets: &[u8]) -> usize
 fn put_front(room: &mut [u8; TEXT_SIZE], suite: Suite, psk: &[u8]) -> usize
     requires { length psk.now ≤ 64 }
     ensures written { take result room.new
-        ≡ spec.two_octets 1 ++ (spec.two_octets (length psk.now) ++ (psk.now ++ suite_octets suite)) }
+        ≡ spec.two_octets 1
+        ++ (spec.two_octets (length psk.now) ++ (psk.now ++ suite_octets suite)) }
     ensures end { result ≡ 10 + length psk.now }
 {
     let number_end = put(room, 0, &two_octets(1));
@@ -132,7 +135,8 @@ fn put_input(
 fn master_key(suite: Suite, psk: &[u8], text: &[u8]) -> Octets<32>
     requires long_enough { 32 ≤ length psk.now }
     ensures key { (input : List ℕ)
-        → text.now ≡ (spec.two_octets 1 ++ (spec.two_octets (length psk.now) ++ (psk.now ++ suite_octets suite))) ++ input
+        → text.now ≡ (spec.two_octets 1
+        ++ (spec.two_octets (length psk.now) ++ (psk.now ++ suite_octets suite))) ++ input
         → result ≡ spec.master_key suite psk.now input }
     ensures size { length result ≡ ks_of suite }
 {

@@ -39,7 +39,8 @@ fn counter_block(cipher: &Aes128, mixed: &[u8; 16], counter: u8) -> [u8; 16]
 // The output blocks for four counters in a row, joined.
 fn four_blocks(cipher: &Aes128, mixed: &[u8; 16], first: u8) -> [u8; 64]
     requires { first ≤ 6 }
-    ensures { result ≡ flat_map (λ c. aes128 cipher.now (combined_with mixed.now c)) (range_with_len first 4) }
+    ensures { result
+        ≡ flat_map (λ c. aes128 cipher.now (combined_with mixed.now c)) (range_with_len first 4) }
 {
     let mut blocks: Octets<64> = Octets::new();
     'counters: for i in 0..4 {

@@ -9,17 +9,21 @@ use Rattle.login_policy.specs.Laws.{IsNext}
 use Rattle.login_policy.proofs.Firsts.{next_is_first, picked_is_first}
 
 -- the next method stands in the server's order
-pub next_is_ordered : (order proposed : List ℕ) (nak : Option (List ℕ)) (kind : ℕ) → next_kind order proposed nak ≡ Some kind → is_among order kind ≡ true
+pub next_is_ordered : (order proposed : List ℕ) (nak : Option (List ℕ)) (kind : ℕ)
+    → next_kind order proposed nak ≡ Some kind → is_among order kind ≡ true
 next_is_ordered order proposed nak kind is =
     let next : IsNext order proposed nak kind = next_is_first order proposed nak kind is in
     rw next.stands (among_there next.before next.after kind)
 
 -- the next method isn't proposed yet
-pub next_is_unproposed : (order proposed : List ℕ) (nak : Option (List ℕ)) (kind : ℕ) → next_kind order proposed nak ≡ Some kind → is_among proposed kind ≡ false
-next_is_unproposed order proposed nak kind is = (next_is_first order proposed nak kind is).unproposed
+pub next_is_unproposed : (order proposed : List ℕ) (nak : Option (List ℕ)) (kind : ℕ)
+    → next_kind order proposed nak ≡ Some kind → is_among proposed kind ≡ false
+next_is_unproposed order proposed nak kind is =
+    (next_is_first order proposed nak kind is).unproposed
 
 -- the suite that is picked is allowed
-pub picked_is_allowed : (allowed list : List ℕ) (suite : Suite) → picked_suite allowed list ≡ Some suite → is_among allowed (suite_number suite) ≡ true
+pub picked_is_allowed : (allowed list : List ℕ) (suite : Suite)
+    → picked_suite allowed list ≡ Some suite → is_among allowed (suite_number suite) ≡ true
 picked_is_allowed allowed list suite is = (picked_is_first allowed list suite is).allows
 
 -- a Nak lists a Type or more

@@ -1,5 +1,6 @@
 -- A CSuite_List by its entries of six octets.
-use Rattle.std.proofs.Common.{◌≡◌, ℕ, ◌<◌, Bool, true, false, cond, List, [], ◌∷◌, ◌++◌, length, Option, None, Some, arith, refl, ◌∙◌}
+use Rattle.std.proofs.Common.{◌≡◌, ℕ, ◌<◌, Bool, true, false, cond, List, [], ◌∷◌, ◌++◌, length}
+use Rattle.std.proofs.Common.{Option, None, Some, arith, refl, ◌∙◌}
 use Rattle.octet_lists.specs.declared.suite.Suite.{Suite}
 use Rattle.octet_lists.specs.declared.suite.Suite.TheVariants.{Cmac, Hmac}
 use Rattle.login_policy.specs.Policy.{is_allowed, suite_or, picked_suite}
@@ -29,29 +30,34 @@ picked_from_part allowed (a ∷ b ∷ c ∷ d ∷ []) short = refl
 picked_from_part allowed (a ∷ b ∷ c ∷ d ∷ e ∷ []) short = refl
 
 -- a choice of suites by two tests, where without an alternative it is some suite
-kept : (one other : Bool) (x y suite : Suite) (otherwise : Option Suite) → cond one (Some x) (cond other (Some y) None) ≡ Some suite →
+kept : (one other : Bool) (x y suite : Suite) (otherwise : Option Suite)
+    → cond one (Some x) (cond other (Some y) None) ≡ Some suite →
     cond one (Some x) (cond other (Some y) otherwise) ≡ Some suite
 kept true other x y suite otherwise is = is
 kept false true x y suite otherwise is = is
 kept false false x y suite otherwise is = cc
 
 -- a choice of suites by two tests, where without an alternative it is none
-passed : (one other : Bool) (x y : Suite) (otherwise : Option Suite) → cond one (Some x) (cond other (Some y) None) ≡ None →
+passed : (one other : Bool) (x y : Suite) (otherwise : Option Suite)
+    → cond one (Some x) (cond other (Some y) None) ≡ None →
     cond one (Some x) (cond other (Some y) otherwise) ≡ otherwise
 passed true other x y otherwise is = cc
 passed false true x y otherwise is = cc
 passed false false x y otherwise is = refl
 
 -- an entry that names an allowed suite is picked
-pub picked_here : (allowed entry rest list : List ℕ) (suite : Suite) → list ≡ entry ++ rest → length entry ≡ 6 →
+pub picked_here : (allowed entry rest list : List ℕ) (suite : Suite) → list ≡ entry ++ rest
+    → length entry ≡ 6 →
     suite_or allowed entry None ≡ Some suite → picked_suite allowed list ≡ Some suite
 picked_here allowed entry rest list suite joined sized names =
     rw joined (picked_from_entry allowed entry rest sized
-    ∙ kept (is_allowed allowed entry Cmac) (is_allowed allowed entry Hmac) Cmac Hmac suite (picked_suite allowed rest) names)
+    ∙ kept (is_allowed allowed entry Cmac) (is_allowed allowed entry Hmac) Cmac Hmac suite
+    (picked_suite allowed rest) names)
 
 -- an entry that names no allowed suite is passed over
 pub picked_after : (allowed entry rest list : List ℕ) → list ≡ entry ++ rest → length entry ≡ 6 →
     suite_or allowed entry None ≡ None → picked_suite allowed list ≡ picked_suite allowed rest
 picked_after allowed entry rest list joined sized names =
     rw joined (picked_from_entry allowed entry rest sized
-    ∙ passed (is_allowed allowed entry Cmac) (is_allowed allowed entry Hmac) Cmac Hmac (picked_suite allowed rest) names)
+    ∙ passed (is_allowed allowed entry Cmac) (is_allowed allowed entry Hmac) Cmac Hmac
+    (picked_suite allowed rest) names)

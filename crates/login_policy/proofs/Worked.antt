@@ -8,7 +8,8 @@ one_method : nak_entries (nak_of (47 ∷ [])) ≡ 254 ∷ 0 ∷ 0 ∷ 0 ∷ 0 �
 unfolding nak_entries nak_of
 one_method = refl
 
-both_methods : nak_entries (nak_of (51 ∷ 47 ∷ [])) ≡ 254 ∷ 0 ∷ 0 ∷ 0 ∷ 0 ∷ 0 ∷ 0 ∷ 51 ∷ 254 ∷ 0 ∷ 0 ∷ 0 ∷ 0 ∷ 0 ∷ 0 ∷ 47 ∷ []
+both_methods : nak_entries (nak_of (51 ∷ 47 ∷ []))
+    ≡ 254 ∷ 0 ∷ 0 ∷ 0 ∷ 0 ∷ 0 ∷ 0 ∷ 51 ∷ 254 ∷ 0 ∷ 0 ∷ 0 ∷ 0 ∷ 0 ∷ 0 ∷ 47 ∷ []
 unfolding nak_entries nak_of
 both_methods = refl
 
@@ -21,7 +22,8 @@ one_desired : expanded_kinds (254 ∷ 0 ∷ 0 ∷ 0 ∷ 0 ∷ 0 ∷ 0 ∷ 47 ∷
 unfolding kinds_in
 one_desired = refl
 
-desired_twice : expanded_kinds (254 ∷ 0 ∷ 0 ∷ 0 ∷ 0 ∷ 0 ∷ 0 ∷ 51 ∷ 254 ∷ 0 ∷ 0 ∷ 0 ∷ 0 ∷ 0 ∷ 0 ∷ 47 ∷ 254 ∷ 0 ∷ 0 ∷ 0 ∷ 0 ∷ 0 ∷ 0 ∷ 51 ∷ [])
+desired_twice : expanded_kinds (254 ∷ 0 ∷ 0 ∷ 0 ∷ 0 ∷ 0 ∷ 0 ∷ 51 ∷ 254 ∷ 0 ∷ 0 ∷ 0 ∷ 0 ∷ 0 ∷ 0 ∷ 47
+    ∷ 254 ∷ 0 ∷ 0 ∷ 0 ∷ 0 ∷ 0 ∷ 0 ∷ 51 ∷ [])
     ≡ 51 ∷ 47 ∷ []
 unfolding kinds_in
 desired_twice = refl
@@ -31,7 +33,8 @@ unfolding kinds_in
 none_desired = refl
 
 -- an entry of vendor 1, one of a Vendor-Type over 255 and one of another Type name none
-other_vendor : expanded_kinds (254 ∷ 0 ∷ 0 ∷ 1 ∷ 0 ∷ 0 ∷ 0 ∷ 47 ∷ 254 ∷ 0 ∷ 0 ∷ 0 ∷ 0 ∷ 0 ∷ 0 ∷ 51 ∷ []) ≡ 51 ∷ []
+other_vendor : expanded_kinds (254 ∷ 0 ∷ 0 ∷ 1 ∷ 0 ∷ 0 ∷ 0 ∷ 47 ∷ 254 ∷ 0 ∷ 0 ∷ 0 ∷ 0 ∷ 0 ∷ 0 ∷ 51
+    ∷ []) ≡ 51 ∷ []
 unfolding kinds_in
 other_vendor = refl
 

@@ -1,7 +1,9 @@
 //! Laws of the choices: each is the first that is allowed. Each law is the contract of a function that
 //! does nothing.
 
-ghost use Rattle.login_policy.specs.Laws.{NextIsFirst, NoneIsNext, PickedIsFirst, NoneIsPicked, NakIsAllowed, AllowedIsListed, NakListsSome, EntriesAreRead};
+ghost use Rattle.login_policy.specs.Laws.{NextIsFirst, NoneIsNext, PickedIsFirst, NoneIsPicked};
+ghost use Rattle.login_policy.specs.Laws.{NakIsAllowed, AllowedIsListed, NakListsSome};
+ghost use Rattle.login_policy.specs.Laws.{EntriesAreRead};
 
 /// The next Type is the first of the order that is desired and not yet proposed.
 pub fn next_is_first()

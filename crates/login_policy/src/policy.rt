@@ -2,7 +2,8 @@
 
 ghost use Rattle.std.specs.Prelude.{◌≡◌, ◌&&◌, not, None, option_copied};
 ghost use Rattle.octet_lists.specs.Among.{is_among};
-ghost use Rattle.login_policy.specs.Policy.{nak_of, picked_suite, is_allowed, suite_or, is_desired, next_kind};
+ghost use Rattle.login_policy.specs.Policy.{nak_of, picked_suite, is_allowed, suite_or, is_desired};
+ghost use Rattle.login_policy.specs.Policy.{next_kind};
 
 use login_setup::PeerSetup;
 use octet_lists::{Kinds, SUITE_SIZE, Suite, Suites, is_among};
@@ -76,7 +77,8 @@ pub fn next_method(order: &Kinds, proposed: &Kinds, nak: Option<&[u8]>) -> Optio
 
 /// Whether a Type is not yet proposed, and a Nak, if one has come, desires it.
 fn is_open(proposed: &Kinds, nak: Option<&[u8]>, kind: u8) -> bool
-    ensures { result ≡ (not (is_among proposed.now kind) && is_desired (option_copied nak.entry) kind) }
+    ensures { result
+        ≡ (not (is_among proposed.now kind) && is_desired (option_copied nak.entry) kind) }
 {
     !is_among(proposed.as_slice(), kind) && is_desired(nak, kind)
 }

@@ -17,15 +17,18 @@ module _ {S W : Type 0} (source : Shown S) (sink : Shown W) where
     honest_ends_agree = headline;
     smooth_traces_agree = traces.smooth_traces_agree;
     never_both = λ octets e. record { holds = λ h old text b n. absurd cc };
-    complete = λ octets e no_read no_write. inr (record { memory = refl; unread = refl; unwritten = refl });
+    complete = λ octets e no_read no_write.
+        inr (record { memory = refl; unread = refl; unwritten = refl });
   }
 
-  pub exits : {E : Type 0} (words : List (List ℕ)) (before : S) (now : S) (old : W) (new : W) (number : ℕ) (result : Result Status E)
+  pub exits : {E : Type 0} (words : List (List ℕ)) (before : S) (now : S) (old : W) (new : W)
+      (number : ℕ) (result : Result Status E)
       → number ≡ exit_number_of result
       → IfOk result (λ s. Answers source sink words before now old new s)
       → OnErr result (now ≡ before) → OnErr result (new ≡ old)
       → Exits source sink words before now old new number
-  exits words before now old new number (Ok s) e a unread unwritten = record { status = s; is_number = e; answers = a }
+  exits words before now old new number (Ok s) e a unread unwritten =
+      record { status = s; is_number = e; answers = a }
   exits words before now old new number (Err error) e a unread unwritten = record {
     status = status.Memory;
     is_number = e;

@@ -31,7 +31,8 @@ pub fn run<P: PeerMethod, M: ServerMethod, S: Source, W: Sink>(
 ) -> u8
     requires { HasBoth P.peer_shown M.server_shown methods }
     ensures answers { IfOk args (λ args. Exits S.shown W.shown
-        (map string_bytes (after_name (into_iter_items args))) source.old source.new sink.old sink.new result) }
+        (map string_bytes (after_name (into_iter_items args)))
+        source.old source.new sink.old sink.new result) }
 
     // If the arguments could not be read, nothing is read or written.
     ensures no_words { IfErr args (λ error. result ≡ failure_number_of (error_kind error)) }
@@ -55,7 +56,8 @@ fn answer<P: PeerMethod, M: ServerMethod, S: Source, W: Sink>(
 ) -> io::Result<Status>
     requires { HasBoth P.peer_shown M.server_shown methods }
     ensures answers { IfOk result (λ status. Answers S.shown W.shown
-        (map string_bytes (after_name (into_iter_items args))) source.old source.new sink.old sink.new status) }
+        (map string_bytes (after_name (into_iter_items args)))
+        source.old source.new sink.old sink.new status) }
     ensures memory { IfErr result (λ error. error_kind error ≡ OutOfMemory) }
     ensures unread { OnErr result (source.new ≡ source.old) }
     ensures unwritten { OnErr result (sink.new ≡ sink.old) }

@@ -21,7 +21,8 @@ reply_kind s = elim s [ state.Success ↦ Accept | state.Failure ↦ Reject | _ 
 
 -- the datagram that answers a request with this EAP packet, from a backend in this state
 abbrev pub answer_to : List ℕ → RadiusPacket → State → List ℕ → List ℕ → List ℕ
-answer_to secret request s state eap = spelled (reply_of secret (number_of (reply_kind s)) request.id request.authenticator state eap)
+answer_to secret request s state eap =
+    spelled (reply_of secret (number_of (reply_kind s)) request.id request.authenticator state eap)
 
 -- what a login that succeeded gives
 abbrev pub report_in : State → Option Report → Option Report

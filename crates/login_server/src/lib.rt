@@ -34,7 +34,8 @@ impl<M: ServerMethod> Session<M> {
         ensures accepted { IsSome result ↔ (IsSoundServer setup
             × (have_each (server_kinds (map M.server_shown methods.items)) setup.methods ≡ true)) }
         ensures initial { IfSome result (λ session. now_of M.server_shown session.backend
-            ≡ initial_backend setup (server_views setup.methods (map M.server_shown methods.items))) }
+            ≡ initial_backend setup
+            (server_views setup.methods (map M.server_shown methods.items))) }
         ensures state { IfSome result (λ session. session.state ≡ state) }
     {
         if Backend::takes(&setup, methods.as_slice()) {
@@ -51,13 +52,19 @@ impl<M: ServerMethod> Session<M> {
     /// discarded.
     #[tactic(auto, unfolding(radius_carry::specs::Fault::value_of))]
     pub fn answer(&mut self, secret: &Secret, datagram: &[u8]) -> Option<Injected>
-        ensures good { IsSome result → (request : RadiusPacket) × IsRequestUnder secret.now datagram.now request }
-        ensures backend { (request : RadiusPacket) → IsRequestUnder secret.now datagram.now request → now_of M.server_shown self.new.backend
-            ≡ (server_receives (now_of M.server_shown self.old.backend) (eap_of request.attributes)).after }
+        ensures good { IsSome result → (request : RadiusPacket)
+            × IsRequestUnder secret.now datagram.now request }
+        ensures backend { (request : RadiusPacket) → IsRequestUnder secret.now datagram.now request
+            → now_of M.server_shown self.new.backend
+            ≡ (server_receives (now_of M.server_shown self.old.backend)
+            (eap_of request.attributes)).after }
         ensures sent { (request : RadiusPacket) → IsRequestUnder secret.now datagram.now request
-            → result ≡ option_map (answer_to secret.now request self.new.backend.vars.state self.old.state)
-            (server_receives (now_of M.server_shown self.old.backend) (eap_of request.attributes)).step.sent }
-        ensures unchanged { IfNone result (now_of M.server_shown self.new.backend ≡ now_of M.server_shown self.old.backend) }
+            → result
+            ≡ option_map (answer_to secret.now request self.new.backend.vars.state self.old.state)
+            (server_receives (now_of M.server_shown self.old.backend)
+            (eap_of request.attributes)).step.sent }
+        ensures unchanged { IfNone result
+            (now_of M.server_shown self.new.backend ≡ now_of M.server_shown self.old.backend) }
         ensures state { self.new.state ≡ self.old.state }
     {
         let request = read_radius(datagram).ok()?;
@@ -89,7 +96,8 @@ impl<M: ServerMethod> Session<M> {
 
     /// What a login that succeeded gives, its keys among it.
     pub fn report(&self) -> Option<Report>
-        ensures { result ≡ report_in self.now.backend.vars.state (server_reports (now_of M.server_shown self.now.backend)) }
+        ensures { result ≡ report_in self.now.backend.vars.state (server_reports
+            (now_of M.server_shown self.now.backend)) }
     {
         if self.backend.state() == State::Success {
             self.backend.report()

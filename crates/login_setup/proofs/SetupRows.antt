@@ -35,7 +35,8 @@ long_psk_key = refl
 pub short_gpsk_key : is_valid_for 51 (replicate 31 7) ≡ false
 short_gpsk_key = refl
 
-pub gpsk_keys : (is_valid_for 51 (replicate 32 7) ≡ true) × (is_valid_for 51 (replicate 64 7) ≡ true)
+pub gpsk_keys : (is_valid_for 51 (replicate 32 7) ≡ true)
+    × (is_valid_for 51 (replicate 64 7) ≡ true)
 gpsk_keys = (refl, refl)
 
 pub long_gpsk_key : is_valid_for 51 (replicate 65 7) ≡ false

@@ -1,5 +1,6 @@
 -- Settings that are sound and settings that aren't, of a peer and of a server, at worked values.
-use Rattle.std.proofs.Common.{◌≡◌, ℕ, Bool, false, List, [], ◌∷◌, Option, Some, None, replicate, refl, sym, ◌∙◌, arith, IsTrue}
+use Rattle.std.proofs.Common.{◌≡◌, ℕ, Bool, false, List, [], ◌∷◌, Option, Some, None, replicate}
+use Rattle.std.proofs.Common.{refl, sym, ◌∙◌, arith, IsTrue}
 use Rattle.std.proofs.lemmas.Bool.{true≢false}
 use Rattle.std.proofs.lemmas.List.Elements.{All-from_recursion}
 use Rattle.octet_lists.specs.Among.{is_kind}
@@ -24,7 +25,13 @@ key size = Some (replicate size 7)
 
 abbrev peer : List ℕ → List ℕ → Option (List ℕ) → Option (List ℕ) → PeerSetup
 peer methods suites psk47 psk51 =
-    record plain_peer { accepts = Any; methods = methods; suites = suites; psk47 = psk47; psk51 = psk51 }
+    record plain_peer {
+      accepts = Any;
+      methods = methods;
+      suites = suites;
+      psk47 = psk47;
+      psk51 = psk51;
+    }
 
 abbrev IsConsumed : PeerSetup → Type 0
 IsConsumed setup = IsSoundPeer setup × HasKeys setup
@@ -86,23 +93,28 @@ suite_three t = not_so _ refl t.0.suites
 suite_twice : IsConsumed (peer (51 ∷ 47 ∷ []) (2 ∷ 2 ∷ []) (key 16) (key 32)) → ⊥
 suite_twice t = not_so _ refl t.0.suites
 
--- ---- a server with these methods and suites, and two users of these kinds with keys of so many octets
+-- ---- a server with these methods and suites, and two users of these kinds with keys of so many
+-- octets
 
 abbrev user : ℕ → ℕ → ℕ → User
-user letter kind size = record { name = letter ∷ []; kind = kind; psk = replicate size 7; barred = false }
+user letter kind size =
+    record { name = letter ∷ []; kind = kind; psk = replicate size 7; barred = false }
 
 abbrev users : ℕ → ℕ → ℕ → ℕ → List User
 users kind size other_kind other_size = user 97 kind size ∷ user 98 other_kind other_size ∷ []
 
 abbrev server : List ℕ → List ℕ → List User → ServerSetup
-server methods suites known = record plain_server { methods = methods; suites = suites; users = known }
+server methods suites known =
+    record plain_server { methods = methods; suites = suites; users = known }
 
 psk_and_gpsk : IsSoundServer (server (51 ∷ 47 ∷ []) both (users 47 16 51 64))
 psk_and_gpsk = record {
   methods = refl;
   suites = refl;
-  kinds = All-from_recursion (λ (it : User). IsTrue (is_kind it.kind)) (users 47 16 51 64) (refl, (refl, tt));
-  keys = All-from_recursion (λ (it : User). IsTrue (is_valid_for it.kind it.psk)) (users 47 16 51 64) (refl, (refl, tt));
+  kinds = All-from_recursion (λ (it : User). IsTrue (is_kind it.kind)) (users 47 16 51 64)
+      (refl, (refl, tt));
+  keys = All-from_recursion (λ (it : User). IsTrue (is_valid_for it.kind it.psk))
+      (users 47 16 51 64) (refl, (refl, tt));
 }
 
 -- a user may be of a method that the server doesn't propose
@@ -110,8 +122,10 @@ no_methods : IsSoundServer (server [] (1 ∷ []) (users 51 32 51 33))
 no_methods = record {
   methods = refl;
   suites = refl;
-  kinds = All-from_recursion (λ (it : User). IsTrue (is_kind it.kind)) (users 51 32 51 33) (refl, (refl, tt));
-  keys = All-from_recursion (λ (it : User). IsTrue (is_valid_for it.kind it.psk)) (users 51 32 51 33) (refl, (refl, tt));
+  kinds = All-from_recursion (λ (it : User). IsTrue (is_kind it.kind)) (users 51 32 51 33)
+      (refl, (refl, tt));
+  keys = All-from_recursion (λ (it : User). IsTrue (is_valid_for it.kind it.psk))
+      (users 51 32 51 33) (refl, (refl, tt));
 }
 
 -- a user of another method, and one with a key of another size, the first and the second

@@ -1,4 +1,5 @@
--- The settings of two ends without methods, keys and users: a worked row changes the fields that it is about.
+-- The settings of two ends without methods, keys and users: a worked row changes the fields that it
+-- is about.
 use Rattle.std.specs.Prelude.{[], ◌∷◌, false, None, codes, replicate}
 use Rattle.login_setup.specs.declared.setup.Accepts.TheVariants.{One}
 use Rattle.login_setup.specs.declared.setup.Mode.TheVariants.{Alone}
@@ -31,4 +32,11 @@ plain_server = record {
 
 -- the server is a stand-alone one, which sends a Request again at most four times
 abbrev pub plain_setup : Setup
-plain_setup = record { mode = Alone; first_id = 0; max_retrans = 4; peer = plain_peer; server = plain_server; later = no_later }
+plain_setup = record {
+  mode = Alone;
+  first_id = 0;
+  max_retrans = 4;
+  peer = plain_peer;
+  server = plain_server;
+  later = no_later;
+}

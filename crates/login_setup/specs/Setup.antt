@@ -1,5 +1,6 @@
 -- When the settings of an end are sound: its methods, its suites and its keys.
-use Rattle.std.specs.Prelude.{ℕ, List, [], length, Bool, true, ◌==◌, ◌&&◌, ◌||◌, if◌then◌else◌, nat_le, IsTrue, Option, None, is_some, IfSome, All}
+use Rattle.std.specs.Prelude.{ℕ, List, [], length, Bool, true, ◌==◌, ◌&&◌, ◌||◌, if◌then◌else◌}
+use Rattle.std.specs.Prelude.{nat_le, IsTrue, Option, None, is_some, IfSome, All}
 use Rattle.std.specs.List.{list_all}
 use Rattle.std.specs.Str.{bytes_eq}
 use Rattle.octet_lists.specs.Among.{are_distinct, is_filled, psk_kind, gpsk_kind, is_kind}
@@ -20,7 +21,8 @@ are_kinds kinds = list_all is_kind kinds && are_distinct kinds
 
 -- whether these are one or two of the suites 1 and 2, each at most once (RFC 5433 section 6)
 abbrev pub are_suites : List ℕ → Bool
-are_suites suites = is_filled suites && (list_all (λ suite. (suite == 1) || (suite == 2)) suites && are_distinct suites)
+are_suites suites = is_filled suites && (list_all (λ suite.
+    (suite == 1) || (suite == 2)) suites && are_distinct suites)
 
 -- whether a key has the octets that the method requires: 16 for EAP-PSK, 32 to 64 for EAP-GPSK
 abbrev pub is_valid_for : ℕ → List ℕ → Bool

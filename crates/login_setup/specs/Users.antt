@@ -1,5 +1,6 @@
 -- The users of a server: at most 16, with distinct pairs of a name and a method.
-use Rattle.std.specs.Prelude.{◌≡◌, ℕ, ◌<◌, ◌≤◌, List, length, Bool, false, ◌&&◌, ◌==◌, Option, None, find, AllPairs}
+use Rattle.std.specs.Prelude.{◌≡◌, ℕ, ◌<◌, ◌≤◌, List, length, Bool, false, ◌&&◌, ◌==◌, Option, None}
+use Rattle.std.specs.Prelude.{find, AllPairs}
 use Rattle.std.specs.Str.{bytes_eq}
 use Rattle.login_setup.specs.declared.users.User.{User}
 
@@ -15,7 +16,8 @@ user_of users name kind = find (is_named name kind) users
 abbrev pub max_users : ℕ
 max_users = 16
 
--- there is room for the user: fewer than so many and fewer than 16 are there, and none has its name and kind
+-- there is room for the user: fewer than so many and fewer than 16 are there, and none has its name
+-- and kind
 pub record HasCapacity (most : ℕ) (users : List User) (user : User) : Type 0 where
   pub few : length users < most
   pub bounded : length users < max_users

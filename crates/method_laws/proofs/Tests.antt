@@ -26,17 +26,21 @@ equal_suites Hmac Cmac e = absurd (false≢true e)
 equal_suites Hmac Hmac e = refl
 
 -- the tag that EAX accepts is the one that it makes
-pub equal_tags : (key nonce header ciphertext tag : List ℕ) → eax_accepts key nonce header ciphertext tag ≡ true
+pub equal_tags : (key nonce header ciphertext tag : List ℕ)
+    → eax_accepts key nonce header ciphertext tag ≡ true
     → eax_tag key nonce header ciphertext ≡ tag
 unfolding eax_accepts
-equal_tags key nonce header ciphertext tag e = equal_octets (eax_tag key nonce header ciphertext) tag e
+equal_tags key nonce header ciphertext tag e =
+    equal_octets (eax_tag key nonce header ciphertext) tag e
 
 -- of an octet that is no fault, R is 3 where it isn't 2
-pub failure_left : (octet : ℕ) → (result_of octet == 0) ≡ false → is_extended octet ≡ false → (result_of octet == done_success) ≡ false
+pub failure_left : (octet : ℕ) → (result_of octet == 0) ≡ false → is_extended octet ≡ false
+    → (result_of octet == done_success) ≡ false
     → octet < 256 → result_of octet ≡ done_failure
 failure_left octet not_zero is_plain not_two fits =
     let not_0 = eqb-false (result_of octet) 0 not_zero in
-    let not_1 = eqb-false (result_of octet) 1 (or_parts (octet / 32 % 2 == 1) (result_of octet == 1) is_plain).1 in
+    let not_1 = eqb-false (result_of octet) 1
+    (or_parts (octet / 32 % 2 == 1) (result_of octet == 1) is_plain).1 in
     let not_2 = eqb-false (result_of octet) 2 not_two in
     omega arith
 
@@ -45,5 +49,6 @@ failure_left octet not_zero is_plain not_two fits =
 pub bytes_same : (octets : List ℕ) → bytes_eq octets octets ≡ true
 bytes_same octets = (bytes_eq-Decides octets octets).1 refl
 
-pub no_fault : (test : Bool) (cause : Cause) (rest : Option Cause) → test ≡ true → fault_if (not test) cause rest ≡ rest
+pub no_fault : (test : Bool) (cause : Cause) (rest : Option Cause) → test ≡ true
+    → fault_if (not test) cause rest ≡ rest
 no_fault test cause rest e = ap (λ t. fault_if (not t) cause rest) e

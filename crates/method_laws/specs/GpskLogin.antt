@@ -45,31 +45,44 @@ pub record Compatible (ends : Ends) : Type 0 where
 
 -- the login as each end keeps it
 abbrev pub peer_login : Ends → peer.Login
-peer_login ends = peer_rows.login_from ends.cred ends.nonce ends.own.id_s ends.setup_with_nonce ends.suite
+peer_login ends =
+    peer_rows.login_from ends.cred ends.nonce ends.own.id_s ends.setup_with_nonce ends.suite
 
 abbrev pub server_login : Ends → server.Login
-server_login ends = server_rows.login_from ends.own ends.setup_with_nonce ends.cred.id_p ends.user ends.nonce ends.suite
+server_login ends = server_rows.login_from ends.own ends.setup_with_nonce ends.cred.id_p ends.user
+    ends.nonce ends.suite
 
 -- each turn accepts what the other end has sent, and both ends end in success with the same keys
 pub record IsSuccessful (ends : Ends) (id next_id last_id : ℕ) : Type 0 where
   pub begins : server.first_step (server.begun ends.own ends.setup_with_nonce) id
-      ≡ record { packet = gpsk_request id (server.gpsk1_of ends.own ends.setup_with_nonce); after = server.asked ends.own ends.setup_with_nonce }
-  pub answers : peer.step (peer.fresh ends.cred ends.nonce) (gpsk_request id (server.gpsk1_of ends.own ends.setup_with_nonce))
-      ≡ replied (peer.wait (peer_login ends)) (gpsk_response id (peer.gpsk2_of (peer_login ends) (suite_list ends.own.suites))) Cont Fail []
+      ≡ record {
+        packet = gpsk_request id (server.gpsk1_of ends.own ends.setup_with_nonce);
+        after = server.asked ends.own ends.setup_with_nonce;
+      }
+  pub answers : peer.step (peer.fresh ends.cred ends.nonce)
+      (gpsk_request id (server.gpsk1_of ends.own ends.setup_with_nonce))
+      ≡ replied (peer.wait (peer_login ends))
+      (gpsk_response id (peer.gpsk2_of (peer_login ends) (suite_list ends.own.suites))) Cont Fail []
       (sk_record ends.cred.psk (peer.gpsk2_of (peer_login ends) (suite_list ends.own.suites)) ∷ [])
   pub checks : server.step ends.users next_id (server.asked ends.own ends.setup_with_nonce)
       (gpsk_response id (peer.gpsk2_of (peer_login ends) (suite_list ends.own.suites)))
-      ≡ requested (server.checked (server_login ends)) (gpsk_request next_id (server.gpsk3_of (server_login ends)))
+      ≡ requested (server.checked (server_login ends))
+      (gpsk_request next_id (server.gpsk3_of (server_login ends)))
       (sk_record ends.user.psk (peer.gpsk2_of (peer_login ends) (suite_list ends.own.suites)) ∷ [])
       (sk_record ends.user.psk (server.gpsk3_of (server_login ends)) ∷ [])
-  pub confirms : peer.step (peer.wait (peer_login ends)) (gpsk_request next_id (server.gpsk3_of (server_login ends)))
-      ≡ replied (peer.over (peer_login ends) true) (gpsk_response next_id (peer.gpsk4_of (peer_login ends))) Done CondSucc
+  pub confirms : peer.step (peer.wait (peer_login ends))
+      (gpsk_request next_id (server.gpsk3_of (server_login ends)))
+      ≡ replied (peer.over (peer_login ends) true)
+      (gpsk_response next_id (peer.gpsk4_of (peer_login ends))) Done CondSucc
       (sk_record ends.cred.psk (server.gpsk3_of (server_login ends)) ∷ [])
       (sk_record ends.cred.psk (peer.gpsk4_of (peer_login ends)) ∷ [])
-  pub finishes : server.step ends.users last_id (server.checked (server_login ends)) (gpsk_response next_id (peer.gpsk4_of (peer_login ends)))
-      ≡ done (server.over (server_login ends) true) true (sk_record ends.user.psk (peer.gpsk4_of (peer_login ends)) ∷ [])
+  pub finishes : server.step ends.users last_id (server.checked (server_login ends))
+      (gpsk_response next_id (peer.gpsk4_of (peer_login ends)))
+      ≡ done (server.over (server_login ends) true) true
+      (sk_record ends.user.psk (peer.gpsk4_of (peer_login ends)) ∷ [])
   pub same_keys : peer.keys_of (peer_login ends) ≡ server.keys_of (server_login ends)
 
 -- a login between ends that fit goes through
 abbrev pub GpskLoginsGoThrough : Type 0
-GpskLoginsGoThrough = (ends : Ends) (id next_id last_id : ℕ) → Compatible ends → IsSuccessful ends id next_id last_id
+GpskLoginsGoThrough =
+    (ends : Ends) (id next_id last_id : ℕ) → Compatible ends → IsSuccessful ends id next_id last_id

@@ -13,11 +13,13 @@ use Rattle.eap_method.specs.declared.values.Decision.TheVariants.{Fail, CondSucc
 use Rattle.eap_method.specs.GpskTags.{gpsk_response, sk_record}
 use Rattle.login_setup.specs.Setup.{accepts_name}
 use Rattle.eap_method.specs.Turns.{PeerOutcome, id_of, body_of, discarded, replied}
-use Rattle.eap_method.specs.GpskPeer.{Login, View, fresh, wait, over, keys_of, gpsk2_of, gpsk4_of, protected_fail_of, repeats, is_tagged_by, step}
+use Rattle.eap_method.specs.GpskPeer.{Login, View, fresh, wait, over, keys_of, gpsk2_of, gpsk4_of}
+use Rattle.eap_method.specs.GpskPeer.{protected_fail_of, repeats, is_tagged_by, step}
 
 -- the login that begins at GPSK-1
 abbrev pub login_from : Credential → List ℕ → List ℕ → List ℕ → Suite → Login
-login_from cred nonce id_s rand_s suite = record { cred = cred; nonce = nonce; id_s = id_s; rand_s = rand_s; suite = suite }
+login_from cred nonce id_s rand_s
+    suite = record { cred = cred; nonce = nonce; id_s = id_s; rand_s = rand_s; suite = suite }
 
 -- the outcome of a turn in this view for these octets
 pub data GpskPeerRow (view : View) (octets : List ℕ) : PeerOutcome View → Type 0 where
@@ -31,19 +33,22 @@ pub data GpskPeerRow (view : View) (octets : List ℕ) : PeerOutcome View → Ty
       (picked : picked_suite cred.suites list ≡ Some suite)
       → GpskPeerRow view octets
       (replied (wait (login_from cred nonce id_s rand_s suite))
-      (gpsk_response (id_of octets) (gpsk2_of (login_from cred nonce id_s rand_s suite) list)) Cont Fail []
+      (gpsk_response (id_of octets) (gpsk2_of (login_from cred nonce id_s rand_s suite) list))
+      Cont Fail []
       (sk_record cred.psk (gpsk2_of (login_from cred nonce id_s rand_s suite) list) ∷ []))
   -- GPSK-3 is answered by GPSK-4
   confirms : (login : Login) (rand_p rand_s id_s : List ℕ) (suite : Suite) (pd mac : List ℕ)
       (in_view : view ≡ wait login)
-      (is_read : read_of (Some (ks_of login.suite)) (body_of octets) ≡ Ok (gpsk3 rand_p rand_s id_s suite pd mac))
+      (is_read : read_of (Some (ks_of login.suite)) (body_of octets)
+      ≡ Ok (gpsk3 rand_p rand_s id_s suite pd mac))
       (repeated : repeats login rand_p rand_s id_s suite ≡ true)
       (setup_with_nonce : rand_p ≡ login.nonce)
       (their_nonce : rand_s ≡ login.rand_s)
       (their_name : id_s ≡ login.id_s)
       (one_suite : suite ≡ login.suite)
       (is_tagged : is_tagged_by login (gpsk3 rand_p rand_s id_s suite pd mac) ≡ true)
-      (has_mac : gpsk_tag_of login.suite (keys_of login).sk (covered_of (gpsk3 rand_p rand_s id_s suite pd mac)) ≡ mac)
+      (has_mac : gpsk_tag_of login.suite (keys_of login).sk (covered_of
+      (gpsk3 rand_p rand_s id_s suite pd mac)) ≡ mac)
       → GpskPeerRow view octets
       (replied (over login true) (gpsk_response (id_of octets) (gpsk4_of login)) Done CondSucc
       (sk_record login.cred.psk (gpsk3 rand_p rand_s id_s suite pd mac) ∷ [])
@@ -52,16 +57,18 @@ pub data GpskPeerRow (view : View) (octets : List ℕ) : PeerOutcome View → Ty
   repeats_fail : (login : Login) (code : ℕ)
       (in_view : view ≡ wait login)
       (is_read : read_of (Some (ks_of login.suite)) (body_of octets) ≡ Ok (fail code))
-      → GpskPeerRow view octets (replied (over login false) (gpsk_response (id_of octets) (fail code)) MayCont Fail [] [])
+      → GpskPeerRow view octets
+      (replied (over login false) (gpsk_response (id_of octets) (fail code)) MayCont Fail [] [])
   -- GPSK-Protected-Fail is answered by one with the same code
   repeats_protected : (login : Login) (code : ℕ) (mac : List ℕ)
       (in_view : view ≡ wait login)
       (is_read : read_of (Some (ks_of login.suite)) (body_of octets) ≡ Ok (protected_fail code mac))
       (is_tagged : is_tagged_by login (protected_fail code mac) ≡ true)
-      (has_mac : gpsk_tag_of login.suite (keys_of login).sk (covered_of (protected_fail code mac)) ≡ mac)
+      (has_mac : gpsk_tag_of login.suite (keys_of login).sk (covered_of (protected_fail code mac))
+      ≡ mac)
       → GpskPeerRow view octets
-      (replied (over login false) (gpsk_response (id_of octets) (protected_fail_of login code)) MayCont Fail
-      (sk_record login.cred.psk (protected_fail code mac) ∷ [])
+      (replied (over login false) (gpsk_response (id_of octets) (protected_fail_of login code))
+      MayCont Fail (sk_record login.cred.psk (protected_fail code mac) ∷ [])
       (sk_record login.cred.psk (protected_fail_of login code) ∷ []))
 
 -- each turn is one of the rows

@@ -1,7 +1,9 @@
 -- The lines of an input without their reader: its octets, cut at each LF.
-use Rattle.std.specs.Prelude.{◌≡◌, ℕ, List, [], ◌∷◌, ◌++◌, length, Bool, true, false, ◌==◌, ◌&&◌, not, nat_le, if◌then◌else◌}
+use Rattle.std.specs.Prelude.{◌≡◌, ℕ, List, [], ◌∷◌, ◌++◌, length, Bool, true, false, ◌==◌, ◌&&◌}
+use Rattle.std.specs.Prelude.{not, nat_le, if◌then◌else◌}
 use Rattle.std.specs.List.{slice_split, list_all}
-use Rattle.octet_io.specs.Lines.{Lines, ended, too_long, too_much, line, lines, without_cr, max_line, max_input}
+use Rattle.octet_io.specs.Lines.{Lines, ended, too_long, too_much, line, lines, without_cr}
+use Rattle.octet_io.specs.Lines.{max_line, max_input}
 
 -- the pieces between the LFs; no LF ends the last of them
 abbrev pub pieces : List ℕ → List (List ℕ)
@@ -16,7 +18,8 @@ last_of (piece ∷ next ∷ rest) = last_of (next ∷ rest)
 abbrev pub whole_lines : List (List ℕ) → Lines → Lines
 whole_lines [] then_these = then_these
 whole_lines (piece ∷ []) then_these = then_these
-whole_lines (piece ∷ next ∷ rest) then_these = line (without_cr piece) (whole_lines (next ∷ rest) then_these)
+whole_lines (piece ∷ next ∷ rest) then_these =
+    line (without_cr piece) (whole_lines (next ∷ rest) then_these)
 
 -- the last piece is a line as it is, but for an empty one
 abbrev pub last_line : List ℕ → Lines
@@ -46,13 +49,15 @@ is_past_line front octet = not (octet == 10) && nat_le max_line (length (last_of
 -- within the limits the lines are the pieces
 abbrev pub LinesAreThePieces : Type 0
 LinesAreThePieces =
-    (octets : List ℕ) → is_within octets ≡ true → lines octets ≡ whole_lines (pieces octets) (last_line (last_of (pieces octets)))
+    (octets : List ℕ) → is_within octets ≡ true
+    → lines octets ≡ whole_lines (pieces octets) (last_line (last_of (pieces octets)))
 
 -- else they end at the first octet past a limit, before the line that is begun there
 abbrev pub LinesEndAtALimit : Type 0
 LinesEndAtALimit =
     (octets : List ℕ) (at : FirstPast octets) →
-    lines octets ≡ whole_lines (pieces at.front) (if is_past_line at.front at.octet then too_long else too_much)
+    lines octets
+    ≡ whole_lines (pieces at.front) (if is_past_line at.front at.octet then too_long else too_much)
 
 -- and there is one
 abbrev pub SomeOctetIsPast : Type 0

@@ -1,14 +1,18 @@
 -- What the octets that a reader has buffered do to a line that is begun.
-use Rattle.std.specs.Prelude.{◌≡◌, ◌≢◌, ℕ, ◌+◌, ◌<◌, ◌≤◌, List, [], ◌∷◌, ◌++◌, length, min, Option, option_map}
-use Rattle.octet_io.specs.Lines.{Lines, LineReading, lines_from, lines_left, max_line, max_input, Divides}
+use Rattle.std.specs.Prelude.{◌≡◌, ◌≢◌, ℕ, ◌+◌, ◌<◌, ◌≤◌, List, [], ◌∷◌, ◌++◌, length, min, Option}
+use Rattle.std.specs.Prelude.{option_map}
+use Rattle.octet_io.specs.Lines.{Lines, LineReading, lines_from, lines_left, max_line, max_input}
+use Rattle.octet_io.specs.Lines.{Divides}
 use Rattle.octet_io.specs.declared.lines.NextLine.TheVariants.{Line, End, TooLong, TooMuch, Read}
 use Rattle.octet_io.specs.declared.lines.NextLine.{NextLine}
 use Rattle.octet_io.specs.declared.lines.Step.{Step}
-use Rattle.octet_io.specs.declared.lines.Step.TheVariants.{HasContinued, EndsLine, PassesLine, PassesInput}
+use Rattle.octet_io.specs.declared.lines.Step.TheVariants.{HasContinued, EndsLine, PassesLine}
+use Rattle.octet_io.specs.declared.lines.Step.TheVariants.{PassesInput}
 
 -- the lines that are still to come in mid-line, if the source shows what it has left
 abbrev pub lines_within : LineReading → Option (List ℕ) → Option Lines
-lines_within reader left = option_map (λ octets. lines_from reader.taken reader.line (reader.held ++ octets)) left
+lines_within reader left =
+    option_map (λ octets. lines_from reader.taken reader.line (reader.held ++ octets)) left
 
 -- what the lines that were to come are after a step, if the source has these octets left
 abbrev pub Advances : Step → LineReading → Option Lines → Option (List ℕ) → Type 0
@@ -19,7 +23,8 @@ Advances PassesInput now before left = Divides TooMuch now.line before (lines_le
 
 -- how many octets a step takes: those that join the line, and its LF
 abbrev pub ConsumesOctets : Step → LineReading → LineReading → Type 0
-ConsumesOctets HasContinued before after = (before.taken < after.taken) × (after.taken + length before.line ≡ before.taken + length after.line)
+ConsumesOctets HasContinued before after = (before.taken < after.taken)
+    × (after.taken + length before.line ≡ before.taken + length after.line)
 ConsumesOctets EndsLine before after = before.taken < after.taken
 ConsumesOctets PassesLine before after = before.taken ≤ after.taken
 ConsumesOctets PassesInput before after = before.taken ≤ after.taken

@@ -1,7 +1,8 @@
 -- The lines of an input. A line ends with LF, and one CR directly before the LF is no part of it.
 -- The last line may lack its LF. A line has at most 4,096 octets, its CR among them, and the input
 -- at most 16,777,216.
-use Rattle.std.specs.Prelude.{◌≡◌, ℕ, ◌+◌, ◌<◌, List, [], ◌∷◌, ◌++◌, length, Bool, true, false, ◌==◌, ◌&&◌, not, if◌then◌else◌, Option, option_map, nat_le, min, ◌-◌}
+use Rattle.std.specs.Prelude.{◌≡◌, ℕ, ◌+◌, ◌<◌, List, [], ◌∷◌, ◌++◌, length, Bool, true, false}
+use Rattle.std.specs.Prelude.{◌==◌, ◌&&◌, not, if◌then◌else◌, Option, option_map, nat_le, min, ◌-◌}
 use Rattle.octet_io.specs.Known.{nothing_known}
 use Rattle.octet_io.specs.Shown.{Shown, HasRisen}
 use Rattle.octet_io.specs.declared.lines.NextLine.{NextLine}
@@ -54,7 +55,8 @@ pub record LineReading : Type 0 where
 
 -- the lines that are still to come, if the source shows what it has left
 abbrev pub lines_left : LineReading → Option (List ℕ) → Option Lines
-lines_left reader left = option_map (λ octets. lines_from reader.taken [] (reader.held ++ octets)) left
+lines_left reader left =
+    option_map (λ octets. lines_from reader.taken [] (reader.held ++ octets)) left
 
 -- how one answer divides the lines that were to come: into the line and those after it, or it is
 -- how they end

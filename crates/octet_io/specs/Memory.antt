@@ -1,5 +1,6 @@
 -- Sources and sinks in memory, which fail at the calls that a list names.
-use Rattle.std.specs.Prelude.{ℕ, ◌+◌, ◌-◌, List, ◌++◌, length, take, drop, min, Bool, ◌&&◌, ◌||◌, nat_lt, nat_le}
+use Rattle.std.specs.Prelude.{ℕ, ◌+◌, ◌-◌, List, ◌++◌, length, take, drop, min, Bool, ◌&&◌, ◌||◌}
+use Rattle.std.specs.Prelude.{nat_lt, nat_le}
 use Rattle.octet_lists.specs.Among.{is_among}
 
 -- the last number that such a list can name
@@ -45,14 +46,17 @@ read_count source size = min (min source.piece size) (length source.left)
 
 -- the source after a read of so many octets, and after one that failed
 abbrev pub after_read : SourceMemory → ℕ → SourceMemory
-after_read source count = record source { left = drop count source.left; calls = next_call source.calls }
+after_read source
+    count = record source { left = drop count source.left; calls = next_call source.calls }
 
 abbrev pub after_read_fault : SourceMemory → SourceMemory
-after_read_fault source = record source { calls = next_call source.calls; faults = source.faults + 1 }
+after_read_fault
+    source = record source { calls = next_call source.calls; faults = source.faults + 1 }
 
 -- whether a write fails: its call is listed, or there is something to write and no room
 abbrev pub write_fails : SinkMemory → List ℕ → Bool
-write_fails sink octets = is_listed sink.failing sink.calls || (nat_lt 0 (length octets) && nat_le sink.room (length sink.written))
+write_fails sink octets = is_listed sink.failing sink.calls
+    || (nat_lt 0 (length octets) && nat_le sink.room (length sink.written))
 
 -- how many of so many octets a write takes
 abbrev pub write_count : SinkMemory → ℕ → ℕ
@@ -60,7 +64,11 @@ write_count sink size = min (min sink.piece size) (sink.room - length sink.writt
 
 -- the sink after a write took the first so many octets, and after one that failed
 abbrev pub after_write : SinkMemory → List ℕ → ℕ → SinkMemory
-after_write sink octets count = record sink { written = sink.written ++ take count octets; calls = next_call sink.calls }
+after_write sink octets count = record sink {
+  written = sink.written ++ take count octets;
+  calls = next_call sink.calls;
+}
 
 abbrev pub after_write_fault : SinkMemory → SinkMemory
-after_write_fault sink = record sink { calls = next_call sink.calls; faults = next_fault sink.faults }
+after_write_fault
+    sink = record sink { calls = next_call sink.calls; faults = next_fault sink.faults }

@@ -43,8 +43,10 @@ impl ReadBuffer {
     /// none left.
     pub fn fill<S: Source>(&mut self, source: &mut S) -> Result<usize, Failed>
         ensures count { IfOk result (λ n. n ≡ length self.new) }
-        ensures gives { IfOk result (λ n. S.shown.octets source.old ≡ prepend_known self.new (S.shown.octets source.new)) }
-        ensures over { IfOk result (λ n. n ≡ 0 → S.shown.octets source.new ≡ nothing_known (S.shown.octets source.new)) }
+        ensures gives { IfOk result
+            (λ n. S.shown.octets source.old ≡ prepend_known self.new (S.shown.octets source.new)) }
+        ensures over { IfOk result
+            (λ n. n ≡ 0 → S.shown.octets source.new ≡ nothing_known (S.shown.octets source.new)) }
         ensures counted { OnErr result (HasRisen S.shown source.old source.new) }
         ensures uncounted { OnOk result (S.shown.faults source.new ≡ S.shown.faults source.old) }
         ensures never_falls { S.shown.faults source.old ≤ S.shown.faults source.new }

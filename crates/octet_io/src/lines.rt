@@ -1,6 +1,7 @@
 //! Reading a source line by line.
 
-ghost use Rattle.std.specs.Prelude.{◌≡◌, ◌≤◌, ◌<◌, ◌+◌, false, length, drop, ℕ, List, Option, [], ◌∷◌, ◌==◌};
+ghost use Rattle.std.specs.Prelude.{◌≡◌, ◌≤◌, ◌<◌, ◌+◌, false, length, drop, ℕ, List, Option, []};
+ghost use Rattle.std.specs.Prelude.{◌∷◌, ◌==◌};
 ghost use Rattle.std.specs.List.{position, position_or_len};
 ghost use Rattle.octet_io.specs.Known.{nothing_known};
 ghost use Rattle.octet_io.specs.Lines.{without_cr};
@@ -69,8 +70,10 @@ impl Model for LineReader {
 impl LineReader {
     ghost use Rattle.std.specs.Prelude.{[], Some};
     ghost use Rattle.octet_io.specs.declared.lines.NextLine.TheVariants.{Line};
-    ghost use Rattle.octet_io.specs.Lines.{lines_left, Divides, Numbers, StartsAt, ConsumesSome, Exhausts, Faults, is_last, max_line, max_input};
-    ghost use Rattle.octet_io.specs.LineSteps.{Advances, ConsumesOctets, Stops, lines_within, initiated_by, end_answer};
+    ghost use Rattle.octet_io.specs.Lines.{lines_left, Divides, Numbers, StartsAt, ConsumesSome};
+    ghost use Rattle.octet_io.specs.Lines.{Exhausts, Faults, is_last, max_line, max_input};
+    ghost use Rattle.octet_io.specs.LineSteps.{Advances, ConsumesOctets, Stops, lines_within};
+    ghost use Rattle.octet_io.specs.LineSteps.{initiated_by, end_answer};
 
     /// A reader that has read nothing.
     pub fn new() -> LineReader
@@ -92,7 +95,8 @@ impl LineReader {
 
         // The lines are those of the octets that the reader has buffered and the source has left,
         // however they are cut into reads.
-        ensures lines { Divides result self.new.line (lines_left self.old (S.shown.octets source.old)) (lines_left self.new (S.shown.octets source.new)) }
+        ensures lines { Divides result self.new.line (lines_left self.old
+            (S.shown.octets source.old)) (lines_left self.new (S.shown.octets source.new)) }
         ensures number { Numbers result self.old.number self.new.number }
         ensures started { StartsAt result self.old self.new }
         ensures over { self.new.over ≡ is_last result }
@@ -123,13 +127,15 @@ impl LineReader {
     fn read_line<S: Source>(&mut self, source: &mut S) -> NextLine
         requires empty_line { self.old.line ≡ [] }
         requires bounded { self.old.taken ≤ max_input }
-        ensures lines { Divides result self.new.line (lines_within self.old (S.shown.octets source.old)) (lines_left self.new (S.shown.octets source.new)) }
+        ensures lines { Divides result self.new.line (lines_within self.old
+            (S.shown.octets source.old)) (lines_left self.new (S.shown.octets source.new)) }
         ensures number { self.new.number ≡ self.old.number }
         ensures over { self.new.over ≡ self.old.over }
         ensures consumes { ConsumesSome result self.old.taken self.new.taken }
         ensures bounded { self.new.taken ≤ max_input }
         ensures grows { self.old.taken ≤ self.new.taken }
-        ensures initial { result ≡ NextLine.Read → self.new.taken ≡ self.old.taken + length self.new.line }
+        ensures initial { result ≡ NextLine.Read
+            → self.new.taken ≡ self.old.taken + length self.new.line }
         ensures exhausted { Exhausts result (S.shown.octets source.new) }
 
         ensures read { Faults S.shown result source.old source.new }
@@ -155,7 +161,8 @@ impl LineReader {
     /// Consumes the octets that it has buffered, up to the end of the line or to a limit.
     fn consume_stretch(&mut self) -> Step
         requires some { 0 < length self.old.held }
-        ensures lines { (left : Option (List ℕ)) → Advances result self.new (lines_within self.old left) left }
+        ensures lines { (left : Option (List ℕ))
+            → Advances result self.new (lines_within self.old left) left }
         ensures consumes { ConsumesOctets result self.old self.new }
         ensures number { self.new.number ≡ self.old.number }
         ensures over { self.new.over ≡ self.old.over }
@@ -173,9 +180,12 @@ impl LineReader {
 
     /// Consumes the octets that it has buffered before the first LF, as many as pass no limit.
     fn next_stretch(&mut self)
-        ensures lines { (left : Option (List ℕ)) → lines_within self.old left ≡ lines_within self.new left }
-        ensures consumed { self.new.taken + length self.old.line ≡ self.old.taken + length self.new.line }
-        ensures some { self.new.taken + length self.new.held ≡ self.old.taken + length self.old.held }
+        ensures lines { (left : Option (List ℕ))
+            → lines_within self.old left ≡ lines_within self.new left }
+        ensures consumed { self.new.taken + length self.old.line
+            ≡ self.old.taken + length self.new.line }
+        ensures some { self.new.taken + length self.new.held
+            ≡ self.old.taken + length self.old.held }
         ensures grows { self.old.taken ≤ self.new.taken }
         ensures stops { Stops self.new }
         ensures number { self.new.number ≡ self.old.number }
@@ -195,7 +205,8 @@ impl LineReader {
     fn meet(&mut self, octet: u8) -> Step
         requires next { self.old.held ≡ octet ∷ drop 1 self.old.held }
         requires stops { Stops self.old }
-        ensures lines { (left : Option (List ℕ)) → Advances result self.new (lines_within self.old left) left }
+        ensures lines { (left : Option (List ℕ))
+            → Advances result self.new (lines_within self.old left) left }
         ensures consumes { ConsumesOctets result self.old self.new }
         ensures number { self.new.number ≡ self.old.number }
         ensures over { self.new.over ≡ self.old.over }
@@ -232,7 +243,10 @@ impl LineReader {
         requires alive { self.old.over ≡ false }
         requires counted { self.old.number ≤ self.old.taken }
         requires capacity { answer ≡ Line → self.old.number < self.old.taken }
-        ensures { self.new ≡ record self.old { number = self.old.number + initiated_by answer self.old.line; over = is_last answer } }
+        ensures { self.new ≡ record self.old {
+          number = self.old.number + initiated_by answer self.old.line;
+          over = is_last answer;
+        } }
     {
         let has_initiated = match answer {
             NextLine::End => false,

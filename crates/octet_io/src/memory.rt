@@ -1,8 +1,11 @@
 //! A source and a sink in memory, which show their octets and fail at the calls that a list names.
 
-ghost use Rattle.std.specs.Prelude.{◌≡◌, ◌≤◌, ◌<◌, ◌++◌, ◌↔◌, [], length, take, drop, Some, IfOk, IsErr, OnOk, OnErr, IsTrue};
+ghost use Rattle.std.specs.Prelude.{◌≡◌, ◌≤◌, ◌<◌, ◌++◌, ◌↔◌, [], length, take, drop, Some, IfOk};
+ghost use Rattle.std.specs.Prelude.{IsErr, OnOk, OnErr, IsTrue};
 ghost use Rattle.octet_io.specs.Known.{prepend_known, append_known, nothing_known};
-ghost use Rattle.octet_io.specs.Memory.{is_listed, last_fault, read_count, after_read, after_read_fault, write_fails, write_count, after_write, after_write_fault};
+ghost use Rattle.octet_io.specs.Memory.{is_listed, last_fault, read_count, after_read};
+ghost use Rattle.octet_io.specs.Memory.{after_read_fault, write_fails, write_count, after_write};
+ghost use Rattle.octet_io.specs.Memory.{after_write_fault};
 
 use crate::calls::Calls;
 use crate::sink::Sink;
@@ -41,7 +44,13 @@ impl MemSource {
         failing: &[u32],
     ) -> Result<MemSource, AllocError>
         requires { 0 < piece }
-        ensures { IfOk result (λ source. source ≡ record { left = octets.now; piece = piece; failing = failing.now; calls = 0; faults = 0 }) }
+        ensures { IfOk result (λ source. source ≡ record {
+          left = octets.now;
+          piece = piece;
+          failing = failing.now;
+          calls = 0;
+          faults = 0;
+        }) }
     {
         Ok(MemSource {
             unread: Unread::new(alloc, octets)?,
@@ -59,8 +68,10 @@ impl Source for MemSource {
 
     fn read(&mut self, buf: &mut [u8]) -> Result<usize, Failed>
         ensures bounded { IfOk result (λ n. n ≤ length buf.old) }
-        ensures consumed { IfOk result (λ n. Some self.old.left ≡ prepend_known (take n buf.new) (Some self.new.left)) }
-        ensures over { IfOk result (λ n. n ≡ 0 → 0 < length buf.old → Some self.new.left ≡ nothing_known (Some self.new.left)) }
+        ensures consumed { IfOk result
+            (λ n. Some self.old.left ≡ prepend_known (take n buf.new) (Some self.new.left)) }
+        ensures over { IfOk result (λ n. n ≡ 0 → 0 < length buf.old
+            → Some self.new.left ≡ nothing_known (Some self.new.left)) }
         ensures counted { OnErr result (self.old.faults < self.new.faults) }
         ensures uncounted { OnOk result (self.new.faults ≡ self.old.faults) }
         ensures never_falls { self.old.faults ≤ self.new.faults }
@@ -122,7 +133,14 @@ impl MemSink {
         failing: &[u32],
     ) -> Result<MemSink, AllocError>
         requires { 0 < piece }
-        ensures { IfOk result (λ sink. sink ≡ record { written = []; room = room; piece = piece; failing = failing.now; calls = 0; faults = 0 }) }
+        ensures { IfOk result (λ sink. sink ≡ record {
+          written = [];
+          room = room;
+          piece = piece;
+          failing = failing.now;
+          calls = 0;
+          faults = 0;
+        }) }
     {
         Ok(MemSink {
             octets: Vec::with_capacity(alloc, room)?,
@@ -150,9 +168,11 @@ impl Sink for MemSink {
     fn write(&mut self, piece: &[u8]) -> Result<usize, Failed>
         ensures moves { IfOk result (λ n. 0 < length piece.now → 0 < n) }
         ensures bounded { IfOk result (λ n. n ≤ length piece.now) }
-        ensures appended { IfOk result (λ n. append_known (Some self.old.written) (take n piece.now) ≡ Some self.new.written) }
+        ensures appended { IfOk result
+            (λ n. append_known (Some self.old.written) (take n piece.now) ≡ Some self.new.written) }
         ensures unchanged { OnErr result (Some self.new.written ≡ Some self.old.written) }
-        ensures counted { OnErr result (self.new.faults ≤ self.old.faults → Some last_fault ≡ Some self.new.faults) }
+        ensures counted { OnErr result
+            (self.new.faults ≤ self.old.faults → Some last_fault ≡ Some self.new.faults) }
         ensures uncounted { OnOk result (self.new.faults ≡ self.old.faults) }
         ensures never_falls { self.old.faults ≤ self.new.faults }
         ensures never_passes { self.new.faults ≤ last_fault }

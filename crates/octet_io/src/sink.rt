@@ -20,7 +20,8 @@ pub trait Sink {
     fn write(&mut self, piece: &[u8]) -> Result<usize, Failed>
         ensures moves { IfOk result (λ n. 0 < length piece.now → 0 < n) }
         ensures bounded { IfOk result (λ n. n ≤ length piece.now) }
-        ensures appended { IfOk result (λ n. append_known (shown.octets self.old) (take n piece.now) ≡ shown.octets self.new) }
+        ensures appended { IfOk result
+            (λ n. append_known (shown.octets self.old) (take n piece.now) ≡ shown.octets self.new) }
         ensures unchanged { OnErr result (shown.octets self.new ≡ shown.octets self.old) }
         ensures counted { OnErr result (HasRisen shown self.old self.new) }
         ensures uncounted { OnOk result (shown.faults self.new ≡ shown.faults self.old) }

@@ -24,8 +24,10 @@ pub trait Source {
     /// rose, or is at its last value, which it never passes; without `Failed` it is as it was.
     fn read(&mut self, buf: &mut [u8]) -> Result<usize, Failed>
         ensures bounded { IfOk result (λ n. n ≤ length buf.old) }
-        ensures consumed { IfOk result (λ n. shown.octets self.old ≡ prepend_known (take n buf.new) (shown.octets self.new)) }
-        ensures over { IfOk result (λ n. n ≡ 0 → 0 < length buf.old → shown.octets self.new ≡ nothing_known (shown.octets self.new)) }
+        ensures consumed { IfOk result
+            (λ n. shown.octets self.old ≡ prepend_known (take n buf.new) (shown.octets self.new)) }
+        ensures over { IfOk result (λ n. n ≡ 0 → 0 < length buf.old
+            → shown.octets self.new ≡ nothing_known (shown.octets self.new)) }
         ensures counted { OnErr result (HasRisen shown self.old self.new) }
         ensures uncounted { OnOk result (shown.faults self.new ≡ shown.faults self.old) }
         ensures never_falls { shown.faults self.old ≤ shown.faults self.new }

@@ -46,7 +46,8 @@ impl<R: Read + Drop> Source for StdSource<R> {
 
     fn read(&mut self, buf: &mut [u8]) -> Result<usize, Failed>
         ensures bounded { IfOk result (λ n. n ≤ length buf.old) }
-        ensures counted { OnErr result (self.new.faults ≤ self.old.faults → Some last_fault ≡ Some self.new.faults) }
+        ensures counted { OnErr result
+            (self.new.faults ≤ self.old.faults → Some last_fault ≡ Some self.new.faults) }
         ensures never_falls { self.old.faults ≤ self.new.faults }
         ensures never_passes { self.new.faults ≤ last_fault }
 
@@ -55,7 +56,8 @@ impl<R: Read + Drop> Source for StdSource<R> {
         ensures failed { OnErr result (self.new.faults ≡ next_fault self.old.faults) }
 
         // The octets are those that the reader gives, if it says what it has left.
-        ensures octets { ReadConsumes (R.remaining self.old.inner) (R.remaining self.new.inner) result buf.new }
+        ensures octets { ReadConsumes (R.remaining self.old.inner) (R.remaining self.new.inner)
+            result buf.new }
     {
         match self.reader.read(buf) {
             Ok(count) => Ok(count),
@@ -105,7 +107,8 @@ impl<W: Write + Drop> Sink for StdSink<W> {
     fn write(&mut self, piece: &[u8]) -> Result<usize, Failed>
         ensures moves { IfOk result (λ n. 0 < length piece.now → 0 < n) }
         ensures bounded { IfOk result (λ n. n ≤ length piece.now) }
-        ensures counted { OnErr result (self.new.faults ≤ self.old.faults → Some last_fault ≡ Some self.new.faults) }
+        ensures counted { OnErr result
+            (self.new.faults ≤ self.old.faults → Some last_fault ≡ Some self.new.faults) }
         ensures never_falls { self.old.faults ≤ self.new.faults }
         ensures never_passes { self.new.faults ≤ last_fault }
 
@@ -114,7 +117,8 @@ impl<W: Write + Drop> Sink for StdSink<W> {
         ensures failed { OnErr result (self.new.faults ≡ next_fault self.old.faults) }
 
         // The octets are those that the writer has then, if it says what it has.
-        ensures octets { IfOk result (λ n. Appends (W.contents self.old.inner) (W.contents self.new.inner) (take n piece.now)) }
+        ensures octets { IfOk result (λ n. Appends (W.contents self.old.inner)
+            (W.contents self.new.inner) (take n piece.now)) }
     {
         match self.writer.write(piece) {
             Ok(count) if count > 0 || piece.is_empty() => Ok(count),

@@ -41,8 +41,10 @@ impl Source for SureSource {
 
     fn read(&mut self, buf: &mut [u8]) -> Result<usize, Failed>
         ensures bounded { IfOk result (λ n. n ≤ length buf.old) }
-        ensures consumed { IfOk result (λ n. Some self.old ≡ prepend_known (take n buf.new) (Some self.new)) }
-        ensures over { IfOk result (λ n. n ≡ 0 → 0 < length buf.old → Some self.new ≡ nothing_known (Some self.new)) }
+        ensures consumed { IfOk result
+            (λ n. Some self.old ≡ prepend_known (take n buf.new) (Some self.new)) }
+        ensures over { IfOk result
+            (λ n. n ≡ 0 → 0 < length buf.old → Some self.new ≡ nothing_known (Some self.new)) }
 
         // It never fails, and takes as much as the buffer and what is left allow.
         ensures count { result ≡ Ok (min (length buf.old) (length self.old)) }

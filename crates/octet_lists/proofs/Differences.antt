@@ -1,5 +1,6 @@
 -- The octets in which two lists differ, gathered in one octet.
-use Rattle.std.proofs.Common.{◌≡◌, ◌≢◌, ℕ, ◌+◌, ◌<◌, ◌≤◌, false, eqb, List, ◌∷◌, [], ◌++◌, length, get_or, take, sym, ap, ◌∙◌, arith}
+use Rattle.std.proofs.Common.{◌≡◌, ◌≢◌, ℕ, ◌+◌, ◌<◌, ◌≤◌, false, eqb, List, ◌∷◌, [], ◌++◌, length}
+use Rattle.std.proofs.Common.{get_or, take, sym, ap, ◌∙◌, arith}
 use Rattle.std.specs.Prelude.{bit_or, bit_xor}
 use Rattle.std.specs.Str.{bytes_eq}
 use Rattle.std.specs.Int.Bits.{or_zero_l, xor_self, xor_zero_l, xor_assoc, xor_zero_r}
@@ -54,7 +55,8 @@ difference_more octet i xs ys in_xs in_ys so_far =
     }
 
 -- all octets
-pub differences_of_all : (octet i : ℕ) (xs ys : List ℕ) → IsDifference octet i xs ys → length xs ≤ i → length ys ≤ i
+pub differences_of_all : (octet i : ℕ) (xs ys : List ℕ) → IsDifference octet i xs ys → length xs ≤ i
+    → length ys ≤ i
     → eqb octet 0 ≡ bytes_eq xs ys
 differences_of_all octet i xs ys so_far all_xs all_ys =
     let whole_xs : take i xs ≡ xs = take_all i xs all_xs in
@@ -71,4 +73,5 @@ differences_of_all octet i xs ys so_far all_xs all_ys =
 -- lists of different lengths
 pub differs_by_length : (xs ys : List ℕ) → length xs ≢ length ys → false ≡ bytes_eq xs ys
 differs_by_length xs ys other =
-    same_from_decides false (bytes_eq xs ys) (λ t. absurd (cc), λ e. absurd (other (ap length e))) (bytes_eq-Decides xs ys)
+    same_from_decides false (bytes_eq xs ys) (λ t. absurd (cc), λ e. absurd (other (ap length e)))
+    (bytes_eq-Decides xs ys)

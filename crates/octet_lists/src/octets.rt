@@ -1,6 +1,7 @@
 //! Lists of octets that keep their octets inline and never allocate.
 
-ghost use Rattle.std.specs.Prelude.{◌≡◌, ◌≤◌, ◌<◌, ◌+◌, ◌↔◌, [], ◌∷◌, ◌++◌, length, take, IsSome, IfSome, IsTrue, Some, codes};
+ghost use Rattle.std.specs.Prelude.{◌≡◌, ◌≤◌, ◌<◌, ◌+◌, ◌↔◌, [], ◌∷◌, ◌++◌, length, take, IsSome};
+ghost use Rattle.std.specs.Prelude.{IfSome, IsTrue, Some, codes};
 ghost use Rattle.std.specs.Cmp.{partial_equiv_from_equiv};
 ghost use Rattle.std.specs.Cmp.Lexicographic.{nat_list_eq_equiv};
 ghost use Rattle.std.specs.Fmt.{decimal};
@@ -96,7 +97,8 @@ impl<const N: usize> Octets<N> {
     /// Appends all these octets and answers true. If they don't fit it answers false and changes nothing.
     pub fn append(&mut self, octets: &[u8]) -> bool
         ensures capacity { IsTrue result ↔ (length self.old + length octets.now ≤ N) }
-        ensures appended { length self.old + length octets.now ≤ N → self.new ≡ self.old ++ octets.now }
+        ensures appended { length self.old + length octets.now ≤ N
+            → self.new ≡ self.old ++ octets.now }
         ensures unchanged { N < length self.old + length octets.now → self.new ≡ self.old }
     {
         self.items.try_extend_from_slice(octets).is_ok()

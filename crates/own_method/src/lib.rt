@@ -30,7 +30,8 @@ impl<M: PeerMethod> PeerMethod for Counted<M> {
 
     fn begin(&mut self, cred: &Credential, nonce: &Nonce)
         requires { IsTrue (is_valid_for (peer_kind (M.peer_shown self.old.method)) cred.now.psk) }
-        ensures started { M.peer_shown self.new.method ≡ started_peer cred.now nonce.now (M.peer_shown self.old.method) }
+        ensures started { M.peer_shown self.new.method
+            ≡ started_peer cred.now nonce.now (M.peer_shown self.old.method) }
         ensures count { self.new.discards ≡ 0 }
     {
         self.discards = 0;

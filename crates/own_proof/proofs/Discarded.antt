@@ -8,5 +8,7 @@ use Rattle.peer_machine.specs.Laws.{PreservesThePeer}
 use Rattle.peer_machine.specs.PeerTable.{PeerNow, PeerAnswer}
 
 -- the law of the peer's crate, of what a call answers
-pub discarded : (now : PeerNow) (packet : List ℕ) (out : PeerAnswer) → peer_receives now packet ≡ out → IsSome out.step.cause → PreservesThePeer now out
-discarded now packet out same = subst (λ out. IsSome out.step.cause → PreservesThePeer now out) same (discards_change_nothing now (octets packet))
+pub discarded : (now : PeerNow) (packet : List ℕ) (out : PeerAnswer)
+    → peer_receives now packet ≡ out → IsSome out.step.cause → PreservesThePeer now out
+discarded now packet out same = subst (λ out. IsSome out.step.cause → PreservesThePeer now out) same
+    (discards_change_nothing now (octets packet))

@@ -1,5 +1,6 @@
 -- The command decode: each line is a packet in hex, and the answer says what it is.
-use Rattle.std.specs.Prelude.{ℕ, ◌+◌, ◌≤◌, List, [], Bool, false, Option, Some, None, Result, Ok, Err, is_err, if◌then◌else◌}
+use Rattle.std.specs.Prelude.{ℕ, ◌+◌, ◌≤◌, List, [], Bool, false, Option, Some, None, Result, Ok}
+use Rattle.std.specs.Prelude.{Err, is_err, if◌then◌else◌}
 use Rattle.octet_io.specs.Lines.{lines}
 use Rattle.eap_packet.specs.Fault.{packet_of}
 use Rattle.text_tables.specs.Words.{fault_word}
@@ -17,12 +18,20 @@ is_malformed octets = is_err (packet_of octets)
 
 -- the counts with one more packet
 abbrev pub with_packet : Decode → List ℕ → Decode
-with_packet c octets = record { packets = c.packets + 1; malformed = c.malformed + (if is_malformed octets then 1 else 0) }
+with_packet c octets = record {
+  packets = c.packets + 1;
+  malformed = c.malformed + (if is_malformed octets then 1 else 0);
+}
 
 abbrev pub packet_result : Decode → Result (Option (List ℕ)) LineFault → LineResult Decode
-packet_result c (Err fault) = record { text = []; ruling = refuses (fault_word fault) status.Refused; after = c }
+packet_result c (Err
+    fault) = record { text = []; ruling = refuses (fault_word fault) status.Refused; after = c }
 packet_result c (Ok None) = record { text = []; ruling = goes; after = c }
-packet_result c (Ok (Some octets)) = record { text = packet_text (c.packets + 1) octets; ruling = goes; after = with_packet c octets }
+packet_result c (Ok (Some octets)) = record {
+  text = packet_text (c.packets + 1) octets;
+  ruling = goes;
+  after = with_packet c octets;
+}
 
 -- the result of a line
 unfoldable pub decode_step : Decode → List ℕ → LineResult Decode

@@ -14,7 +14,8 @@ use Rattle.command_driver.specs.declared.status.Status.TheVariants as status
 pub record Asking : Type 0 where
 
 abbrev pub request_result : Asking → Result (Option KeyLine) LineFault → LineResult Asking
-request_result c (Err fault) = record { text = []; ruling = refuses (fault_word fault) status.Refused; after = c }
+request_result c (Err
+    fault) = record { text = []; ruling = refuses (fault_word fault) status.Refused; after = c }
 request_result c (Ok None) = record { text = []; ruling = goes; after = c }
 request_result c (Ok (Some asked)) = record { text = key_text asked; ruling = goes; after = c }
 

@@ -58,7 +58,8 @@ impl Decode {
 
 impl Command for Decode {
     ghost use Rattle.packet_commands.specs.declared.decode.Decode.{Decode};
-    ghost use Rattle.packet_commands.specs.Decode.{decode_step, decode_closing, decode_lacks, HasCounted};
+    ghost use Rattle.packet_commands.specs.Decode.{decode_step, decode_closing, decode_lacks};
+    ghost use Rattle.packet_commands.specs.Decode.{HasCounted};
 
     ghost Seen = { Decode };
 
@@ -91,7 +92,8 @@ impl Command for Decode {
 /// Reads packets in hex and writes what they are. It allocates no memory.
 #[tactic(auto, using(command_driver::proofs::Responding::never_lacks))]
 pub fn decode_packets<S: Source, W: Sink>(source: &mut S, sink: &mut W) -> Status
-    ensures { Responds S.shown W.shown (reading decode_answer never) result source.old source.new sink.old sink.new }
+    ensures { Responds S.shown W.shown (reading decode_answer never)
+        result source.old source.new sink.old sink.new }
 {
     drive(&mut Decode::new(), source, sink)
 }

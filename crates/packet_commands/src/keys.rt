@@ -24,7 +24,8 @@ impl Keys {
 }
 
 impl Command for Keys {
-    ghost use Rattle.packet_commands.specs.Keys.{Asking, all_asked, keys_step, keys_closing, keys_lacks};
+    ghost use Rattle.packet_commands.specs.Keys.{Asking, all_asked, keys_step, keys_closing};
+    ghost use Rattle.packet_commands.specs.Keys.{keys_lacks};
 
     ghost Seen = { Asking };
 
@@ -59,7 +60,8 @@ impl Command for Keys {
 /// Reads requests for ciphers, MACs and keys and writes the answers. It allocates no memory.
 #[tactic(auto, using(command_driver::proofs::Responding::never_lacks))]
 pub fn answer_keys<S: Source, W: Sink>(source: &mut S, sink: &mut W) -> Status
-    ensures { Responds S.shown W.shown (reading keys_answer never) result source.old source.new sink.old sink.new }
+    ensures { Responds S.shown W.shown (reading keys_answer never)
+        result source.old source.new sink.old sink.new }
 {
     drive(&mut Keys::new(), source, sink)
 }

@@ -31,7 +31,11 @@ fn writes<W: Sink>(sink: &mut W, piece: &[u8], answers: &[usize]) -> bool {
 
 /// A count of faults that stays, and isn't at its greatest number, hasn't risen: a fault that no call had is told.
 fn a_count_that_stays_has_not_risen()
-    ensures { HasRisen (record { octets = λ (_ : ℕ). None; faults = λ n. n; most_faults = None }) 0 0 → ⊥ }
+    ensures { HasRisen (record {
+      octets = λ (_ : ℕ). None;
+      faults = λ n. n;
+      most_faults = None;
+    }) 0 0 → ⊥ }
 {}
 
 #[test]

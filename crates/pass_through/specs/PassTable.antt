@@ -1,5 +1,6 @@
 -- The pass-through authenticator of RFC 4137 section 7: each call as a function.
-use Rattle.std.specs.Prelude.{◌≡◌, ◌≤◌, ℕ, ◌+◌, List, [], ◌∷◌, Bool, true, false, ◌==◌, ◌||◌, nat_le, if◌then◌else◌, Option, Some, None, Result, Ok, Err, take}
+use Rattle.std.specs.Prelude.{◌≡◌, ◌≤◌, ℕ, ◌+◌, List, [], ◌∷◌, Bool, true, false, ◌==◌, ◌||◌}
+use Rattle.std.specs.Prelude.{nat_le, if◌then◌else◌, Option, Some, None, Result, Ok, Err, take}
 use Rattle.octet_lists.specs.Among.{identity_kind}
 use Rattle.eap_packet.specs.Packet.{PacketValue, request, response, success, failure, spelled}
 use Rattle.eap_packet.specs.Fault.{packet_of, length_of}
@@ -15,8 +16,8 @@ pub data Side : Type 0 where
   Peer : Side
   Server : Side
 
--- what one call does: the states that it enters, the cause of a discard, the side to which its packets go,
--- and the packet that it sends
+-- what one call does: the states that it enters, the cause of a discard, the side to which its
+-- packets go, and the packet that it sends
 pub record PassStep : Type 0 where
   pub path : List State
   pub cause : Option Cause
@@ -25,7 +26,12 @@ pub record PassStep : Type 0 where
 
 -- the step of a call that answers so, whose packets go to this side, with the packet that it wrote
 abbrev pub step_to : Side → brief.Step → List ℕ → PassStep
-step_to to step packet = record { path = step.path; cause = step.cause; to = to; sent = if step.sends then Some packet else None }
+step_to to step packet = record {
+  path = step.path;
+  cause = step.cause;
+  to = to;
+  sent = if step.sends then Some packet else None;
+}
 
 -- what a call answers, and the variables after it
 pub record PassAnswer : Type 0 where
@@ -35,7 +41,8 @@ pub record PassAnswer : Type 0 where
 abbrev pub answer : PassStep → PassVariables → PassAnswer
 answer step after = record { step = step; after = after }
 
--- octets go to the peer; octets go to the server; nothing is sent; a discard of what would have gone to this side
+-- octets go to the peer; octets go to the server; nothing is sent; a discard of what would have
+-- gone to this side
 abbrev pub asks : List State → List ℕ → PassStep
 asks path octets = record { path = path; cause = None; to = Peer; sent = Some octets }
 
@@ -72,8 +79,14 @@ unfoldable pub pass_start : PassVariables → PassAnswer
 pass_start vars =
     let octets = identity_request vars.first_id in
     answer
-    (asks (state.Initialize ∷ state.SelectAction ∷ state.ProposeMethod ∷ state.MethodRequest ∷ state.SendRequest ∷ state.Idle ∷ []) octets)
-    (record vars { state = state.Idle; current_id = Some vars.first_id; retrans_count = 0; last_request = octets })
+    (asks (state.Initialize ∷ state.SelectAction ∷ state.ProposeMethod ∷ state.MethodRequest
+    ∷ state.SendRequest ∷ state.Idle ∷ []) octets)
+    (record vars {
+      state = state.Idle;
+      current_id = Some vars.first_id;
+      retrans_count = 0;
+      last_request = octets;
+    })
 
 -- a restart: a new one, which starts
 unfoldable pub pass_restart : PassVariables → PassAnswer
@@ -86,10 +99,12 @@ is_awaited (Some awaited) number = awaited == number
 
 -- DISCARD and DISCARD2 change nothing
 abbrev pub idle_discard : PassVariables → Cause → PassAnswer
-idle_discard vars c = answer (discards Server (state.Received ∷ state.Discard ∷ state.Idle ∷ []) c) vars
+idle_discard vars c =
+    answer (discards Server (state.Received ∷ state.Discard ∷ state.Idle ∷ []) c) vars
 
 abbrev pub idle2_discard : PassVariables → Cause → PassAnswer
-idle2_discard vars c = answer (discards Server (state.Received2 ∷ state.Discard2 ∷ state.Idle2 ∷ []) c) vars
+idle2_discard vars c =
+    answer (discards Server (state.Received2 ∷ state.Discard2 ∷ state.Idle2 ∷ []) c) vars
 
 -- IDLE: the Identity Response goes to the server as it came
 abbrev pub idle_response : PassVariables → List ℕ → ℕ → PassAnswer
@@ -104,7 +119,8 @@ idle_response vars octets kind =
 abbrev pub idle_row : PassVariables → List ℕ → Result PacketValue Cause → PassAnswer
 idle_row vars octets (Err c) = idle_discard vars c
 idle_row vars octets (Ok (response id kind body)) =
-    if is_awaited vars.current_id id then idle_response vars octets kind else idle_discard vars cause.IdMismatch
+    if is_awaited vars.current_id id then idle_response vars octets kind
+    else idle_discard vars cause.IdMismatch
 idle_row vars octets (Ok packet) = idle_discard vars cause.WrongRole
 
 -- IDLE2: a Response with currentId goes to the server as it came
@@ -112,7 +128,8 @@ abbrev pub idle2_row : PassVariables → List ℕ → Result PacketValue Cause �
 idle2_row vars octets (Err c) = idle2_discard vars c
 idle2_row vars octets (Ok (response id kind body)) =
     if is_awaited vars.current_id id
-    then answer (passes_on (state.Received2 ∷ state.AaaRequest ∷ state.AaaIdle ∷ []) (without_padding octets)) (record vars { state = state.AaaIdle })
+    then answer (passes_on (state.Received2 ∷ state.AaaRequest ∷ state.AaaIdle ∷ [])
+    (without_padding octets)) (record vars { state = state.AaaIdle })
     else idle2_discard vars cause.IdMismatch
 idle2_row vars octets (Ok packet) = idle2_discard vars cause.WrongRole
 
@@ -120,11 +137,18 @@ idle2_row vars octets (Ok packet) = idle2_discard vars cause.WrongRole
 abbrev pub aaa_row : PassVariables → List ℕ → Result PacketValue Cause → PassAnswer
 aaa_row vars octets (Err c) = answer (discards Peer [] c) vars
 aaa_row vars octets (Ok (request id kind body)) =
-    answer (asks (state.AaaResponse ∷ state.SendRequest2 ∷ state.Idle2 ∷ []) (without_padding octets))
-    (record vars { state = state.Idle2; current_id = Some id; retrans_count = 0; last_request = without_padding octets })
+    answer (asks (state.AaaResponse ∷ state.SendRequest2 ∷ state.Idle2 ∷ [])
+    (without_padding octets)) (record vars {
+      state = state.Idle2;
+      current_id = Some id;
+      retrans_count = 0;
+      last_request = without_padding octets;
+    })
 aaa_row vars octets (Ok (response id kind body)) = answer (discards Peer [] cause.WrongRole) vars
-aaa_row vars octets (Ok (success id)) = answer (asks (state.Success2 ∷ []) (without_padding octets)) (record vars { state = state.Success2 })
-aaa_row vars octets (Ok (failure id)) = answer (asks (state.Failure2 ∷ []) (without_padding octets)) (record vars { state = state.Failure2 })
+aaa_row vars octets (Ok (success id)) = answer (asks (state.Success2 ∷ []) (without_padding octets))
+    (record vars { state = state.Success2 })
+aaa_row vars octets (Ok (failure id)) = answer (asks (state.Failure2 ∷ []) (without_padding octets))
+    (record vars { state = state.Failure2 })
 
 -- what comes from the side that isn't waited for is discarded with an empty path
 abbrev pub not_waiting : Side → PassVariables → PassAnswer
@@ -132,7 +156,13 @@ not_waiting to vars = answer (discards to [] cause.NotWaiting) vars
 
 -- whether it has ended; whether it waits for the peer's identity, for the peer, or for the server
 abbrev pub is_over : State → Bool
-is_over s = elim s [ state.Success2 ↦ true | state.Failure2 ↦ true | state.TimeoutFailure ↦ true | state.TimeoutFailure2 ↦ true | _ ↦ false ]
+is_over s = elim s [
+  | state.Success2 ↦ true
+  | state.Failure2 ↦ true
+  | state.TimeoutFailure ↦ true
+  | state.TimeoutFailure2 ↦ true
+  | _ ↦ false
+]
 
 abbrev pub is_idle : State → Bool
 is_idle s = elim s [ state.Idle ↦ true | _ ↦ false ]
@@ -163,7 +193,8 @@ abbrev pub resends : PassVariables → State → State → State → PassAnswer
 resends vars entered back over =
     let count = vars.retrans_count + 1 in
     if nat_le count vars.max_retrans
-    then answer (asks (entered ∷ back ∷ []) vars.last_request) (record vars { retrans_count = count; state = back })
+    then answer (asks (entered ∷ back ∷ []) vars.last_request)
+    (record vars { retrans_count = count; state = back })
     else answer (rests (entered ∷ over ∷ [])) (record vars { retrans_count = count; state = over })
 
 unfoldable pub pass_timeout : PassVariables → PassAnswer
@@ -173,10 +204,12 @@ pass_timeout vars =
 
 -- the server is lost, or has nothing to ask
 unfoldable pub pass_aaa_timeout : PassVariables → PassAnswer
-pass_aaa_timeout vars = answer (rests (state.TimeoutFailure2 ∷ [])) (record vars { state = state.TimeoutFailure2 })
+pass_aaa_timeout vars =
+    answer (rests (state.TimeoutFailure2 ∷ [])) (record vars { state = state.TimeoutFailure2 })
 
 unfoldable pub pass_aaa_noreq : PassVariables → PassAnswer
-pass_aaa_noreq vars = answer (rests (state.Discard2 ∷ state.Idle2 ∷ [])) (record vars { state = state.Idle2 })
+pass_aaa_noreq vars =
+    answer (rests (state.Discard2 ∷ state.Idle2 ∷ [])) (record vars { state = state.Idle2 })
 
 -- whether the retransmission timer runs, and whether it has started
 abbrev pub has_timer : State → Bool

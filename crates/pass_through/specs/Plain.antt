@@ -20,4 +20,9 @@ for_server Peer sent = None
 for_server Server sent = sent
 
 abbrev pub plain_step : PassStep → PlainStep
-plain_step step = record { path = step.path; cause = step.cause; to_peer = for_peer step.to step.sent; to_server = for_server step.to step.sent }
+plain_step step = record {
+  path = step.path;
+  cause = step.cause;
+  to_peer = for_peer step.to step.sent;
+  to_server = for_server step.to step.sent;
+}

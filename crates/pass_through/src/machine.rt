@@ -18,7 +18,8 @@
 //! is forwarded are the packet's Length octets as they came.
 
 ghost use Rattle.std.specs.Prelude.{◌≡◌, ◌≤◌, true, false, IfSome};
-ghost use Rattle.pass_through.specs.PassTable.{Peer, Server, answer, step_to, without_padding, identity_request};
+ghost use Rattle.pass_through.specs.PassTable.{Peer, Server, answer, step_to, without_padding};
+ghost use Rattle.pass_through.specs.PassTable.{identity_request};
 
 use crate::rows::{
     receive_in_aaa_idle, receive_in_idle, receive_in_idle2, resend, write_identity_request,
@@ -50,7 +51,9 @@ impl Model for PassThrough {
 
 impl PassThrough {
     ghost use Rattle.std.specs.Prelude.{[]};
-    ghost use Rattle.pass_through.specs.PassTable.{initial_pass, pass_start, pass_restart, pass_from_peer, pass_from_backend, pass_timeout, pass_aaa_timeout, pass_aaa_noreq};
+    ghost use Rattle.pass_through.specs.PassTable.{initial_pass, pass_start, pass_restart};
+    ghost use Rattle.pass_through.specs.PassTable.{pass_from_peer, pass_from_backend, pass_timeout};
+    ghost use Rattle.pass_through.specs.PassTable.{pass_aaa_timeout, pass_aaa_noreq};
     ghost use Rattle.pass_through.specs.PassTable.{is_started, has_timer, is_aaa_idle, is_over};
     ghost use Rattle.pass_through.specs.Plain.{plain_step};
 
@@ -118,7 +121,8 @@ impl PassThrough {
     /// where the server is waited for, and after the end with an empty path.
     #[tactic(auto, unfolding(crate::specs::PassTable::pass_from_peer))]
     pub fn from_peer_step(&mut self, octets: &[u8], packet: &mut Packet) -> Step
-        ensures step { pass_from_peer self.old octets.now ≡ answer (step_to Server result packet.new) self.new }
+        ensures step { pass_from_peer self.old octets.now
+            ≡ answer (step_to Server result packet.new) self.new }
         ensures whole { result.sends ≡ true → packet.new ≡ without_padding octets.now }
     {
         let state = self.vars.state;
@@ -138,7 +142,8 @@ impl PassThrough {
     /// nothing, with an empty path.
     #[tactic(auto, unfolding(crate::specs::PassTable::pass_from_backend))]
     pub fn from_backend_step(&mut self, octets: &[u8], packet: &mut Packet) -> Step
-        ensures step { pass_from_backend self.old octets.now ≡ answer (step_to Peer result packet.new) self.new }
+        ensures step { pass_from_backend self.old octets.now
+            ≡ answer (step_to Peer result packet.new) self.new }
         ensures whole { result.sends ≡ true → packet.new ≡ without_padding octets.now }
     {
         let state = self.vars.state;
@@ -205,7 +210,8 @@ impl PassThrough {
         requires { is_started self.old.state ≡ false }
         ensures step { result ≡ plain_step (pass_start self.old).step }
         ensures after { self.new ≡ (pass_start self.old).after }
-        ensures own { IfSome result.to_peer (λ packet. packet ≡ identity_request self.old.first_id) }
+        ensures own { IfSome result.to_peer
+            (λ packet. packet ≡ identity_request self.old.first_id) }
     {
         let mut packet = Packet::new();
         PassStep::to_peer(self.start_step(&mut packet), packet)

@@ -2,8 +2,11 @@
 
 ghost use Rattle.std.specs.Prelude.{◌≡◌, ◌≤◌, ◌∷◌, [], true, false, Some};
 ghost use Rattle.eap_packet.specs.Fault.{packet_of};
-ghost use Rattle.eap_packet.specs.declared.state.State.TheVariants.{Received, Discard, Idle, Received2, Discard2, Idle2};
-ghost use Rattle.pass_through.specs.PassTable.{Peer, Server, answer, step_to, without_padding, identity_request, idle_row, idle2_row, aaa_row, is_over, resends};
+ghost use Rattle.eap_packet.specs.declared.state.State.TheVariants.{Received, Discard, Idle};
+ghost use Rattle.eap_packet.specs.declared.state.State.TheVariants.{Received2, Discard2, Idle2};
+ghost use Rattle.pass_through.specs.PassTable.{Peer, Server, answer, step_to, without_padding};
+ghost use Rattle.pass_through.specs.PassTable.{identity_request, idle_row, idle2_row, aaa_row};
+ghost use Rattle.pass_through.specs.PassTable.{is_over, resends};
 
 use crate::variables::PassVariables;
 use eap_method::Step;
@@ -19,8 +22,10 @@ pub fn write_identity_request(packet: &mut Packet, id: u8)
 
 /// IDLE: the Identity Response goes to the server as it came.
 pub fn receive_in_idle(vars: &mut PassVariables, octets: &[u8], packet: &mut Packet) -> Step
-    ensures step { idle_row vars.old octets.now (packet_of octets.now) ≡ answer (step_to Server result packet.new) vars.new }
-    ensures order { vars.old.retrans_count ≤ vars.old.max_retrans → vars.new.retrans_count ≤ vars.new.max_retrans }
+    ensures step { idle_row vars.old octets.now (packet_of octets.now)
+        ≡ answer (step_to Server result packet.new) vars.new }
+    ensures order { vars.old.retrans_count ≤ vars.old.max_retrans
+        → vars.new.retrans_count ≤ vars.new.max_retrans }
     ensures most { vars.new.max_retrans ≡ vars.old.max_retrans }
     ensures whole { result.sends ≡ true → packet.new ≡ without_padding octets.now }
 {
@@ -53,15 +58,18 @@ pub fn receive_in_idle(vars: &mut PassVariables, octets: &[u8], packet: &mut Pac
 
 /// DISCARD, after which it is in IDLE as before.
 fn discard(cause: Cause) -> Step
-    ensures { result ≡ record { path = Received ∷ Discard ∷ Idle ∷ []; cause = Some cause; sends = false } }
+    ensures { result
+        ≡ record { path = Received ∷ Discard ∷ Idle ∷ []; cause = Some cause; sends = false } }
 {
     Step::discarding(&[State::Received, State::Discard, State::Idle], cause)
 }
 
 /// IDLE2: a Response with currentId goes to the server as it came.
 pub fn receive_in_idle2(vars: &mut PassVariables, octets: &[u8], packet: &mut Packet) -> Step
-    ensures step { idle2_row vars.old octets.now (packet_of octets.now) ≡ answer (step_to Server result packet.new) vars.new }
-    ensures order { vars.old.retrans_count ≤ vars.old.max_retrans → vars.new.retrans_count ≤ vars.new.max_retrans }
+    ensures step { idle2_row vars.old octets.now (packet_of octets.now)
+        ≡ answer (step_to Server result packet.new) vars.new }
+    ensures order { vars.old.retrans_count ≤ vars.old.max_retrans
+        → vars.new.retrans_count ≤ vars.new.max_retrans }
     ensures most { vars.new.max_retrans ≡ vars.old.max_retrans }
     ensures whole { result.sends ≡ true → packet.new ≡ without_padding octets.now }
 {
@@ -83,7 +91,8 @@ pub fn receive_in_idle2(vars: &mut PassVariables, octets: &[u8], packet: &mut Pa
 
 /// DISCARD2, after which it is in IDLE2 as before.
 fn discard2(cause: Cause) -> Step
-    ensures { result ≡ record { path = Received2 ∷ Discard2 ∷ Idle2 ∷ []; cause = Some cause; sends = false } }
+    ensures { result
+        ≡ record { path = Received2 ∷ Discard2 ∷ Idle2 ∷ []; cause = Some cause; sends = false } }
 {
     Step::discarding(&[State::Received2, State::Discard2, State::Idle2], cause)
 }
@@ -91,8 +100,10 @@ fn discard2(cause: Cause) -> Step
 /// AAA_IDLE: a Request goes to the peer as it came, to be answered; a Success or a Failure too, and ends
 /// the conversation.
 pub fn receive_in_aaa_idle(vars: &mut PassVariables, octets: &[u8], packet: &mut Packet) -> Step
-    ensures step { aaa_row vars.old octets.now (packet_of octets.now) ≡ answer (step_to Peer result packet.new) vars.new }
-    ensures order { vars.old.retrans_count ≤ vars.old.max_retrans → vars.new.retrans_count ≤ vars.new.max_retrans }
+    ensures step { aaa_row vars.old octets.now (packet_of octets.now)
+        ≡ answer (step_to Peer result packet.new) vars.new }
+    ensures order { vars.old.retrans_count ≤ vars.old.max_retrans
+        → vars.new.retrans_count ≤ vars.new.max_retrans }
     ensures most { vars.new.max_retrans ≡ vars.old.max_retrans }
     ensures whole { result.sends ≡ true → packet.new ≡ without_padding octets.now }
 {
@@ -133,7 +144,8 @@ pub fn resend(
 ) -> Step
     requires count { vars.old.retrans_count ≤ 10 }
     requires over { is_over over ≡ true }
-    ensures step { resends vars.old entered back over ≡ answer (step_to Peer result packet.new) vars.new }
+    ensures step { resends vars.old entered back over
+        ≡ answer (step_to Peer result packet.new) vars.new }
     ensures order { is_over vars.new.state ≡ false → vars.new.retrans_count ≤ vars.new.max_retrans }
     ensures most { vars.new.max_retrans ≡ vars.old.max_retrans }
     ensures again { result.sends ≡ true → packet.new ≡ vars.old.last_request }

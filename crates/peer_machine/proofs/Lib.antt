@@ -8,7 +8,8 @@ pub mod Settling
 pub mod Selected
 -- What the peer makes of an input is one of the rows of its table.
 pub mod PeerRows
--- What a delivery comes to: the row of its table, a refusal, or the row of the plain form, expressed.
+-- What a delivery comes to: the row of its table, a refusal, or the row of the plain form,
+-- expressed.
 pub mod Receiving
 -- A discard changes nothing.
 pub mod Discards

@@ -5,9 +5,11 @@ use Rattle.eap_packet.specs.declared.packet.Code.{Code}
 use Rattle.eap_packet.specs.declared.packet.Code.TheVariants.{Request, Response, Success, Failure}
 use Rattle.eap_method.specs.Peer.{IsRequest}
 
-pub is_request : (code : Code) (id kind : ℕ) (body whole : List ℕ) → code ≡ Request → IsPacket (value_with code id kind body)
+pub is_request : (code : Code) (id kind : ℕ) (body whole : List ℕ) → code ≡ Request
+    → IsPacket (value_with code id kind body)
     → whole ≡ spelled (value_with code id kind body) → IsRequest kind whole
-is_request Request id kind body whole is_code packet encoding_of = record { id = id; body = body; packet = packet; encoding_of = encoding_of }
+is_request Request id kind body whole is_code packet encoding_of =
+    record { id = id; body = body; packet = packet; encoding_of = encoding_of }
 is_request Response id kind body whole is_code packet encoding_of = cc
 is_request Success id kind body whole is_code packet encoding_of = cc
 is_request Failure id kind body whole is_code packet encoding_of = cc

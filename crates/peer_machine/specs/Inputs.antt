@@ -3,7 +3,8 @@ use Rattle.std.specs.Prelude.{ℕ, List, [], if◌then◌else◌}
 use Rattle.eap_method.specs.Steps.{enters, is_end}
 use Rattle.eap_method.specs.Tags.{no_tags}
 use Rattle.peer_machine.specs.Expanded.{peer_receives}
-use Rattle.peer_machine.specs.PeerTable.{PeerNow, PeerAnswer, answer, peer_restart, peer_deliver, peer_idle, peer_alt_accept, peer_alt_reject}
+use Rattle.peer_machine.specs.PeerTable.{PeerNow, PeerAnswer, answer, peer_restart, peer_deliver}
+use Rattle.peer_machine.specs.PeerTable.{peer_idle, peer_alt_accept, peer_alt_reject}
 
 -- octets from the server, or a report of the lower layer (section 4.1.1)
 pub data PeerInput : Type 0 where

@@ -15,12 +15,14 @@ pub record PreservesThePeer (before : PeerNow) (out : PeerAnswer) : Type 0 where
 -- a discard changes nothing
 abbrev pub DiscardsChangeNothing : Type 0
 DiscardsChangeNothing =
-    (now : PeerNow) (input : PeerInput) → IsSome (peer_accepts now input).step.cause → PreservesThePeer now (peer_accepts now input)
+    (now : PeerNow) (input : PeerInput) → IsSome (peer_accepts now input).step.cause
+    → PreservesThePeer now (peer_accepts now input)
 
 abbrev pub is_failed : State → Bool
 is_failed s = elim s [ state.Failure ↦ true | state.TimeoutFailure ↦ true | _ ↦ false ]
 
--- the method is over and has decided for a success that nothing can undo (UNCOND_SUCC), and the peer hasn't failed
+-- the method is over and has decided for a success that nothing can undo (UNCOND_SUCC), and the
+-- peer hasn't failed
 pub record HasUnconditionalSuccess (now : PeerNow) : Type 0 where
   pub kind : ℕ
   pub selected : now.vars.selected ≡ Some kind
@@ -28,8 +30,10 @@ pub record HasUnconditionalSuccess (now : PeerNow) : Type 0 where
   pub sure : is_uncond now.vars.decision ≡ true
   pub stands : is_failed now.vars.state ≡ false
 
--- it stays so whatever octets come and whatever the lower layer reports but a failure, till a new conversation
+-- it stays so whatever octets come and whatever the lower layer reports but a failure, till a new
+-- conversation
 abbrev pub UnconditionalSuccessStays : Type 0
 UnconditionalSuccessStays =
-    (now : PeerNow) (input : PeerInput) → HasUnconditionalSuccess now → (input ≡ alt_reject → ⊥) → ((nonce : List ℕ) → input ≡ restart nonce → ⊥)
+    (now : PeerNow) (input : PeerInput) → HasUnconditionalSuccess now → (input ≡ alt_reject → ⊥)
+    → ((nonce : List ℕ) → input ≡ restart nonce → ⊥)
     → HasUnconditionalSuccess (peer_accepts now input).after

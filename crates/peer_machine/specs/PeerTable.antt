@@ -1,5 +1,6 @@
 -- The peer of RFC 4137 section 4, over the views of its methods: each call as a function.
-use Rattle.std.specs.Prelude.{◌≡◌, ℕ, List, [], ◌∷◌, ◌++◌, Bool, true, false, ◌==◌, ◌&&◌, if◌then◌else◌, Option, Some, None, Result, Ok, Err, map}
+use Rattle.std.specs.Prelude.{◌≡◌, ℕ, List, [], ◌∷◌, ◌++◌, Bool, true, false, ◌==◌, ◌&&◌}
+use Rattle.std.specs.Prelude.{if◌then◌else◌, Option, Some, None, Result, Ok, Err, map}
 use Rattle.login_setup.specs.declared.setup.PeerSetup.{PeerSetup}
 use Rattle.octet_lists.specs.Among.{is_among, identity_kind, notification_kind, nak_kind}
 use Rattle.login_setup.specs.Setup.{IsSoundPeer, HasKeys}
@@ -18,7 +19,8 @@ use Rattle.eap_method.specs.declared.values.MethodState.TheVariants as method
 use Rattle.eap_method.specs.declared.values.Decision.{Decision}
 use Rattle.eap_method.specs.declared.values.Decision.TheVariants as decision
 use Rattle.eap_method.specs.declared.values.Report.{Report}
-use Rattle.eap_method.specs.Peer.{PeerShown, first_of, PeerViews, peer_views, view_of, views_started, peer_turn, peer_report_of}
+use Rattle.eap_method.specs.Peer.{PeerShown, first_of, PeerViews, peer_views, view_of}
+use Rattle.eap_method.specs.Peer.{views_started, peer_turn, peer_report_of}
 use Rattle.eap_method.specs.Steps.{sends, enters, discards, is_end}
 use Rattle.eap_method.specs.Tags.{no_tags}
 use Rattle.eap_method.specs.Unnamed.{PreservesPeers}
@@ -36,12 +38,17 @@ pub record PeerNow : Type 0 where
 
 -- what a machine is, if an object shows its method and view
 abbrev pub now_of : {M : Type 0} → (M → PeerShown) → PeerValue M → PeerNow
-now_of shown value = record { vars = value.vars; views = peer_views value.vars.setup.methods (map shown value.methods) }
+now_of shown value = record {
+  vars = value.vars;
+  views = peer_views value.vars.setup.methods (map shown value.methods);
+}
 
--- what no call of a peer changes but `restart`: its settings, the Types of its objects, and what the objects show whose
--- methods the settings don't name
-pub record Preserves {M : Type 0} (shown : M → PeerShown) (before after : PeerValue M) : Type 0 where
-  pub objects : PreservesPeers before.vars.setup.methods (map shown before.methods) (map shown after.methods)
+-- what no call of a peer changes but `restart`: its settings, the Types of its objects, and what
+-- the objects show whose methods the settings don't name
+pub record Preserves {M : Type 0} (shown : M → PeerShown)
+    (before after : PeerValue M) : Type 0 where
+  pub objects : PreservesPeers before.vars.setup.methods (map shown before.methods)
+      (map shown after.methods)
   pub setup : after.vars.setup ≡ before.vars.setup
 
 -- what a call answers, and the machine after it
@@ -75,9 +82,11 @@ initial_peer setup views = record { vars = initial_vars setup; views = views_sta
 abbrev pub setup_with_nonce : PeerSetup → List ℕ → PeerSetup
 setup_with_nonce setup nonce = record setup { nonce = nonce }
 
--- a new conversation with it: every variable and the view of each allowed method as INITIALIZE sets it
+-- a new conversation with it: every variable and the view of each allowed method as INITIALIZE sets
+-- it
 unfoldable pub peer_restart : PeerNow → List ℕ → PeerAnswer
-peer_restart now nonce = answer (enters (state.Initialize ∷ state.Idle ∷ []) no_tags) (initial_peer (setup_with_nonce now.vars.setup nonce) now.views)
+peer_restart now nonce = answer (enters (state.Initialize ∷ state.Idle ∷ []) no_tags)
+    (initial_peer (setup_with_nonce now.vars.setup nonce) now.views)
 
 -- whether the Identifier is lastId
 abbrev pub is_last_id : Option ℕ → ℕ → Bool
@@ -119,24 +128,44 @@ nak_response id methods = spelled (response id nak_kind (nak_of methods))
 -- RETRANSMIT sends lastRespData unchanged
 abbrev pub peer_retransmit : PeerNow → PeerAnswer
 peer_retransmit now =
-    answer (sends (state.Received ∷ state.Retransmit ∷ state.SendResponse ∷ state.Idle ∷ []) now.vars.last_response no_tags) now
+    answer (sends (state.Received ∷ state.Retransmit ∷ state.SendResponse ∷ state.Idle ∷ [])
+    now.vars.last_response no_tags) now
 
 -- the states before METHOD: GET_METHOD, if it has just selected the method
 abbrev pub before_method : Bool → List State
 before_method true = state.Received ∷ state.GetMethod ∷ []
 before_method false = state.Received ∷ []
 
--- METHOD and what follows it. A discard undoes a selection that GET_METHOD has just made; a method that
--- is over and has failed sends nothing more
+-- METHOD and what follows it. A discard undoes a selection that GET_METHOD has just made; a method
+-- that is over and has failed sends nothing more
 abbrev pub method_answers : Bool → PeerNow → ℕ → ℕ → PeerViews → PeerTurn → PeerAnswer
 method_answers selects now kind id views (Discard c) =
-    answer (discards (before_method selects ++ state.Method ∷ state.Discard ∷ state.Idle ∷ []) c) now
+    answer (discards (before_method selects ++ state.Method ∷ state.Discard ∷ state.Idle ∷ []) c)
+    now
 method_answers selects now kind id views (Reply packet m d tags) =
     if is_done m && is_fail d
     then answer (enters (before_method selects ++ state.Method ∷ state.Failure ∷ []) tags)
-    (record { vars = record now.vars { state = state.Failure; selected = Some kind; method_state = m; decision = d }; views = views })
-    else answer (sends (before_method selects ++ state.Method ∷ state.SendResponse ∷ state.Idle ∷ []) packet tags)
-    (record { vars = record now.vars { selected = Some kind; method_state = m; decision = d; last_id = Some id; last_response = packet }; views = views })
+    (record {
+      vars = record now.vars {
+        state = state.Failure;
+        selected = Some kind;
+        method_state = m;
+        decision = d;
+      };
+      views = views;
+    })
+    else answer (sends
+    (before_method selects ++ state.Method ∷ state.SendResponse ∷ state.Idle ∷ []) packet tags)
+    (record {
+      vars = record now.vars {
+        selected = Some kind;
+        method_state = m;
+        decision = d;
+        last_id = Some id;
+        last_response = packet;
+      };
+      views = views;
+    })
 
 -- the views after a turn: a discard keeps those before it
 abbrev pub views_after : PeerViews → PeerViews → PeerTurn → PeerViews
@@ -146,7 +175,8 @@ views_after before after (Reply packet m d tags) = after
 -- the method of this Type handles the whole packet
 unfoldable pub peer_method : Bool → PeerNow → ℕ → ℕ → List ℕ → PeerAnswer
 peer_method selects now kind id octets =
-    let out = peer_turn kind now.views octets in method_answers selects now kind id out.after out.turn
+    let out =
+    peer_turn kind now.views octets in method_answers selects now kind id out.after out.turn
 
 -- GET_METHOD: a Type that the policy allows is selected; any other is answered by a Nak
 abbrev pub get_method : PeerNow → ℕ → ℕ → List ℕ → PeerAnswer
@@ -158,24 +188,29 @@ get_method now id kind octets =
 -- a Request with a new Identifier
 abbrev pub new_request : PeerNow → ℕ → ℕ → List ℕ → Option ℕ → PeerAnswer
 new_request now id kind octets None =
-    if kind == identity_kind then peer_respond now state.Identity id (identity_response id now.vars.setup.name)
-    else if kind == notification_kind then peer_respond now state.Notification id (notification_response id)
+    if kind == identity_kind
+    then peer_respond now state.Identity id (identity_response id now.vars.setup.name)
+    else if kind == notification_kind
+    then peer_respond now state.Notification id (notification_response id)
     else get_method now id kind octets
 new_request now id kind octets (Some selected) =
     if kind == notification_kind then peer_discard now cause.NotAllowed
     else if kind == selected
-    then (if is_done now.vars.method_state then peer_discard now cause.MethodDone else peer_method false now kind id octets)
+    then (if is_done now.vars.method_state then peer_discard now cause.MethodDone
+    else peer_method false now kind id octets)
     else peer_discard now cause.OtherMethod
 
 -- the peer ends in this state
 abbrev pub peer_ends : PeerNow → List State → State → PeerAnswer
-peer_ends now entered s = answer (enters (entered ++ s ∷ []) no_tags) (with_vars now (record now.vars { state = s }))
+peer_ends now entered s =
+    answer (enters (entered ++ s ∷ []) no_tags) (with_vars now (record now.vars { state = s }))
 
 -- a Success with lastId
 abbrev pub peer_success : PeerNow → PeerAnswer
 peer_success now =
     if is_fail now.vars.decision
-    then (if is_cont now.vars.method_state then peer_discard now cause.EarlySuccess else peer_ends now (state.Received ∷ []) state.Failure)
+    then (if is_cont now.vars.method_state then peer_discard now cause.EarlySuccess
+    else peer_ends now (state.Received ∷ []) state.Failure)
     else peer_ends now (state.Received ∷ []) state.Success
 
 -- a Failure with lastId
@@ -192,24 +227,29 @@ peer_row now (Ok (request id kind body)) =
     then peer_retransmit now
     else new_request now id kind (spelled (request id kind body)) now.vars.selected
 peer_row now (Ok (response id kind body)) = peer_discard now cause.WrongRole
-peer_row now (Ok (success id)) = if is_last_id now.vars.last_id id then peer_success now else peer_discard now cause.IdMismatch
-peer_row now (Ok (failure id)) = if is_last_id now.vars.last_id id then peer_failure now else peer_discard now cause.IdMismatch
+peer_row now (Ok (success id)) =
+    if is_last_id now.vars.last_id id then peer_success now else peer_discard now cause.IdMismatch
+peer_row now (Ok (failure id)) =
+    if is_last_id now.vars.last_id id then peer_failure now else peer_discard now cause.IdMismatch
 
 -- a delivery; after the end it is discarded with an empty path
 unfoldable pub peer_deliver : PeerNow → List ℕ → PeerAnswer
 peer_deliver now octets =
-    if is_end now.vars.state then answer (discards [] cause.Ended) now else peer_row now (packet_of octets)
+    if is_end now.vars.state then answer (discards [] cause.Ended) now
+    else peer_row now (packet_of octets)
 
 -- the lower layer is idle: nothing more will come (section 4.1.1)
 unfoldable pub peer_idle : PeerNow → PeerAnswer
-peer_idle now = peer_ends now [] (if is_uncond now.vars.decision then state.Success else state.Failure)
+peer_idle now =
+    peer_ends now [] (if is_uncond now.vars.decision then state.Success else state.Failure)
 
 -- the lower layer reports success: SUCCESS after a decision other than FAIL, else FAILURE if
 -- methodState isn't CONT, else nothing
 unfoldable pub peer_alt_accept : PeerNow → PeerAnswer
 peer_alt_accept now =
     if is_fail now.vars.decision
-    then (if is_cont now.vars.method_state then answer (enters [] no_tags) now else peer_ends now [] state.Failure)
+    then (if is_cont now.vars.method_state then answer (enters [] no_tags) now
+    else peer_ends now [] state.Failure)
     else peer_ends now [] state.Success
 
 -- the lower layer reports failure

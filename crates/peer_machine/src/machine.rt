@@ -21,13 +21,16 @@
 //! If no row applies, a delivery is discarded with its cause by RECEIVED, DISCARD and IDLE; after the end as Ended with
 //! an empty path.
 
-ghost use Rattle.std.specs.Prelude.{◌≡◌, ◌≢◌, ◌≤◌, ◌↔◌, IsTrue, [], ◌∷◌, ◌++◌, length, slice_index, true, false, map, None, Some, Ok, ℕ, List, option_map};
+ghost use Rattle.std.specs.Prelude.{◌≡◌, ◌≢◌, ◌≤◌, ◌↔◌, IsTrue, [], ◌∷◌, ◌++◌, length, slice_index};
+ghost use Rattle.std.specs.Prelude.{true, false, map, None, Some, Ok, ℕ, List, option_map};
 ghost use Rattle.octet_lists.specs.Among.{is_among, expanded_kind, ietf, nak_kind};
 ghost use Rattle.login_setup.specs.Setup.{IsSoundPeer, HasKeys};
 ghost use Rattle.eap_packet.specs.Packet.{spelled, value_of, IsPacket, max_type_data};
 ghost use Rattle.eap_packet.specs.Fault.{packet_of};
 ghost use Rattle.eap_packet.specs.Packet as packets;
-ghost use Rattle.eap_packet.specs.declared.state.State.TheVariants.{Received, Method, Discard, Idle, Failure, Retransmit, SendResponse};
+ghost use Rattle.eap_packet.specs.declared.state.State.TheVariants.{Received, Method, Discard};
+ghost use Rattle.eap_packet.specs.declared.state.State.TheVariants.{Idle, Failure, Retransmit};
+ghost use Rattle.eap_packet.specs.declared.state.State.TheVariants.{SendResponse};
 ghost use Rattle.eap_method.specs.PeerTurn.{peer_turn_with, peer_tags};
 ghost use Rattle.eap_method.specs.Plain.{plain_octets};
 ghost use Rattle.eap_method.specs.Capacity.{HasCapacity, replies};
@@ -36,8 +39,11 @@ ghost use Rattle.eap_method.specs.Tags.{no_tags};
 ghost use Rattle.eap_method.specs.Tags as records;
 ghost use Rattle.eap_method.specs.Unnamed.{PreservesPeers};
 ghost use Rattle.peer_machine.specs.Expanded.{express};
-ghost use Rattle.peer_machine.specs.PeerTable.{Preserves, before_method, method_answers, views_after, answer, is_allowed, selected_shown, selected_view};
-ghost use Rattle.eap_method.specs.Peer.{IsRequest, PeerShown, PeerViews, have_each, peer_views, peer_turn, peer_kinds};
+ghost use Rattle.peer_machine.specs.PeerTable.{Preserves, before_method, method_answers};
+ghost use Rattle.peer_machine.specs.PeerTable.{views_after, answer, is_allowed, selected_shown};
+ghost use Rattle.peer_machine.specs.PeerTable.{selected_view};
+ghost use Rattle.eap_method.specs.Peer.{IsRequest, PeerShown, PeerViews, have_each, peer_views};
+ghost use Rattle.eap_method.specs.Peer.{peer_turn, peer_kinds};
 
 use crate::variables::PeerVariables;
 use eap_method::{
@@ -76,7 +82,11 @@ impl<M> Model for PeerMachine<M> {
 
 impl<M: PeerMethod> PeerMachine<M> {
     ghost use Rattle.eap_method.specs.Steps.{is_end};
-    ghost use Rattle.peer_machine.specs.PeerTable.{now_of, setup_with_nonce, initial_peer, peer_restart, peer_deliver, peer_idle, peer_alt_accept, peer_alt_reject, peer_reports, peer_row, peer_success, peer_failure, new_request, peer_method, is_last_id};
+    ghost use Rattle.peer_machine.specs.PeerTable.{now_of, setup_with_nonce, initial_peer};
+    ghost use Rattle.peer_machine.specs.PeerTable.{peer_restart, peer_deliver, peer_idle};
+    ghost use Rattle.peer_machine.specs.PeerTable.{peer_alt_accept, peer_alt_reject, peer_reports};
+    ghost use Rattle.peer_machine.specs.PeerTable.{peer_row, peer_success, peer_failure};
+    ghost use Rattle.peer_machine.specs.PeerTable.{new_request, peer_method, is_last_id};
     ghost use Rattle.peer_machine.specs.Expanded.{peer_receives, reads_request, expressed_unless};
 
     /// Whether [`new`](PeerMachine::new) takes these settings with these objects.
@@ -92,9 +102,12 @@ impl<M: PeerMethod> PeerMachine<M> {
     pub fn new(setup: PeerSetup, methods: Vec<M>) -> PeerMachine<M>
         requires sound { IsSoundPeer setup }
         requires keys { HasKeys setup }
-        requires objects { have_each (peer_kinds (map M.peer_shown methods.items)) setup.methods ≡ true }
-        ensures initial { now_of M.peer_shown result ≡ initial_peer setup (peer_views setup.methods (map M.peer_shown methods.items)) }
-        ensures preserves { PreservesPeers setup.methods (map M.peer_shown methods.items) (map M.peer_shown result.methods) }
+        requires objects { have_each (peer_kinds (map M.peer_shown methods.items)) setup.methods
+            ≡ true }
+        ensures initial { now_of M.peer_shown result
+            ≡ initial_peer setup (peer_views setup.methods (map M.peer_shown methods.items)) }
+        ensures preserves { PreservesPeers setup.methods (map M.peer_shown methods.items)
+            (map M.peer_shown result.methods) }
     {
         let mut methods = methods;
         start_peers(methods.as_mut_slice(), &setup);
@@ -117,8 +130,10 @@ impl<M: PeerMethod> PeerMachine<M> {
     /// tag is accepted or made. Each of its methods has an object.
     #[tactic(auto, unfolding(crate::specs::PeerTable::peer_restart), using(crate::proofs::Restarting::still_sound))]
     pub fn restart_step(&mut self, nonce: &Nonce) -> Step
-        requires objects { have_each (peer_kinds (map M.peer_shown self.old.methods)) self.old.vars.setup.methods ≡ true }
-        ensures step { peer_restart (now_of M.peer_shown self.old) nonce.now ≡ answer (step_with result [] no_tags) (now_of M.peer_shown self.new) }
+        requires objects { have_each (peer_kinds
+            (map M.peer_shown self.old.methods)) self.old.vars.setup.methods ≡ true }
+        ensures step { peer_restart (now_of M.peer_shown self.old) nonce.now
+            ≡ answer (step_with result [] no_tags) (now_of M.peer_shown self.new) }
         ensures preserves { PreservesPeers self.old.vars.setup.methods
             (map M.peer_shown self.old.methods) (map M.peer_shown self.new.methods) }
         ensures setup { self.new.vars.setup ≡ setup_with_nonce self.old.vars.setup nonce.now }
@@ -171,7 +186,8 @@ impl<M: PeerMethod> PeerMachine<M> {
     #[tactic(auto, unfolding(crate::specs::PeerTable::peer_idle))]
     pub fn idle_step(&mut self) -> Step
         requires { is_end self.old.vars.state ≡ false }
-        ensures step { peer_idle (now_of M.peer_shown self.old) ≡ answer (step_with result [] no_tags) (now_of M.peer_shown self.new) }
+        ensures step { peer_idle (now_of M.peer_shown self.old)
+            ≡ answer (step_with result [] no_tags) (now_of M.peer_shown self.new) }
         ensures preserves { Preserves M.peer_shown self.old self.new }
     {
         if self.vars.decision == Decision::UncondSucc {
@@ -186,7 +202,8 @@ impl<M: PeerMethod> PeerMachine<M> {
     #[tactic(auto, unfolding(crate::specs::PeerTable::peer_alt_accept))]
     pub fn alt_accept_step(&mut self) -> Step
         requires { is_end self.old.vars.state ≡ false }
-        ensures step { peer_alt_accept (now_of M.peer_shown self.old) ≡ answer (step_with result [] no_tags) (now_of M.peer_shown self.new) }
+        ensures step { peer_alt_accept (now_of M.peer_shown self.old)
+            ≡ answer (step_with result [] no_tags) (now_of M.peer_shown self.new) }
         ensures preserves { Preserves M.peer_shown self.old self.new }
     {
         if self.vars.decision != Decision::Fail {
@@ -202,7 +219,8 @@ impl<M: PeerMethod> PeerMachine<M> {
     #[tactic(auto, unfolding(crate::specs::PeerTable::peer_alt_reject))]
     pub fn alt_reject_step(&mut self) -> Step
         requires { is_end self.old.vars.state ≡ false }
-        ensures step { peer_alt_reject (now_of M.peer_shown self.old) ≡ answer (step_with result [] no_tags) (now_of M.peer_shown self.new) }
+        ensures step { peer_alt_reject (now_of M.peer_shown self.old)
+            ≡ answer (step_with result [] no_tags) (now_of M.peer_shown self.new) }
         ensures preserves { Preserves M.peer_shown self.old self.new }
     {
         end(&mut self.vars, State::Failure)
@@ -239,8 +257,10 @@ impl<M: PeerMethod> PeerMachine<M> {
     /// The object of the selected method, the first of its Type, which shows the method's view. None if no method is
     /// selected, or there is no object of it.
     pub fn selected(&self) -> Option<&M>
-        ensures shown { option_map (λ o. M.peer_shown o.now) result ≡ selected_shown self.now.vars.selected (map M.peer_shown self.now.methods) }
-        ensures view { (shown : PeerShown) → option_map (λ o. M.peer_shown o.now) result ≡ Some shown
+        ensures shown { option_map (λ o. M.peer_shown o.now) result
+            ≡ selected_shown self.now.vars.selected (map M.peer_shown self.now.methods) }
+        ensures view { (shown : PeerShown) → option_map (λ o. M.peer_shown o.now) result
+            ≡ Some shown
             → selected_view (now_of M.peer_shown self.now) ≡ Some shown }
     {
         match self.vars.selected {
@@ -251,7 +271,8 @@ impl<M: PeerMethod> PeerMachine<M> {
 
     /// Whether each method that the settings allow has an object: the condition of [`restart`](PeerMachine::restart).
     pub fn has_objects(&self) -> bool
-        ensures { result ≡ have_each (peer_kinds (map M.peer_shown self.now.methods)) self.now.vars.setup.methods }
+        ensures { result ≡ have_each (peer_kinds
+            (map M.peer_shown self.now.methods)) self.now.vars.setup.methods }
     {
         has_peers(self.methods.as_slice(), self.vars.setup.methods.as_slice())
     }
@@ -295,7 +316,8 @@ impl<M: PeerMethod> PeerMachine<M> {
         requires packet { packet_of octets.now ≡ Ok (value_of view.now) }
         requires size { length view.now.body.now ≤ max_type_data }
         requires tags { tags.old ≡ no_tags }
-        ensures step { reads_request (now_of M.peer_shown self.old) octets.now view.now.id view.now.kind view.now.body.now
+        ensures step { reads_request (now_of M.peer_shown self.old)
+            octets.now view.now.id view.now.kind view.now.body.now
             ≡ answer (step_with result packet.new tags.new) (now_of M.peer_shown self.new) }
         ensures preserves { Preserves M.peer_shown self.old self.new }
     {
@@ -322,7 +344,8 @@ impl<M: PeerMethod> PeerMachine<M> {
         requires size { length view.now.body.now ≤ max_type_data }
         requires tags { tags.old ≡ no_tags }
         ensures step { expressed_unless (is_last_id self.old.vars.last_id view.now.id)
-            (peer_deliver (now_of M.peer_shown self.old) (plain_octets octets.now (value_of view.now)))
+            (peer_deliver (now_of M.peer_shown self.old)
+            (plain_octets octets.now (value_of view.now)))
             ≡ answer (step_with result packet.new tags.new) (now_of M.peer_shown self.new) }
         ensures preserves { Preserves M.peer_shown self.old self.new }
     {
@@ -348,10 +371,12 @@ impl<M: PeerMethod> PeerMachine<M> {
         requires packet { packet_of octets.now ≡ Ok (value_of view.now) }
         requires size { length view.now.body.now ≤ max_type_data }
         requires tags { tags.old ≡ no_tags }
-        ensures step { peer_deliver (now_of M.peer_shown self.old) (plain_octets octets.now (value_of view.now))
+        ensures step { peer_deliver (now_of M.peer_shown self.old)
+            (plain_octets octets.now (value_of view.now))
             ≡ answer (step_with result packet.new tags.new) (now_of M.peer_shown self.new) }
         ensures preserves { Preserves M.peer_shown self.old self.new }
-        ensures capacity { is_last_id self.old.vars.last_id view.now.id ≡ false → result.sends ≡ true → HasCapacity packet.new }
+        ensures capacity { is_last_id self.old.vars.last_id view.now.id ≡ false
+            → result.sends ≡ true → HasCapacity packet.new }
     {
         let mut plain = Packet::new();
         if write_plain(view, &mut plain) {
@@ -374,7 +399,8 @@ impl<M: PeerMethod> PeerMachine<M> {
         ensures step { peer_deliver (now_of M.peer_shown self.old) octets.now
             ≡ answer (step_with result packet.new tags.new) (now_of M.peer_shown self.new) }
         ensures preserves { Preserves M.peer_shown self.old self.new }
-        ensures capacity { is_last_id self.old.vars.last_id (slice_index octets.now 1) ≡ false → result.sends ≡ true → HasCapacity packet.new }
+        ensures capacity { is_last_id self.old.vars.last_id (slice_index octets.now 1) ≡ false
+            → result.sends ≡ true → HasCapacity packet.new }
     {
         if self.ended() {
             return Step::discarding(&[], Cause::Ended);
@@ -399,7 +425,8 @@ impl<M: PeerMethod> PeerMachine<M> {
         ensures step { peer_row (now_of M.peer_shown self.old) (Ok (value_of view.now))
             ≡ answer (step_with result packet.new tags.new) (now_of M.peer_shown self.new) }
         ensures preserves { Preserves M.peer_shown self.old self.new }
-        ensures capacity { is_last_id self.old.vars.last_id view.now.id ≡ false → result.sends ≡ true → HasCapacity packet.new }
+        ensures capacity { is_last_id self.old.vars.last_id view.now.id ≡ false
+            → result.sends ≡ true → HasCapacity packet.new }
     {
         let is_last = self.vars.last_id == Some(view.id);
         match view.code {
@@ -469,7 +496,8 @@ impl<M: PeerMethod> PeerMachine<M> {
     ) -> Step
         requires request { IsRequest kind request.now }
         requires tags { tags.old ≡ no_tags }
-        ensures step { new_request (now_of M.peer_shown self.old) id kind request.now self.old.vars.selected
+        ensures step { new_request (now_of M.peer_shown self.old)
+            id kind request.now self.old.vars.selected
             ≡ answer (step_with result packet.new tags.new) (now_of M.peer_shown self.new) }
         ensures preserves { Preserves M.peer_shown self.old self.new }
         ensures capacity { result.sends ≡ true → HasCapacity packet.new }
@@ -549,7 +577,8 @@ impl<M: PeerMethod> PeerMachine<M> {
 
 /// DISCARD: nothing changes.
 fn discard(cause: Cause) -> Step
-    ensures { result ≡ record { path = Received ∷ Discard ∷ Idle ∷ []; cause = Some cause; sends = false } }
+    ensures { result
+        ≡ record { path = Received ∷ Discard ∷ Idle ∷ []; cause = Some cause; sends = false } }
 {
     Step::discarding(&[State::Received, State::Discard, State::Idle], cause)
 }
@@ -586,7 +615,8 @@ fn express(vars: &mut PeerVariables, packet: &mut Packet)
 /// Writes the Expanded Nak with these entries in place of what was there (RFC 3748 section 5.3.2).
 fn write_expanded_nak(packet: &mut Packet, id: u8, entries: &[u8])
     requires { length entries.now ≤ 16 }
-    ensures { packet.new ≡ spelled (packets.response id expanded_kind (ietf ++ nak_kind ∷ entries.now)) }
+    ensures { packet.new
+        ≡ spelled (packets.response id expanded_kind (ietf ++ nak_kind ∷ entries.now)) }
 {
     init_into(
         packet,
@@ -604,7 +634,11 @@ fn write_expanded_nak(packet: &mut Packet, id: u8, entries: &[u8])
 #[inline(never)]
 fn respond(vars: &mut PeerVariables, entered: State, id: u8, response: &Packet) -> Step
     ensures vars { vars.new ≡ record vars.old { last_id = Some id; last_response = response.now } }
-    ensures step { result ≡ record { path = Received ∷ entered ∷ SendResponse ∷ Idle ∷ []; cause = None; sends = true } }
+    ensures step { result ≡ record {
+      path = Received ∷ entered ∷ SendResponse ∷ Idle ∷ [];
+      cause = None;
+      sends = true;
+    } }
 {
     vars.last_id = Some(id);
     vars.last_response.set(response.as_slice());
@@ -614,7 +648,11 @@ fn respond(vars: &mut PeerVariables, entered: State, id: u8, response: &Packet) 
 /// RETRANSMIT: lastRespData is sent again, unchanged; no method is called.
 fn retransmit(vars: &PeerVariables, packet: &mut Packet) -> Step
     ensures packet { packet.new ≡ vars.now.last_response }
-    ensures step { result ≡ record { path = Received ∷ Retransmit ∷ SendResponse ∷ Idle ∷ []; cause = None; sends = true } }
+    ensures step { result ≡ record {
+      path = Received ∷ Retransmit ∷ SendResponse ∷ Idle ∷ [];
+      cause = None;
+      sends = true;
+    } }
 {
     packet.set(vars.last_response.as_slice());
     let states = [
@@ -655,10 +693,14 @@ fn call_method<M: PeerMethod, R: Turns>(
     requires { IsRequest kind request.now }
     ensures turn { (allowed : List ℕ) → is_among allowed kind ≡ true
         → peer_turn kind (peer_views allowed (map M.peer_shown methods.old.items)) request.now
-        ≡ record { turn = peer_turn_with result packet.new tags.new; after = peer_views allowed (map M.peer_shown methods.new.items) } }
+        ≡ record {
+          turn = peer_turn_with result packet.new tags.new;
+          after = peer_views allowed (map M.peer_shown methods.new.items);
+        } }
     ensures tags { tags.new ≡ peer_tags (peer_turn_with result packet.new tags.new) }
     ensures preserves { (allowed : List ℕ) → is_among allowed kind ≡ true
-        → PreservesPeers allowed (map M.peer_shown methods.old.items) (map M.peer_shown methods.new.items) }
+        → PreservesPeers allowed (map M.peer_shown methods.old.items)
+        (map M.peer_shown methods.new.items) }
     ensures capacity { replies result ≡ true → HasCapacity packet.new }
 {
     call_peer_method(methods.as_mut_slice(), kind, request, packet, tags)
@@ -673,12 +715,15 @@ fn settle(
     turn: PeerAnswer,
     packet: &Packet,
 ) -> Step
-    ensures step { (before after : PeerViews) (tags : records.Tags) → let whole = peer_turn_with turn packet.now tags in
+    ensures step { (before after : PeerViews) (tags : records.Tags)
+        → let whole = peer_turn_with turn packet.now tags in
         method_answers selects (record { vars = vars.old; views = before }) kind id after whole
-        ≡ answer (step_with result packet.now (peer_tags whole)) (record { vars = vars.new; views = views_after before after whole }) }
+        ≡ answer (step_with result packet.now (peer_tags whole))
+        (record { vars = vars.new; views = views_after before after whole }) }
     ensures setup { vars.new.setup ≡ vars.old.setup }
     ensures sends { result.sends ≡ true → replies turn ≡ true }
-    ensures selected { is_allowed vars.old.setup.methods vars.old.selected ≡ true → is_among vars.old.setup.methods kind ≡ true
+    ensures selected { is_allowed vars.old.setup.methods vars.old.selected ≡ true
+        → is_among vars.old.setup.methods kind ≡ true
         → is_allowed vars.new.setup.methods vars.new.selected ≡ true }
 {
     match turn {
@@ -713,7 +758,11 @@ fn states_before(selects: bool) -> &'static [State]
 
 /// METHOD and DISCARD, after GET_METHOD if it has just selected the method.
 fn method_discards(selects: bool, cause: Cause) -> Step
-    ensures { result ≡ record { path = before_method selects ++ Method ∷ Discard ∷ Idle ∷ []; cause = Some cause; sends = false } }
+    ensures { result ≡ record {
+      path = before_method selects ++ Method ∷ Discard ∷ Idle ∷ [];
+      cause = Some cause;
+      sends = false;
+    } }
 {
     let step = Step::discarding(&[State::Method, State::Discard, State::Idle], cause);
     step.after(states_before(selects))
@@ -721,14 +770,22 @@ fn method_discards(selects: bool, cause: Cause) -> Step
 
 /// METHOD and FAILURE, after GET_METHOD if it has just selected the method.
 fn method_fails(selects: bool) -> Step
-    ensures { result ≡ record { path = before_method selects ++ Method ∷ Failure ∷ []; cause = None; sends = false } }
+    ensures { result ≡ record {
+      path = before_method selects ++ Method ∷ Failure ∷ [];
+      cause = None;
+      sends = false;
+    } }
 {
     Step::entering(&[State::Method, State::Failure]).after(states_before(selects))
 }
 
 /// METHOD and SEND_RESPONSE, after GET_METHOD if it has just selected the method.
 fn method_replies(selects: bool) -> Step
-    ensures { result ≡ record { path = before_method selects ++ Method ∷ SendResponse ∷ Idle ∷ []; cause = None; sends = true } }
+    ensures { result ≡ record {
+      path = before_method selects ++ Method ∷ SendResponse ∷ Idle ∷ [];
+      cause = None;
+      sends = true;
+    } }
 {
     let step = Step::sending(&[State::Method, State::SendResponse, State::Idle]);
     step.after(states_before(selects))

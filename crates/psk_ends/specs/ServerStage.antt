@@ -4,7 +4,8 @@ use Rattle.eap_packet.specs.declared.cause.Cause.{Cause}
 use Rattle.eap_method.specs.Tags.{Tags}
 use Rattle.eap_method.specs.declared.turn.ServerAnswer as brief
 use Rattle.eap_method.specs.ServerTurn.{server_turn_with}
-use Rattle.eap_method.specs.PskServer.{View, Login, unset, begun, asked, checked, refused, over, r_for, answers}
+use Rattle.eap_method.specs.PskServer.{View, Login, unset, begun, asked, checked, refused, over}
+use Rattle.eap_method.specs.PskServer.{r_for, answers}
 use Rattle.eap_method.specs.Turns.{ServerOutcome, dropped, done}
 use Rattle.psk_ends.specs.declared.server.login.Initial.{Initial}
 use Rattle.psk_ends.specs.declared.server.login.UserPsk2.{UserPsk2}
@@ -34,7 +35,8 @@ view_of (stage.Known login phase) = in_known phase login
 
 -- a turn with what it wrote, and the server's state after it
 abbrev pub outcome_with : brief.ServerAnswer → List ℕ → Tags → View → ServerOutcome View
-outcome_with turn packet tags after = record { turn = server_turn_with turn packet tags; after = after }
+outcome_with turn packet tags
+    after = record { turn = server_turn_with turn packet tags; after = after }
 
 -- the login that begins with PSK-2
 abbrev pub login_with : Initial → UserPsk2 → Login
@@ -47,8 +49,8 @@ login_with own found = record {
   r = r_for found.user.now.barred;
 }
 
--- what a server that has sent PSK-1 makes of the PSK-2 that it accepts, of one without a user, or of the
--- cause why it accepts none
+-- what a server that has sent PSK-1 makes of the PSK-2 that it accepts, of one without a user, or
+-- of the cause why it accepts none
 abbrev pub asked_with : Initial → ℕ → Result (Option UserPsk2) Cause → ServerOutcome View
 asked_with own next_id (Err cause) = dropped (asked own.side own.nonce) cause
 asked_with own next_id (Ok None) = done (refused own.side own.nonce) false []

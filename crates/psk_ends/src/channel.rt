@@ -1,7 +1,9 @@
 //! PCHANNEL, the protected channel (RFC 4764 section 3.3), with the one octet that it hides.
 
-ghost use Rattle.std.specs.Prelude.{◌≡◌, ◌≤◌, ◌<◌, ◌-◌, [], ◌∷◌, ◌++◌, length, take, slice_index, Some, None, if◌then◌else◌};
-ghost use Rattle.eap_method.specs.PskTags.{channel_nonce, header_of, sealed_result, is_sealed, hidden_octet, result_fault, tek_record};
+ghost use Rattle.std.specs.Prelude.{◌≡◌, ◌≤◌, ◌<◌, ◌-◌, [], ◌∷◌, ◌++◌, length, take, slice_index};
+ghost use Rattle.std.specs.Prelude.{Some, None, if◌then◌else◌};
+ghost use Rattle.eap_method.specs.PskTags.{channel_nonce, header_of, sealed_result, is_sealed};
+ghost use Rattle.eap_method.specs.PskTags.{hidden_octet, result_fault, tek_record};
 ghost use Rattle.psk_ends.specs.Checks.{value_unless};
 
 use crate::octets::header_of;
@@ -89,7 +91,8 @@ pub fn seal_in<R: Records>(
 
 /// The octet that was sealed in PCHANNEL under this header, or None if the tag is wrong.
 pub fn open(tek: &CmacKey, header: &[u8], channel: &Channel) -> Option<u8>
-    ensures { result ≡ (if is_sealed tek.now channel.now.nonce header.now channel.now.sealed channel.now.tag
+    ensures { result
+        ≡ (if is_sealed tek.now channel.now.nonce header.now channel.now.sealed channel.now.tag
         then Some (hidden_octet tek.now channel.now.nonce channel.now.sealed) else None) }
 {
     let mut text = [channel.sealed];

@@ -42,8 +42,10 @@ pub fn message_in<'a>(packet: &'a [u8]) -> Result<PskMessage<'a>, Cause>
 pub fn idle_cause(packet: &[u8]) -> Cause
     requires { 5 ≤ length packet.now }
     ensures peer { (login : peer.Login) (good : Bool)
-        → discarded (peer.over login good) result ≡ over_reads login good (read_of (body_of packet.now)) }
-    ensures server { (view : server.View) → dropped view result ≡ idle_reads view (read_of (body_of packet.now)) }
+        → discarded (peer.over login good) result
+        ≡ over_reads login good (read_of (body_of packet.now)) }
+    ensures server { (view : server.View)
+        → dropped view result ≡ idle_reads view (read_of (body_of packet.now)) }
 {
     match message_in(packet) {
         Err(cause) => cause,

@@ -25,7 +25,8 @@ pub fn add_mac_p<'a, R: Records>(
     requires capacity { length list.old < 2 }
     requires id_p { length id_p.now ≤ max_name }
     requires id_s { length id_s.now ≤ max_name }
-    ensures { list.new ≡ list.old ++ ak_record psk.now (mac_p_octets id_p.now id_s.now rand_s.now rand_p.now) mac.now ∷ [] }
+    ensures { list.new ≡ list.old ++ ak_record psk.now (mac_p_octets id_p.now id_s.now rand_s.now
+        rand_p.now) mac.now ∷ [] }
 {
     list.add(PSK_KIND, Label::Ak, psk, &[id_p, id_s, rand_s, rand_p], mac);
 }
@@ -41,7 +42,8 @@ pub fn add_mac_s<'a, R: Records>(
 )
     requires capacity { length list.old < 2 }
     requires id_s { length id_s.now ≤ max_name }
-    ensures { list.new ≡ list.old ++ ak_record psk.now (mac_s_octets id_s.now rand_p.now) mac.now ∷ [] }
+    ensures { list.new
+        ≡ list.old ++ ak_record psk.now (mac_s_octets id_s.now rand_p.now) mac.now ∷ [] }
 {
     list.add(PSK_KIND, Label::Ak, psk, &[id_s, rand_p], mac);
 }

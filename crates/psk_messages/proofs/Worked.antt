@@ -25,21 +25,25 @@ unfolding read_of sixteen
 low_bits = refl
 
 -- RAND_S comes before RAND_P, and both before MAC_P
-second : read_of (64 ∷ sixteen 17 ++ (sixteen 34 ++ (sixteen 51 ++ (97 ∷ [])))) ≡ Ok (psk2 (sixteen 17) (sixteen 34) (sixteen 51) (97 ∷ []))
+second : read_of (64 ∷ sixteen 17 ++ (sixteen 34 ++ (sixteen 51 ++ (97 ∷ []))))
+    ≡ Ok (psk2 (sixteen 17) (sixteen 34) (sixteen 51) (97 ∷ []))
 unfolding read_of sixteen
 second = refl
 
 -- the most significant octet of the Nonce comes first
-fourth : spelled (psk4 (sixteen 17) 258 (sixteen 34) 128) ≡ 192 ∷ sixteen 17 ++ (0 ∷ 0 ∷ 1 ∷ 2 ∷ sixteen 34 ++ (128 ∷ []))
+fourth : spelled (psk4 (sixteen 17) 258 (sixteen 34) 128)
+    ≡ 192 ∷ sixteen 17 ++ (0 ∷ 0 ∷ 1 ∷ 2 ∷ sixteen 34 ++ (128 ∷ []))
 unfolding spelled sixteen
 fourth = refl
 
-fourth_read : read_of (192 ∷ sixteen 17 ++ (0 ∷ 0 ∷ 1 ∷ 2 ∷ sixteen 34 ++ (128 ∷ []))) ≡ Ok (psk4 (sixteen 17) 258 (sixteen 34) 128)
+fourth_read : read_of (192 ∷ sixteen 17 ++ (0 ∷ 0 ∷ 1 ∷ 2 ∷ sixteen 34 ++ (128 ∷ [])))
+    ≡ Ok (psk4 (sixteen 17) 258 (sixteen 34) 128)
 unfolding read_of sixteen
 fourth_read = refl
 
 -- a PCHANNEL of 22 octets
-extended : read_of (128 ∷ sixteen 17 ++ (sixteen 51 ++ (0 ∷ 0 ∷ 0 ∷ 0 ∷ sixteen 34 ++ (160 ∷ 0 ∷ [])))) ≡ Err PskShape
+extended : read_of (128
+    ∷ sixteen 17 ++ (sixteen 51 ++ (0 ∷ 0 ∷ 0 ∷ 0 ∷ sixteen 34 ++ (160 ∷ 0 ∷ [])))) ≡ Err PskShape
 unfolding read_of sixteen
 extended = refl
 

@@ -7,16 +7,19 @@ use Rattle.psk_messages.specs.Reading.{read_of}
 
 -- what is read is the message that the octets encode
 abbrev pub ReadsTheEncoding : Type 0
-ReadsTheEncoding = (octets : List ℕ) (message : Message) → IsOctets octets → (read_of octets ≡ Ok message) ↔ IsPsk message octets
+ReadsTheEncoding = (octets : List ℕ) (message : Message) → IsOctets octets
+    → (read_of octets ≡ Ok message) ↔ IsPsk message octets
 
 -- no list of octets encodes two messages
 abbrev pub EncodingsAreApart : Type 0
-EncodingsAreApart = (octets : List ℕ) (one other : Message) → IsPsk one octets → IsPsk other octets → one ≡ other
+EncodingsAreApart =
+    (octets : List ℕ) (one other : Message) → IsPsk one octets → IsPsk other octets → one ≡ other
 
 -- octets are refused exactly if they encode no message
 abbrev pub RefusesTheRest : Type 0
 RefusesTheRest =
-    (octets : List ℕ) → IsOctets octets → (read_of octets ≡ Err PskShape) ↔ (¬ ((message : Message) × IsPsk message octets))
+    (octets : List ℕ) → IsOctets octets → (read_of octets ≡ Err PskShape)
+    ↔ (¬ ((message : Message) × IsPsk message octets))
 
 -- how many octets are sent
 abbrev pub EncodingsAreSized : Type 0

@@ -1,5 +1,6 @@
 -- EAP-PSK messages (RFC 4764 section 5): message values, their octets, their limits.
-use Rattle.std.specs.Prelude.{◌≡◌, ℕ, ◌+◌, ◌*◌, ◌/◌, ◌^◌, ◌<◌, ◌≤◌, List, [], ◌∷◌, ◌++◌, length, Result, Ok, Err}
+use Rattle.std.specs.Prelude.{◌≡◌, ℕ, ◌+◌, ◌*◌, ◌/◌, ◌^◌, ◌<◌, ◌≤◌, List, [], ◌∷◌, ◌++◌, length}
+use Rattle.std.specs.Prelude.{Result, Ok, Err}
 use Rattle.std.specs.Int.{w32, to_be_bytes}
 use Rattle.octet_lists.specs.Sizes.{max_name}
 use Rattle.eap_packet.specs.declared.cause.Cause.{Cause}
@@ -53,8 +54,10 @@ IsIdentity name = length name ≤ max_name
 -- the limits of the fields
 abbrev pub AreFields : Message → Type 0
 AreFields (psk1 rand_s id_s) = IsSixteen rand_s × IsIdentity id_s
-AreFields (psk2 rand_s rand_p mac id_p) = IsSixteen rand_s × IsSixteen rand_p × IsSixteen mac × IsIdentity id_p
-AreFields (psk3 rand_s mac nonce tag sealed) = IsSixteen rand_s × IsSixteen mac × (nonce < 2 ^ 32) × IsSixteen tag
+AreFields (psk2 rand_s rand_p mac id_p) =
+    IsSixteen rand_s × IsSixteen rand_p × IsSixteen mac × IsIdentity id_p
+AreFields (psk3 rand_s mac nonce tag sealed) =
+    IsSixteen rand_s × IsSixteen mac × (nonce < 2 ^ 32) × IsSixteen tag
 AreFields (psk4 rand_s nonce tag sealed) = IsSixteen rand_s × (nonce < 2 ^ 32) × IsSixteen tag
 
 -- the octets are the message: T is the two high bits of Flags, and the six low bits are free
@@ -73,7 +76,8 @@ EncodesNone octets = (message : Message) → ¬ IsPsk message octets
 unfoldable pub spelled : Message → List ℕ
 spelled message = 64 * t_of message ∷ fields_of message
 
--- the octets of the message that is sent, counted: Flags, the Nonce in four, the octet that is sealed
+-- the octets of the message that is sent, counted: Flags, the Nonce in four, the octet that is
+-- sealed
 abbrev pub size_of : Message → ℕ
 size_of (psk1 rand_s id_s) = 1 + length rand_s + length id_s
 size_of (psk2 rand_s rand_p mac id_p) = 1 + length rand_s + length rand_p + length mac + length id_p
@@ -84,8 +88,10 @@ size_of (psk4 rand_s nonce tag sealed) = 6 + length rand_s + length tag
 abbrev pub message_of : PskMessage → Message
 message_of (view.P1 first) = psk1 first.rand_s first.id_s.now
 message_of (view.P2 second) = psk2 second.rand_s second.rand_p second.mac second.id_p.now
-message_of (view.P3 third) = psk3 third.rand_s third.mac third.channel.nonce third.channel.tag third.channel.sealed
-message_of (view.P4 fourth) = psk4 fourth.rand_s fourth.channel.nonce fourth.channel.tag fourth.channel.sealed
+message_of (view.P3 third) =
+    psk3 third.rand_s third.mac third.channel.nonce third.channel.tag third.channel.sealed
+message_of (view.P4 fourth) =
+    psk4 fourth.rand_s fourth.channel.nonce fourth.channel.tag fourth.channel.sealed
 
 -- a reader's answer, with the message in place of the view
 abbrev pub read_value : Result PskMessage Cause → Result Message Cause

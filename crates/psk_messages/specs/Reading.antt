@@ -1,5 +1,6 @@
 -- Reading Type-Data as an EAP-PSK message (RFC 4764 section 5).
-use Rattle.std.specs.Prelude.{ℕ, ◌+◌, ◌/◌, List, [], ◌∷◌, length, take, drop, slice_index, Bool, ◌==◌, ◌&&◌, nat_le, if◌then◌else◌, Result, Ok, Err}
+use Rattle.std.specs.Prelude.{ℕ, ◌+◌, ◌/◌, List, [], ◌∷◌, length, take, drop, slice_index, Bool}
+use Rattle.std.specs.Prelude.{◌==◌, ◌&&◌, nat_le, if◌then◌else◌, Result, Ok, Err}
 use Rattle.std.specs.Int.{w32, from_be_bytes}
 use Rattle.octet_lists.specs.Sizes.{max_name}
 use Rattle.eap_packet.specs.declared.cause.Cause.{Cause}
@@ -63,4 +64,5 @@ message_at t octets =
 unfoldable pub read_of : List ℕ → Result Message Cause
 read_of [] = Err PskShape
 read_of (flags ∷ octets) =
-    if is_size (flags / 64) (length octets) then Ok (message_at (flags / 64) octets) else Err PskShape
+    if is_size (flags / 64) (length octets) then Ok (message_at (flags / 64) octets)
+    else Err PskShape

@@ -1,6 +1,7 @@
 //! Laws of the messages' grammar (RFC 4764 section 5). Each is the contract of a function that does nothing.
 
-ghost use Rattle.psk_messages.specs.Laws.{ReadsTheEncoding, EncodingsAreApart, RefusesTheRest, SentIsRead, EncodingsAreSized};
+ghost use Rattle.psk_messages.specs.Laws.{ReadsTheEncoding, EncodingsAreApart, RefusesTheRest};
+ghost use Rattle.psk_messages.specs.Laws.{SentIsRead, EncodingsAreSized};
 
 /// What is read is the message that the octets encode, and that one alone.
 pub fn reads_the_encoding()

@@ -5,7 +5,8 @@ ghost use Rattle.octet_lists.specs.Sizes.{max_name};
 ghost use Rattle.eap_packet.specs.Packet.{value_with, has_type};
 ghost use Rattle.eap_packet.specs.Packet as packets;
 ghost use Rattle.eap_packet.specs.declared.cause.Cause.TheVariants.{PskShape};
-ghost use Rattle.psk_messages.specs.Message.{AreFields, IsPsk, EncodesNone, identity_of, message_of, spelled};
+ghost use Rattle.psk_messages.specs.Message.{AreFields, IsPsk, EncodesNone, identity_of};
+ghost use Rattle.psk_messages.specs.Message.{message_of, spelled};
 ghost use Rattle.psk_messages.specs.Plain.{fields_of, plain_value};
 ghost use Rattle.psk_messages.specs.Reading.{read_of};
 

@@ -3,7 +3,9 @@
 ghost use Rattle.std.specs.Prelude.{◌≡◌, ◌+◌, ◌≤◌, length, IfOk, IfErr, IsTrue};
 ghost use Rattle.eap_packet.specs.declared.cause.Cause.TheVariants.{PskShape};
 ghost use Rattle.psk_messages.specs.Message.{AreFields, IsPsk, EncodesNone, read_value, message_of};
-ghost use Rattle.psk_messages.specs.Reading.{front, behind, is_size, message_at, nonce_at, tag_at, sealed_at, psk1_at, psk2_at, psk3_at, psk4_at, read_of};
+ghost use Rattle.psk_messages.specs.Reading.{front, behind, is_size, message_at, nonce_at, tag_at};
+ghost use Rattle.psk_messages.specs.Reading.{sealed_at, psk1_at, psk2_at, psk3_at, psk4_at};
+ghost use Rattle.psk_messages.specs.Reading.{read_of};
 
 use crate::view::{Channel, Psk1, Psk2, Psk3, Psk4, PskMessage};
 use byteorder::{BigEndian, ByteOrder};

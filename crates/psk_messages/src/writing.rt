@@ -4,7 +4,8 @@ ghost use Rattle.std.specs.Prelude.{◌≡◌, ◌+◌, ◌*◌, ◌≤◌, ◌+
 ghost use Rattle.octet_lists.specs.Sizes.{max_name, max_packet};
 ghost use Rattle.eap_packet.specs.Packet.{value_with, has_type};
 ghost use Rattle.eap_packet.specs.Packet as packets;
-ghost use Rattle.psk_messages.specs.Message.{message_of, t_of, channel, fields_of, identity_of, size_of, spelled};
+ghost use Rattle.psk_messages.specs.Message.{message_of, t_of, channel, fields_of, identity_of};
+ghost use Rattle.psk_messages.specs.Message.{size_of, spelled};
 
 use crate::view::{Channel, PskMessage};
 use byteorder::{BigEndian, ByteOrder};

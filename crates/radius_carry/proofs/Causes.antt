@@ -1,8 +1,10 @@
 -- What it means that no cause applies: each condition by name.
-use Rattle.std.proofs.Common.{◌≡◌, ℕ, ◌≤◌, List, [], ◌∷◌, ◌++◌, length, Some, None, Bool, true, false, not, IsTrue, refl, arith}
+use Rattle.std.proofs.Common.{◌≡◌, ℕ, ◌≤◌, List, [], ◌∷◌, ◌++◌, length, Some, None, Bool, true}
+use Rattle.std.proofs.Common.{false, not, IsTrue, refl, arith}
 use Rattle.std.proofs.lemmas.Bool.Decides.{nat_tests}
 use Rattle.radius_carry.specs.Packet.{is_code, count, eap_of, tag_of}
-use Rattle.radius_carry.specs.Fault.{fault, first_cause, head_table, body_table, body_of, code_of, length_of, attributes_of, left_of}
+use Rattle.radius_carry.specs.Fault.{fault, first_cause, head_table, body_table, body_of, code_of}
+use Rattle.radius_carry.specs.Fault.{length_of, attributes_of, left_of}
 use Rattle.radius_carry.specs.declared.cause.RadiusCause.{RadiusCause}
 
 -- the fields before the attributes
@@ -45,23 +47,27 @@ not_true true e = refl
 not_true false e = cc
 
 -- the first cause of two tables
-pub first_of_both : (rows more : List (Bool × RadiusCause)) → first_cause rows ≡ None → first_cause (rows ++ more) ≡ first_cause more
+pub first_of_both : (rows more : List (Bool × RadiusCause)) → first_cause rows ≡ None
+    → first_cause (rows ++ more) ≡ first_cause more
 first_of_both [] more e = refl
 first_of_both ((true, cause) ∷ rows) more e = cc
 first_of_both ((false, cause) ∷ rows) more e = first_of_both rows more e
 
-pub first_of_head : (rows more : List (Bool × RadiusCause)) (found : RadiusCause) → first_cause rows ≡ Some found →
+pub first_of_head : (rows more : List (Bool × RadiusCause)) (found : RadiusCause)
+    → first_cause rows ≡ Some found →
     first_cause (rows ++ more) ≡ Some found
 first_of_head [] more found e = cc
 first_of_head ((true, cause) ∷ rows) more found e = e
 first_of_head ((false, cause) ∷ rows) more found e = first_of_head rows more found e
 
-none_of_first : (rows more : List (Bool × RadiusCause)) → first_cause (rows ++ more) ≡ None → first_cause rows ≡ None
+none_of_first : (rows more : List (Bool × RadiusCause)) → first_cause (rows ++ more) ≡ None
+    → first_cause rows ≡ None
 none_of_first [] more e = refl
 none_of_first ((true, cause) ∷ rows) more e = cc
 none_of_first ((false, cause) ∷ rows) more e = none_of_first rows more e
 
-none_of_more : (rows more : List (Bool × RadiusCause)) → first_cause (rows ++ more) ≡ None → first_cause more ≡ None
+none_of_more : (rows more : List (Bool × RadiusCause)) → first_cause (rows ++ more) ≡ None
+    → first_cause more ≡ None
 none_of_more [] more e = e
 none_of_more ((true, cause) ∷ rows) more e = cc
 none_of_more ((false, cause) ∷ rows) more e = none_of_more rows more e
@@ -97,7 +103,8 @@ pub starts_if_none : (octets : List ℕ) → fault octets ≡ None → StartsAt 
 unfolding fault
 starts_if_none octets e = record {
   head = head_if_none octets (none_of_first (head_table octets) (body_table (body_of octets)) e);
-  body = body_if_none (body_of octets) (none_of_more (head_table octets) (body_table (body_of octets)) e);
+  body = body_if_none (body_of octets)
+      (none_of_more (head_table octets) (body_table (body_of octets)) e);
 }
 
 pub head_if_faultless : (octets : List ℕ) → fault octets ≡ None → HasHead octets
@@ -116,7 +123,13 @@ none_if_starts octets b =
           grind (arith, nat_tests),
           (
             grind (arith, nat_tests),
-            (grind (arith, nat_tests), (grind (arith, nat_tests), (grind (arith, nat_tests), (grind (arith, nat_tests), tt)))),
+            (
+              grind (arith, nat_tests),
+              (
+                grind (arith, nat_tests),
+                (grind (arith, nat_tests), (grind (arith, nat_tests), tt)),
+              ),
+            ),
           ),
         ),
       ),

@@ -1,10 +1,12 @@
 -- The tests of a packet's authenticators say what they are for.
-use Rattle.std.proofs.Common.{◌≡◌, ◌↔◌, ℕ, List, Bool, true, false, not, ◌&&◌, ◌==◌, IsTrue, refl, ◌∙◌, sym}
+use Rattle.std.proofs.Common.{◌≡◌, ◌↔◌, ℕ, List, Bool, true, false, not, ◌&&◌, ◌==◌, IsTrue, refl}
+use Rattle.std.proofs.Common.{◌∙◌, sym}
 use Rattle.std.specs.Str.{bytes_eq}
 use Rattle.std.proofs.lemmas.Bool.Decides.{Decides-eqb}
 use Rattle.std.proofs.lemmas.Slice.Eq.{bytes_eq-Decides}
 use Rattle.radius_carry.specs.Packet.{RadiusPacket, tag_of}
-use Rattle.radius_carry.specs.Tags.{request_tag, reply_tag, response_authenticator, IsGoodRequest, IsGoodReply}
+use Rattle.radius_carry.specs.Tags.{request_tag, reply_tag, response_authenticator, IsGoodRequest}
+use Rattle.radius_carry.specs.Tags.{IsGoodReply}
 
 both_true : (a b : Bool) → IsTrue (a && b) → (a ≡ true) × (b ≡ true)
 both_true true true e = (refl, refl)
@@ -25,7 +27,8 @@ not_true true e = absurd (e refl)
 not_true false e = refl
 
 pub request_decides : (secret tag : List ℕ) (packet : RadiusPacket) (is_request is_tagged : Bool) →
-    is_request ≡ (packet.code == 1) → tag ≡ request_tag secret packet → is_tagged ≡ bytes_eq (tag_of packet.attributes) tag →
+    is_request ≡ (packet.code == 1) → tag ≡ request_tag secret packet
+    → is_tagged ≡ bytes_eq (tag_of packet.attributes) tag →
     IsTrue (is_request && is_tagged) ↔ IsGoodRequest secret packet
 request_decides secret tag packet is_request is_tagged e f g = (
   λ good.
@@ -40,9 +43,12 @@ request_decides secret tag packet is_request is_tagged e f g = (
       (g ∙ (bytes_eq-Decides (tag_of packet.attributes) tag).1 (good.tag ∙ sym f)),
 )
 
-pub reply_decides : (secret asked tag response : List ℕ) (packet : RadiusPacket) (is_request is_tagged is_answer : Bool) →
-    is_request ≡ (packet.code == 1) → tag ≡ reply_tag secret asked packet → response ≡ response_authenticator secret asked packet →
-    is_tagged ≡ bytes_eq (tag_of packet.attributes) tag → is_answer ≡ bytes_eq packet.authenticator response →
+pub reply_decides : (secret asked tag response : List ℕ) (packet : RadiusPacket)
+    (is_request is_tagged is_answer : Bool) →
+    is_request ≡ (packet.code == 1) → tag ≡ reply_tag secret asked packet
+    → response ≡ response_authenticator secret asked packet →
+    is_tagged ≡ bytes_eq (tag_of packet.attributes) tag
+    → is_answer ≡ bytes_eq packet.authenticator response →
     IsTrue ((not is_request && is_tagged) && is_answer) ↔ IsGoodReply secret asked packet
 reply_decides secret asked tag response packet is_request is_tagged is_answer e f r g a = (
   λ good.
@@ -50,7 +56,8 @@ reply_decides secret asked tag response packet is_request is_tagged is_answer e 
       let both = both_true (not is_request) is_tagged all.0 in
       let other = is_false is_request both.0 in
       record {
-        is_reply = λ one. let same : is_request ≡ true = e ∙ (Decides-eqb packet.code 1).1 one in cc;
+        is_reply =
+            λ one. let same : is_request ≡ true = e ∙ (Decides-eqb packet.code 1).1 one in cc;
         tag = (bytes_eq-Decides (tag_of packet.attributes) tag).0 (sym g ∙ both.1) ∙ f;
         authenticator = (bytes_eq-Decides packet.authenticator response).0 (sym a ∙ all.1) ∙ r;
       },

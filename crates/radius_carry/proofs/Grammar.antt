@@ -1,12 +1,15 @@
 -- The laws of the grammar.
-use Rattle.std.proofs.Common.{◌≡◌, ℕ, ◌+◌, ◌*◌, ◌/◌, ◌%◌, List, [], ◌∷◌, ◌++◌, length, suc, take, drop, slice_index, IsTrue, Option, Some, None, Ok}
+use Rattle.std.proofs.Common.{◌≡◌, ℕ, ◌+◌, ◌*◌, ◌/◌, ◌%◌, List, [], ◌∷◌, ◌++◌, length, suc, take}
+use Rattle.std.proofs.Common.{drop, slice_index, IsTrue, Option, Some, None, Ok}
 use Rattle.std.proofs.Common.{refl, ap, ◌∙◌, sym, subst, arith, append_assoc, length-append}
 use Rattle.std.proofs.lemmas.List.{take_at, drop_at, take-append-drop}
 use Rattle.eap_packet.specs.Packet.{IsOctets}
 use Rattle.radius_carry.specs.declared.cause.RadiusCause.{RadiusCause}
 use Rattle.radius_carry.specs.Packet.{RadiusPacket, IsRadius, is_code, octets_of, spelled}
-use Rattle.radius_carry.specs.Fault.{attributes_of, left_of, body_of, code_of, length_of, fault, packet_at, packet_of, packet_unless}
-use Rattle.radius_carry.specs.Laws.{IsPrefixed, EncodingsAreRead, EncodingsAreApart, ReadsTheEncoding, FaultlessIsEncoded}
+use Rattle.radius_carry.specs.Fault.{attributes_of, left_of, body_of, code_of, length_of, fault}
+use Rattle.radius_carry.specs.Fault.{packet_at, packet_of, packet_unless}
+use Rattle.radius_carry.specs.Laws.{IsPrefixed, EncodingsAreRead, EncodingsAreApart}
+use Rattle.radius_carry.specs.Laws.{ReadsTheEncoding, FaultlessIsEncoded}
 use Rattle.radius_carry.proofs.ReadAttributes.{stored_whole}
 use Rattle.radius_carry.proofs.Causes.{StartsAt, HasHead, HasBody, starts_if_none, none_if_starts}
 use Rattle.radius_carry.proofs.Fronts.{radius_if_starts, encoding_front}
@@ -17,11 +20,13 @@ unless_ok : (found : Option RadiusCause) (octets : List ℕ) (packet : RadiusPac
 unless_ok None octets packet e = (refl, cc)
 unless_ok (Some cause) octets packet e = cc
 
-starts_if_read : (octets : List ℕ) (packet : RadiusPacket) → packet_of octets ≡ Ok packet → StartsAt octets
+starts_if_read : (octets : List ℕ) (packet : RadiusPacket) → packet_of octets ≡ Ok packet
+    → StartsAt octets
 unfolding packet_of
 starts_if_read octets packet e = starts_if_none octets (unless_ok (fault octets) octets packet e).0
 
-fields_if_read : (octets : List ℕ) (packet : RadiusPacket) → packet_of octets ≡ Ok packet → packet_at octets ≡ packet
+fields_if_read : (octets : List ℕ) (packet : RadiusPacket) → packet_of octets ≡ Ok packet
+    → packet_at octets ≡ packet
 unfolding packet_of
 fields_if_read octets packet e = (unless_ok (fault octets) octets packet e).1
 
@@ -31,16 +36,20 @@ unfolding packet_of
 read_if_starts octets b = ap (λ found. packet_unless found octets) (none_if_starts octets b)
 
 -- octets that begin with a packet are its spelling and what comes after
-prefixed_by_fields : (octets : List ℕ) → IsOctets octets → StartsAt octets → IsPrefixed octets (packet_at octets)
+prefixed_by_fields : (octets : List ℕ) → IsOctets octets → StartsAt octets
+    → IsPrefixed octets (packet_at octets)
 prefixed_by_fields octets small b = record {
-  is_radius = subst (IsRadius (packet_at octets)) (encoding_front octets small b) (radius_if_starts octets small b);
+  is_radius = subst (IsRadius (packet_at octets)) (encoding_front octets small b)
+      (radius_if_starts octets small b);
   rest = drop (length_of octets) octets;
-  joined = sym (take-append-drop (length_of octets) octets) ∙ ap (λ (l : List ℕ). l ++ drop (length_of octets) octets) (encoding_front octets small b);
+  joined = sym (take-append-drop (length_of octets) octets)
+      ∙ ap (λ (l : List ℕ). l ++ drop (length_of octets) octets) (encoding_front octets small b);
 }
 
 -- ---- a spelling with any octets behind it
 
-take_front : (a b c d m : ℕ) (front rest : List ℕ) → length front + 4 ≡ m → take m (a ∷ b ∷ c ∷ d ∷ (front ++ rest)) ≡ a ∷ b ∷ c ∷ d ∷ front
+take_front : (a b c d m : ℕ) (front rest : List ℕ) → length front + 4 ≡ m
+    → take m (a ∷ b ∷ c ∷ d ∷ (front ++ rest)) ≡ a ∷ b ∷ c ∷ d ∷ front
 take_front a b c d m front rest e =
     let four : m ≡ suc (suc (suc (suc (length front)))) = omega arith in
     rw four (ap (λ (l : List ℕ). a ∷ b ∷ c ∷ d ∷ l) (take_at front rest (length front) refl))
@@ -51,7 +60,8 @@ record EncodedOctets (packet : RadiusPacket) (rest : List ℕ) : Type 0 where
   front : take 16 (drop 4 (spelled packet ++ rest)) ≡ packet.authenticator
   room : length (spelled packet ++ rest) ≡ 20 + length (octets_of packet.attributes) + length rest
 
-encoded_fields : (packet : RadiusPacket) (rest : List ℕ) → length packet.authenticator ≡ 16 → EncodedOctets packet rest
+encoded_fields : (packet : RadiusPacket) (rest : List ℕ) → length packet.authenticator ≡ 16
+    → EncodedOctets packet rest
 unfolding spelled
 encoded_fields packet rest sixteen =
     let octets = octets_of packet.attributes in
@@ -59,18 +69,22 @@ encoded_fields packet rest sixteen =
     let behind : List ℕ = packet.authenticator ++ octets in
     let both = length-append packet.authenticator octets in
     let number : 256 * (size / 256) + size % 256 ≡ size = omega arith in
-    let whole : take size (spelled packet ++ rest) ≡ packet.code ∷ packet.id ∷ size / 256 ∷ size % 256 ∷ behind =
+    let whole : take size (spelled packet ++ rest)
+    ≡ packet.code ∷ packet.id ∷ size / 256 ∷ size % 256 ∷ behind =
     take_front packet.code packet.id (size / 256) (size % 256) size behind rest (omega arith) in
-    let cut : drop 20 (packet.code ∷ packet.id ∷ size / 256 ∷ size % 256 ∷ behind) ≡ octets = drop_at packet.authenticator octets 16 sixteen in
+    let cut : drop 20 (packet.code ∷ packet.id ∷ size / 256 ∷ size % 256 ∷ behind) ≡ octets =
+    drop_at packet.authenticator octets 16 sixteen in
     record {
       size = number;
       body = ap (λ n. drop 20 (take n (spelled packet ++ rest))) number ∙ ap (drop 20) whole ∙ cut;
-      front = ap (take 16) (append_assoc packet.authenticator octets rest) ∙ take_at packet.authenticator (octets ++ rest) 16 sixteen;
+      front = ap (take 16) (append_assoc packet.authenticator octets rest)
+          ∙ take_at packet.authenticator (octets ++ rest) 16 sixteen;
       room = omega (arith, both, length-append behind rest);
     }
 
 -- the Code and the Identifier stand first
-known_code : (packet : RadiusPacket) (rest : List ℕ) → IsRadius packet (spelled packet) → IsTrue (is_code (code_of (spelled packet ++ rest)))
+known_code : (packet : RadiusPacket) (rest : List ℕ) → IsRadius packet (spelled packet)
+    → IsTrue (is_code (code_of (spelled packet ++ rest)))
 unfolding spelled
 known_code packet rest is = is.known
 
@@ -84,12 +98,15 @@ first_fields : (packet : RadiusPacket) (rest : List ℕ) →
 unfolding spelled
 first_fields packet rest = refl
 
-prefix_encoding : (packet : RadiusPacket) (rest : List ℕ) → IsRadius packet (spelled packet) → StartsAt (spelled packet ++ rest)
+prefix_encoding : (packet : RadiusPacket) (rest : List ℕ) → IsRadius packet (spelled packet)
+    → StartsAt (spelled packet ++ rest)
 prefix_encoding packet rest is =
     let fields = encoded_fields packet rest is.authenticator in
     let held = stored_whole packet.attributes in
-    let attributes : attributes_of (body_of (spelled packet ++ rest)) ≡ packet.attributes = ap attributes_of fields.body ∙ held.same in
-    let left : left_of (body_of (spelled packet ++ rest)) ≡ [] = ap left_of fields.body ∙ held.none_left in
+    let attributes : attributes_of (body_of (spelled packet ++ rest)) ≡ packet.attributes =
+    ap attributes_of fields.body ∙ held.same in
+    let left : left_of (body_of (spelled packet ++ rest)) ≡ [] =
+    ap left_of fields.body ∙ held.none_left in
     let whole = length-append (spelled packet) rest in
     let head : HasHead (spelled packet ++ rest) =
     record {
@@ -109,31 +126,37 @@ prefix_encoding packet rest is =
     } in
     record { head = head; body = body }
 
-fields_encoded : (packet : RadiusPacket) (rest : List ℕ) → IsRadius packet (spelled packet) → packet_at (spelled packet ++ rest) ≡ packet
+fields_encoded : (packet : RadiusPacket) (rest : List ℕ) → IsRadius packet (spelled packet)
+    → packet_at (spelled packet ++ rest) ≡ packet
 unfolding packet_at
 fields_encoded packet rest is =
     let fields = encoded_fields packet rest is.authenticator in
     let held = stored_whole packet.attributes in
-    let attributes : attributes_of (body_of (spelled packet ++ rest)) ≡ packet.attributes = ap attributes_of fields.body ∙ held.same in
+    let attributes : attributes_of (body_of (spelled packet ++ rest)) ≡ packet.attributes =
+    ap attributes_of fields.body ∙ held.same in
     rw (attributes, fields.front) (first_fields packet rest)
 
 pub encodings_are_read : EncodingsAreRead
 encodings_are_read packet rest is =
-    read_if_starts (spelled packet ++ rest) (prefix_encoding packet rest is) ∙ ap Ok (fields_encoded packet rest is)
+    read_if_starts (spelled packet ++ rest) (prefix_encoding packet rest is)
+    ∙ ap Ok (fields_encoded packet rest is)
 
 pub encodings_are_apart : EncodingsAreApart
 encodings_are_apart one other rest others p q e =
-    let same = sym (encodings_are_read one rest p) ∙ ap packet_of e ∙ encodings_are_read other others q in
+    let same =
+    sym (encodings_are_read one rest p) ∙ ap packet_of e ∙ encodings_are_read other others q in
     cc
 
 pub reads_the_encoding : ReadsTheEncoding
 reads_the_encoding octets packet small = (
-  λ e. subst (IsPrefixed octets) (fields_if_read octets packet e) (prefixed_by_fields octets small (starts_if_read octets packet e)),
+  λ e. subst (IsPrefixed octets) (fields_if_read octets packet e)
+      (prefixed_by_fields octets small (starts_if_read octets packet e)),
   λ b. ap packet_of b.joined ∙ encodings_are_read packet b.rest b.is_radius,
 )
 
 pub faultless_is_encoded : FaultlessIsEncoded
 faultless_is_encoded octets small = (
   λ e. (packet_at octets, prefixed_by_fields octets small (starts_if_none octets e)),
-  λ w. ap fault w.1.joined ∙ none_if_starts (spelled w.0 ++ w.1.rest) (prefix_encoding w.0 w.1.rest w.1.is_radius),
+  λ w. ap fault w.1.joined
+      ∙ none_if_starts (spelled w.0 ++ w.1.rest) (prefix_encoding w.0 w.1.rest w.1.is_radius),
 )

@@ -1,10 +1,15 @@
--- What keeps octets from being a RADIUS packet that carries EAP, and the packet that they begin with.
-use Rattle.std.specs.Prelude.{ℕ, zero, suc, ◌+◌, ◌-◌, ◌*◌, List, [], ◌∷◌, ◌++◌, length, take, drop, slice_index, Bool, ◌==◌, ◌&&◌, ◌||◌, not, nat_lt}
+-- What keeps octets from being a RADIUS packet that carries EAP, and the packet that they begin
+-- with.
+use Rattle.std.specs.Prelude.{ℕ, zero, suc, ◌+◌, ◌-◌, ◌*◌, List, [], ◌∷◌, ◌++◌, length, take, drop}
+use Rattle.std.specs.Prelude.{slice_index, Bool, ◌==◌, ◌&&◌, ◌||◌, not, nat_lt}
 use Rattle.std.specs.Prelude.{nat_le, if◌then◌else◌, Option, Some, None, Result, Ok, Err}
 use Rattle.octet_lists.specs.Sizes.{max_packet}
-use Rattle.radius_carry.specs.Packet.{Attribute, RadiusPacket, count, eap_of, tag_of, is_code, number_of, max_radius}
+use Rattle.radius_carry.specs.Packet.{Attribute, RadiusPacket, count, eap_of, tag_of, is_code}
+use Rattle.radius_carry.specs.Packet.{number_of, max_radius}
 use Rattle.radius_carry.specs.declared.cause.RadiusCause.{RadiusCause}
-use Rattle.radius_carry.specs.declared.cause.RadiusCause.TheVariants.{RadiusShort, RadiusCode, RadiusLength, RadiusTruncated, RadiusAttribute, NoEap}
+use Rattle.radius_carry.specs.declared.cause.RadiusCause.TheVariants.{RadiusShort, RadiusCode}
+use Rattle.radius_carry.specs.declared.cause.RadiusCause.TheVariants.{RadiusLength, RadiusTruncated}
+use Rattle.radius_carry.specs.declared.cause.RadiusCause.TheVariants.{RadiusAttribute, NoEap}
 use Rattle.radius_carry.specs.declared.cause.RadiusCause.TheVariants.{EapTooLong, NoAuthenticator}
 use Rattle.radius_carry.specs.declared.view.RadiusView.{RadiusView}
 
@@ -25,7 +30,8 @@ behind octets = drop (slice_index octets 1) octets
 -- at most so many attributes, as far as they go
 unfoldable pub attributes_in : ℕ → List ℕ → List Attribute
 attributes_in zero octets = []
-attributes_in (suc most) octets = if begins octets then first octets ∷ attributes_in most (behind octets) else []
+attributes_in (suc most) octets =
+    if begins octets then first octets ∷ attributes_in most (behind octets) else []
 
 -- the octets behind them
 unfoldable pub left_in : ℕ → List ℕ → List ℕ
@@ -68,7 +74,8 @@ abbrev pub has_long_eap : List ℕ → Bool
 has_long_eap body = nat_lt max_packet (length (eap_of (attributes_of body)))
 
 abbrev pub lacks_tag : List ℕ → Bool
-lacks_tag body = not ((count 80 (attributes_of body) == 1) && (length (tag_of (attributes_of body)) == 16))
+lacks_tag body =
+    not ((count 80 (attributes_of body) == 1) && (length (tag_of (attributes_of body)) == 16))
 
 -- the causes in their order, each with its condition
 abbrev pub head_table : List ℕ → List (Bool × RadiusCause)

@@ -4,8 +4,8 @@ use Rattle.hmac_mac.specs.Hmac.{filled, padded, inner_pad, outer_pad}
 use Rattle.md5.specs.Md5 as hash
 use Rattle.radius_carry.specs.declared.mac.Mac.{Mac}
 
--- the value represents this text under this secret of at most a block: the inner hash was fed the inner
--- key and the text, the outer hash the outer key alone
+-- the value represents this text under this secret of at most a block: the inner hash was fed the
+-- inner key and the text, the outer hash the outer key alone
 unfoldable pub Holds : Mac → List ℕ → List ℕ → Type 0
 Holds mac secret text =
     (length secret ≤ 64)

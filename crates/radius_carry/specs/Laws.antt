@@ -16,23 +16,27 @@ pub record IsPrefixed (octets : List ℕ) (packet : RadiusPacket) : Type 0 where
 -- an encoding with any octets behind it is read as its packet
 abbrev pub EncodingsAreRead : Type 0
 EncodingsAreRead =
-    (packet : RadiusPacket) (rest : List ℕ) → IsRadius packet (spelled packet) → packet_of (spelled packet ++ rest) ≡ Ok packet
+    (packet : RadiusPacket) (rest : List ℕ) → IsRadius packet (spelled packet)
+    → packet_of (spelled packet ++ rest) ≡ Ok packet
 
 -- no two packets have encodings that begin one list
 abbrev pub EncodingsAreApart : Type 0
 EncodingsAreApart =
-    (one other : RadiusPacket) (rest others : List ℕ) → IsRadius one (spelled one) → IsRadius other (spelled other) →
+    (one other : RadiusPacket) (rest others : List ℕ) → IsRadius one (spelled one)
+    → IsRadius other (spelled other) →
     spelled one ++ rest ≡ spelled other ++ others → one ≡ other
 
 -- what is read is the packet with whose encoding the octets begin
 abbrev pub ReadsTheEncoding : Type 0
 ReadsTheEncoding =
-    (octets : List ℕ) (packet : RadiusPacket) → IsOctets octets → (packet_of octets ≡ Ok packet) ↔ IsPrefixed octets packet
+    (octets : List ℕ) (packet : RadiusPacket) → IsOctets octets
+    → (packet_of octets ≡ Ok packet) ↔ IsPrefixed octets packet
 
 -- no cause applies exactly if the octets begin with the encoding of some packet
 abbrev pub FaultlessIsEncoded : Type 0
 FaultlessIsEncoded =
-    (octets : List ℕ) → IsOctets octets → (fault octets ≡ None) ↔ ((packet : RadiusPacket) × IsPrefixed octets packet)
+    (octets : List ℕ) → IsOctets octets
+    → (fault octets ≡ None) ↔ ((packet : RadiusPacket) × IsPrefixed octets packet)
 
 -- the Code of a reply
 pub record IsReply (code : ℕ) : Type 0 where
@@ -55,18 +59,22 @@ pub record ReadsBack (packet : RadiusPacket) (eap rest : List ℕ) : Type 0 wher
 -- a request that is written is read back, and is good under its secret
 abbrev pub RequestsAreReadBack : Type 0
 RequestsAreReadBack =
-    (secret authenticator user state eap rest : List ℕ) (id : ℕ) → AreFields authenticator user state eap →
+    (secret authenticator user state eap rest : List ℕ) (id : ℕ)
+    → AreFields authenticator user state eap →
     ReadsBack (request_of secret id authenticator user state eap) eap rest
 
 abbrev pub RequestsAreGood : Type 0
 RequestsAreGood =
-    (secret authenticator user state eap : List ℕ) (id : ℕ) → AreFields authenticator user state eap →
+    (secret authenticator user state eap : List ℕ) (id : ℕ)
+    → AreFields authenticator user state eap →
     IsGoodRequest secret (request_of secret id authenticator user state eap)
 
--- a reply that is written is read back, and is good under its secret for the request that it answers
+-- a reply that is written is read back, and is good under its secret for the request that it
+-- answers
 abbrev pub RepliesAreReadBack : Type 0
 RepliesAreReadBack =
-    (secret asked state eap rest : List ℕ) (code id : ℕ) → IsReply code → AreFields asked [] state eap →
+    (secret asked state eap rest : List ℕ) (code id : ℕ) → IsReply code
+    → AreFields asked [] state eap →
     ReadsBack (reply_of secret code id asked state eap) eap rest
 
 abbrev pub RepliesAreGood : Type 0

@@ -1,10 +1,12 @@
 -- RADIUS packets (RFC 2865 sections 3 and 5): packet values, their one encoding, and which of them
 -- carry EAP (RFC 3579 sections 3.1 and 3.2).
-use Rattle.std.specs.Prelude.{◌≡◌, ℕ, ◌+◌, ◌≤◌, List, [], ◌∷◌, ◌++◌, length, Bool, ◌==◌, ◌||◌, if◌then◌else◌, IsTrue, Option, Some, None}
+use Rattle.std.specs.Prelude.{◌≡◌, ℕ, ◌+◌, ◌≤◌, List, [], ◌∷◌, ◌++◌, length, Bool, ◌==◌, ◌||◌}
+use Rattle.std.specs.Prelude.{if◌then◌else◌, IsTrue, Option, Some, None}
 use Rattle.octet_lists.specs.Sizes.{max_packet}
 use Rattle.eap_packet.specs.Packet.{two_octets}
 use Rattle.radius_carry.specs.declared.view.RadiusKind.{RadiusKind}
-use Rattle.radius_carry.specs.declared.view.RadiusKind.TheVariants.{Request, Accept, Reject, Challenge}
+use Rattle.radius_carry.specs.declared.view.RadiusKind.TheVariants.{Request, Accept, Reject}
+use Rattle.radius_carry.specs.declared.view.RadiusKind.TheVariants.{Challenge}
 
 -- an attribute: its Type and its Value
 abbrev pub Attribute : Type 0
@@ -25,14 +27,16 @@ unfoldable pub octets_of : List Attribute → List ℕ
 octets_of [] = []
 octets_of ((kind, value) ∷ rest) = attribute_octets (kind, value) ++ octets_of rest
 
--- Code, Identifier and Length before so many octets of attributes; Length counts the Authenticator too
+-- Code, Identifier and Length before so many octets of attributes; Length counts the Authenticator
+-- too
 abbrev pub head_of : ℕ → ℕ → ℕ → List ℕ
 head_of code id size = code ∷ id ∷ two_octets (20 + size)
 
 -- the octets of a packet
 unfoldable pub spelled : RadiusPacket → List ℕ
 spelled packet =
-    head_of packet.code packet.id (length (octets_of packet.attributes)) ++ (packet.authenticator ++ octets_of packet.attributes)
+    head_of packet.code packet.id (length
+    (octets_of packet.attributes)) ++ (packet.authenticator ++ octets_of packet.attributes)
 
 -- how many attributes of a type there are
 unfoldable pub count : ℕ → List Attribute → ℕ
@@ -42,12 +46,14 @@ count kind ((other, value) ∷ rest) = if other == kind then 1 + count kind rest
 -- the values of a type, joined in their order
 unfoldable pub value_of_kind : ℕ → List Attribute → List ℕ
 value_of_kind kind [] = []
-value_of_kind kind ((other, value) ∷ rest) = if other == kind then value ++ value_of_kind kind rest else value_of_kind kind rest
+value_of_kind kind ((other, value) ∷ rest) =
+    if other == kind then value ++ value_of_kind kind rest else value_of_kind kind rest
 
 -- the value of the first attribute of a type
 unfoldable pub first_value : ℕ → List Attribute → Option (List ℕ)
 first_value kind [] = None
-first_value kind ((other, value) ∷ rest) = if other == kind then Some value else first_value kind rest
+first_value kind ((other, value) ∷ rest) =
+    if other == kind then Some value else first_value kind rest
 
 -- the EAP packet that the attributes EAP-Message carry (RFC 3579 section 3.1)
 abbrev pub eap_of : List Attribute → List ℕ
@@ -74,8 +80,8 @@ max_radius = 4096
 abbrev pub max_value : ℕ
 max_value = 253
 
--- the octets are this packet, which carries EAP: at least one attribute EAP-Message, and exactly one
--- Message-Authenticator, with 16 octets
+-- the octets are this packet, which carries EAP: at least one attribute EAP-Message, and exactly
+-- one Message-Authenticator, with 16 octets
 pub record IsRadius (packet : RadiusPacket) (octets : List ℕ) : Type 0 where
   pub encoding_of : octets ≡ spelled packet
   pub known : IsTrue (is_code packet.code)

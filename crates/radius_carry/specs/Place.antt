@@ -9,8 +9,10 @@ tag_place ((kind, value) ∷ rest) = if kind == 80 then 2 else 2 + length value 
 
 -- the pieces under a tag, in their order
 abbrev pub round_zeros : List ℕ → List ℕ → List ℕ → List ℕ → List ℕ
-round_zeros front authenticator before after = (((([] ++ front) ++ authenticator) ++ before) ++ replicate 16 0) ++ after
+round_zeros front authenticator before after =
+    (((([] ++ front) ++ authenticator) ++ before) ++ replicate 16 0) ++ after
 
 -- the pieces under a Response Authenticator, in their order
 abbrev pub before_secret : List ℕ → List ℕ → List ℕ → List ℕ → List ℕ
-before_secret front authenticator attributes secret = ((([] ++ front) ++ authenticator) ++ attributes) ++ secret
+before_secret front authenticator attributes secret =
+    ((([] ++ front) ++ authenticator) ++ attributes) ++ secret

@@ -1,6 +1,7 @@
 -- What a RADIUS packet that carries EAP proves of its sender: the Message-Authenticator (RFC 3579
 -- section 3.2) and the Response Authenticator (RFC 2865 section 3).
-use Rattle.std.specs.Prelude.{◌≡◌, ◌≢◌, ℕ, List, [], ◌∷◌, ◌++◌, length, replicate, Bool, ◌==◌, ◌&&◌, not, if◌then◌else◌}
+use Rattle.std.specs.Prelude.{◌≡◌, ◌≢◌, ℕ, List, [], ◌∷◌, ◌++◌, length, replicate, Bool, ◌==◌, ◌&&◌}
+use Rattle.std.specs.Prelude.{not, if◌then◌else◌}
 use Rattle.std.specs.Str.{bytes_eq}
 use Rattle.hmac_mac.specs.Hmac.{hmac}
 use Rattle.md5.specs.Md5.{md5}
@@ -13,11 +14,13 @@ hmac_md5 key text = hmac md5 key text
 -- the attributes, with each Message-Authenticator of zeros
 unfoldable pub blank_attributes : List Attribute → List Attribute
 blank_attributes [] = []
-blank_attributes ((kind, value) ∷ rest) = (kind, if kind == 80 then replicate (length value) 0 else value) ∷ blank_attributes rest
+blank_attributes ((kind, value) ∷ rest) =
+    (kind, if kind == 80 then replicate (length value) 0 else value) ∷ blank_attributes rest
 
 -- what a tag covers: the packet with this Authenticator, and zeros in the tag's place
 unfoldable pub blank_text : List ℕ → RadiusPacket → List ℕ
-blank_text authenticator packet = spelled (record packet { authenticator = authenticator; attributes = blank_attributes packet.attributes })
+blank_text authenticator packet = spelled (record
+    packet { authenticator = authenticator; attributes = blank_attributes packet.attributes })
 
 -- a request's tag: the HMAC over the whole packet
 abbrev pub request_tag : List ℕ → RadiusPacket → List ℕ
@@ -48,7 +51,8 @@ pub record IsGoodReply (secret asked : List ℕ) (packet : RadiusPacket) : Type 
 
 -- the same as tests
 unfoldable pub is_good_request : List ℕ → RadiusPacket → Bool
-is_good_request secret packet = (packet.code == 1) && bytes_eq (tag_of packet.attributes) (request_tag secret packet)
+is_good_request secret packet =
+    (packet.code == 1) && bytes_eq (tag_of packet.attributes) (request_tag secret packet)
 
 unfoldable pub is_good_reply : List ℕ → List ℕ → RadiusPacket → Bool
 is_good_reply secret asked packet =

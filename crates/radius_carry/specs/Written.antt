@@ -12,7 +12,8 @@ field kind (octet ∷ rest) = (kind, octet ∷ rest) ∷ []
 unfoldable pub pieces_in : ℕ → List ℕ → List Attribute
 pieces_in zero eap = []
 pieces_in (suc most) [] = []
-pieces_in (suc most) (octet ∷ rest) = (79, take max_value (octet ∷ rest)) ∷ pieces_in most (drop max_value (octet ∷ rest))
+pieces_in (suc most) (octet ∷ rest) =
+    (79, take max_value (octet ∷ rest)) ∷ pieces_in most (drop max_value (octet ∷ rest))
 
 -- an EAP packet in attributes EAP-Message
 unfoldable pub pieces : List ℕ → List Attribute
@@ -25,20 +26,28 @@ attributes_before_tag user state eap = field 1 user ++ (field 24 state ++ pieces
 -- a packet with this tag behind its other attributes
 unfoldable pub packet_with_tag : ℕ → ℕ → List ℕ → List Attribute → List ℕ → RadiusPacket
 packet_with_tag code id authenticator attributes tag =
-    record { code = code; id = id; authenticator = authenticator; attributes = attributes ++ (80, tag) ∷ [] }
+    record {
+      code = code;
+      id = id;
+      authenticator = authenticator;
+      attributes = attributes ++ (80, tag) ∷ [];
+    }
 
 -- the same with zeros where the tag will be
 abbrev pub blank_of : ℕ → ℕ → List ℕ → List Attribute → RadiusPacket
-blank_of code id authenticator attributes = packet_with_tag code id authenticator attributes (replicate 16 0)
+blank_of code id authenticator attributes =
+    packet_with_tag code id authenticator attributes (replicate 16 0)
 
 -- a packet with its tag over itself, of zeros where the tag will be
 unfoldable pub sealed_packet : List ℕ → ℕ → ℕ → List ℕ → List Attribute → RadiusPacket
 sealed_packet secret code id authenticator attributes =
-    packet_with_tag code id authenticator attributes (hmac_md5 secret (spelled (blank_of code id authenticator attributes)))
+    packet_with_tag code id authenticator attributes
+    (hmac_md5 secret (spelled (blank_of code id authenticator attributes)))
 
 -- a request with this Authenticator
 abbrev pub request_of : List ℕ → ℕ → List ℕ → List ℕ → List ℕ → List ℕ → RadiusPacket
-request_of secret id authenticator user state eap = sealed_packet secret 1 id authenticator (attributes_before_tag user state eap)
+request_of secret id authenticator user state eap =
+    sealed_packet secret 1 id authenticator (attributes_before_tag user state eap)
 
 -- a reply to the request with this Authenticator: first the tag, then the Response Authenticator
 abbrev pub reply_of : List ℕ → ℕ → ℕ → List ℕ → List ℕ → List ℕ → RadiusPacket

@@ -1,6 +1,7 @@
 //! The attributes of a RADIUS packet (RFC 2865 section 5).
 
-ghost use Rattle.std.specs.Prelude.{◌≡◌, ◌≤◌, ◌+◌, ◌++◌, ◌∷◌, [], length, IsTrue, ◌↔◌, IfSome, MatchOption, option_copied};
+ghost use Rattle.std.specs.Prelude.{◌≡◌, ◌≤◌, ◌+◌, ◌++◌, ◌∷◌, [], length, IsTrue, ◌↔◌, IfSome};
+ghost use Rattle.std.specs.Prelude.{MatchOption, option_copied};
 ghost use Rattle.octet_lists.specs.Sizes.{max_packet};
 ghost use Rattle.radius_carry.specs.Packet.{count, first_value, value_of_kind};
 ghost use Rattle.radius_carry.specs.Fault.{attributes_of, left_of};
@@ -32,9 +33,12 @@ struct Attribute<'a> {
 /// length is under 2 or past their end.
 #[tactic(auto, using(crate::proofs::ReadAttributes::first_steps))]
 fn first_attribute<'a>(octets: &'a [u8]) -> Option<Attribute<'a>>
-    ensures attributes { MatchOption result (attributes_of octets.now ≡ []) (λ a. attributes_of octets.now ≡ (a.kind, a.value.now) ∷ attributes_of a.rest.now) }
-    ensures left { MatchOption result (left_of octets.now ≡ octets.now) (λ a. left_of octets.now ≡ left_of a.rest.now) }
-    ensures size { IfSome result (λ a. length a.value.now + 2 + length a.rest.now ≡ length octets.now) }
+    ensures attributes { MatchOption result (attributes_of octets.now ≡ [])
+        (λ a. attributes_of octets.now ≡ (a.kind, a.value.now) ∷ attributes_of a.rest.now) }
+    ensures left { MatchOption result (left_of octets.now ≡ octets.now)
+        (λ a. left_of octets.now ≡ left_of a.rest.now) }
+    ensures size { IfSome result
+        (λ a. length a.value.now + 2 + length a.rest.now ≡ length octets.now) }
 {
     if octets.len() < 2 {
         return None;
@@ -89,7 +93,8 @@ pub fn tally_of(kind: u8, octets: &[u8]) -> Tally
 /// Appends the values of this Type, joined in their order.
 #[tactic(auto, unfolding(crate::specs::Packet::value_of_kind))]
 pub fn join_values(values: &mut Packet, kind: u8, octets: &[u8])
-    requires { length values.old + length (value_of_kind kind (attributes_of octets.now)) ≤ max_packet }
+    requires { length values.old + length (value_of_kind kind (attributes_of octets.now))
+        ≤ max_packet }
     ensures { values.new ≡ values.old ++ value_of_kind kind (attributes_of octets.now) }
 {
     let mut rest = octets;

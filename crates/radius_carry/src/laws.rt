@@ -1,6 +1,7 @@
 //! Laws of RADIUS packets that carry EAP. Each is the contract of a function that does nothing.
 
-ghost use Rattle.radius_carry.specs.Laws.{EncodingsAreRead, EncodingsAreApart, ReadsTheEncoding, FaultlessIsEncoded, RequestsAreReadBack};
+ghost use Rattle.radius_carry.specs.Laws.{EncodingsAreRead, EncodingsAreApart, ReadsTheEncoding};
+ghost use Rattle.radius_carry.specs.Laws.{FaultlessIsEncoded, RequestsAreReadBack};
 ghost use Rattle.radius_carry.specs.Laws.{RequestsAreGood, RepliesAreReadBack, RepliesAreGood};
 
 /// A packet's encoding, with any octets behind it, is read as that packet (RFC 2865 section 3).

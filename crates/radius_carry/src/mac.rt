@@ -46,7 +46,8 @@ impl Mac {
     /// Adds `piece` at the end of the text.
     #[tactic(auto, unfolding(crate::specs::Holds::Holds))]
     pub fn update(&mut self, piece: &[u8])
-        ensures { (secret text : List ℕ) → Holds self.old secret text → Holds self.new secret (text ++ piece.now) }
+        ensures { (secret text : List ℕ) → Holds self.old secret text
+            → Holds self.new secret (text ++ piece.now) }
     {
         self.inner.update(piece);
     }

@@ -1,9 +1,12 @@
 //! Reading RADIUS packets that carry EAP (RFC 2865 section 3, RFC 3579 section 3).
 
-ghost use Rattle.std.specs.Prelude.{◌≡◌, ◌≤◌, take, drop, length, IfOk, None, IsTrue, slice_index, option_copied};
+ghost use Rattle.std.specs.Prelude.{◌≡◌, ◌≤◌, take, drop, length, IfOk, None, IsTrue, slice_index};
+ghost use Rattle.std.specs.Prelude.{option_copied};
 ghost use Rattle.radius_carry.specs.Packet as spec;
 ghost use Rattle.radius_carry.specs.Packet.{IsRadius, number_of};
-ghost use Rattle.radius_carry.specs.Fault.{fault, first_cause, head_table, body_table, body_of, code_of, length_of, packet_at, packet_of, value_of, read_value};
+ghost use Rattle.radius_carry.specs.Fault.{fault, first_cause, head_table, body_table, body_of};
+ghost use Rattle.radius_carry.specs.Fault.{code_of, length_of, packet_at, packet_of, value_of};
+ghost use Rattle.radius_carry.specs.Fault.{read_value};
 
 use crate::attributes::{
     EAP_MESSAGE, HEAD, MESSAGE_AUTHENTICATOR, TAG, are_attributes, first_value, join_values,

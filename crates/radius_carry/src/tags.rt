@@ -5,7 +5,8 @@ ghost use Rattle.std.specs.Str.{bytes_eq};
 ghost use Rattle.radius_carry.specs.Packet.{IsRadius, number_of, tag_of};
 ghost use Rattle.radius_carry.specs.Fault.{value_of};
 ghost use Rattle.radius_carry.specs.Place.{before_secret, round_zeros};
-ghost use Rattle.radius_carry.specs.Tags.{blank_text, asked_text, reply_tag, response_authenticator, IsGoodRequest, IsGoodReply};
+ghost use Rattle.radius_carry.specs.Tags.{blank_text, asked_text, reply_tag};
+ghost use Rattle.radius_carry.specs.Tags.{response_authenticator, IsGoodRequest, IsGoodReply};
 ghost use Rattle.radius_carry.specs.Tags.{is_good_request, is_good_reply};
 
 use crate::attributes::{HEAD, TAG, place_of_tag};
@@ -50,8 +51,12 @@ struct Parts<'a> {
 fn parts_of<'a>(view: &RadiusView<'a>) -> Parts<'a>
     requires { IsRadius (value_of view.now) view.now.whole.now }
     ensures tag { result.cut.tag.now ≡ tag_of (value_of view.now).attributes }
-    ensures blank { (other : List ℕ) → round_zeros result.front.now other result.cut.before.now result.cut.after.now ≡ blank_text other (value_of view.now) }
-    ensures asked { (other secret : List ℕ) → before_secret result.front.now other result.attributes.now secret ≡ asked_text other secret (value_of view.now) }
+    ensures blank { (other : List ℕ)
+        → round_zeros result.front.now other result.cut.before.now result.cut.after.now
+        ≡ blank_text other (value_of view.now) }
+    ensures asked { (other secret : List ℕ)
+        → before_secret result.front.now other result.attributes.now secret
+        ≡ asked_text other secret (value_of view.now) }
 {
     let (head, attributes) = view.whole.split_at(HEAD);
     let (front, _authenticator) = head.split_at(FRONT);
@@ -90,7 +95,8 @@ fn has_tag(view: &RadiusView, tag: &[u8; 16]) -> bool
 /// The Response Authenticator of this reply to the request with that Authenticator.
 fn answering(secret: &[u8], request_authenticator: &[u8; 16], view: &RadiusView) -> [u8; 16]
     requires { IsRadius (value_of view.now) view.now.whole.now }
-    ensures { result ≡ response_authenticator secret.now request_authenticator.now (value_of view.now) }
+    ensures { result
+        ≡ response_authenticator secret.now request_authenticator.now (value_of view.now) }
 {
     let parts = parts_of(view);
     let mut hash = Md5::new();
@@ -129,8 +135,10 @@ pub fn request_good(secret: &[u8], view: &RadiusView) -> bool
 pub fn reply_good(secret: &[u8], request_authenticator: &[u8; 16], view: &RadiusView) -> bool
     requires secret { length secret.now ≤ 64 }
     requires radius { IsRadius (value_of view.now) view.now.whole.now }
-    ensures good { IsTrue result ↔ IsGoodReply secret.now request_authenticator.now (value_of view.now) }
-    ensures decides { result ≡ is_good_reply secret.now request_authenticator.now (value_of view.now) }
+    ensures good { IsTrue result
+        ↔ IsGoodReply secret.now request_authenticator.now (value_of view.now) }
+    ensures decides { result
+        ≡ is_good_reply secret.now request_authenticator.now (value_of view.now) }
 {
     let tag = tag_under(secret, request_authenticator, view);
     let response = answering(secret, request_authenticator, view);

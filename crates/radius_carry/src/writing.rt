@@ -3,8 +3,10 @@
 ghost use Rattle.std.specs.Prelude.{◌≡◌, ◌≢◌, ◌≤◌, ◌+◌, ◌++◌, [], List, length};
 ghost use Rattle.octet_lists.specs.Sizes.{max_packet};
 ghost use Rattle.md5.specs.Md5.{md5};
-ghost use Rattle.radius_carry.specs.Packet.{Attribute, attribute_octets, head_of, number_of, octets_of, spelled, max_value};
-ghost use Rattle.radius_carry.specs.Written.{blank_of, attributes_before_tag, field, pieces, packet_with_tag, sealed_packet, request_of, reply_of};
+ghost use Rattle.radius_carry.specs.Packet.{Attribute, attribute_octets, head_of, number_of};
+ghost use Rattle.radius_carry.specs.Packet.{octets_of, spelled, max_value};
+ghost use Rattle.radius_carry.specs.Written.{blank_of, attributes_before_tag, field, pieces};
+ghost use Rattle.radius_carry.specs.Written.{packet_with_tag, sealed_packet, request_of, reply_of};
 ghost use Rattle.radius_carry.specs.Tags.{hmac_md5};
 
 use crate::attributes::{EAP_MESSAGE, MESSAGE_AUTHENTICATOR};
@@ -92,7 +94,8 @@ fn head(code: u8, id: u8, size: usize) -> [u8; 4]
 #[tactic(auto, using(crate::proofs::Pieced::tagged_encoded))]
 fn framed(code: u8, id: u8, authenticator: &[u8; 16], attributes: &[u8], tag: &[u8; 16]) -> Injected
     requires { length attributes.now ≤ 1834 }
-    ensures { (list : List Attribute) → attributes.now ≡ octets_of list → result ≡ spelled (packet_with_tag code id authenticator.now list tag.now) }
+    ensures { (list : List Attribute) → attributes.now ≡ octets_of list
+        → result ≡ spelled (packet_with_tag code id authenticator.now list tag.now) }
 {
     let mut packet = Octets::new();
     packet.put(&head(code, id, attributes.len() + 18));
@@ -128,7 +131,8 @@ fn tag_over(
 ) -> [u8; 16]
     requires secret { length secret.now ≤ 64 }
     requires bounded { length attributes.now ≤ 1834 }
-    ensures { (list : List Attribute) → attributes.now ≡ octets_of list → result ≡ hmac_md5 secret.now (spelled (blank_of code id authenticator.now list)) }
+    ensures { (list : List Attribute) → attributes.now ≡ octets_of list
+        → result ≡ hmac_md5 secret.now (spelled (blank_of code id authenticator.now list)) }
 {
     let blank = framed(code, id, authenticator, attributes, &[0; 16]);
     let mut mac = Mac::new(secret);
@@ -152,7 +156,8 @@ pub fn write_request(
     requires user { length user.now ≤ max_value }
     requires state { length state.now ≤ 64 }
     requires eap { length eap.now ≤ max_packet }
-    ensures { result ≡ spelled (request_of secret.now id authenticator.now user.now state.now eap.now) }
+    ensures { result
+        ≡ spelled (request_of secret.now id authenticator.now user.now state.now eap.now) }
 {
     let attributes = carried_octets(user, state, eap);
     let code = RadiusKind::Request as u8;
@@ -176,7 +181,8 @@ pub fn write_reply(
     requires reply { kind ≢ RadiusKind.Request }
     requires state { length state.now ≤ 64 }
     requires eap { length eap.now ≤ max_packet }
-    ensures { result ≡ spelled (reply_of secret.now (number_of kind) id request_authenticator.now state.now eap.now) }
+    ensures { result ≡ spelled (reply_of secret.now (number_of kind)
+        id request_authenticator.now state.now eap.now) }
 {
     let attributes = carried_octets(&[], state, eap);
     let code = code_of(kind);

@@ -18,7 +18,8 @@ requests : (key_line (codes "name 0aFf") ≡ Ok (Some (request.Name (10 ∷ 255 
 unfolding key_line asked_by asked_of line_has keyword_in spells_octets
 requests = (refl, refl, refl)
 
--- the header of a capture stands first; an empty line and a comment are passed over, also after the end
+-- the header of a capture stands first; an empty line and a comment are passed over, also after the
+-- end
 abbrev capture_has : Phase → List ℕ → LineFault → Bool
 capture_has p line f = has_at row_of capture p (record { phase = p; users = [] }) line f
 

@@ -1,5 +1,6 @@
 -- A capture: the table of its lines, what has been read, and what each line adds.
-use Rattle.std.specs.Prelude.{◌≡◌, ℕ, List, [], ◌∷◌, length, nat_le, Bool, true, false, if◌then◌else◌, codes, Option, Some, None, Result, is_some, IsTrue}
+use Rattle.std.specs.Prelude.{◌≡◌, ℕ, List, [], ◌∷◌, length, nat_le, Bool, true, false}
+use Rattle.std.specs.Prelude.{if◌then◌else◌, codes, Option, Some, None, Result, is_some, IsTrue}
 use Rattle.std.specs.Str.{bytes_eq}
 use Rattle.login_setup.specs.Setup.{is_valid_for}
 use Rattle.login_setup.specs.Users.{user_of}
@@ -38,7 +39,12 @@ capture_words = word.User ∷ word.Packets ∷ word.ToPeer ∷ word.FromPeer ∷
 -- what a keyword says with the words of its line; no user of a capture is barred
 unfoldable pub entry_of : CaptureWord → List (List ℕ) → CaptureEntry
 entry_of word.User ws =
-    entry.User (record { name = word_in ws 1; kind = kind_of (word_in ws 2); psk = octets_of (word_in ws 3); barred = false })
+    entry.User (record {
+      name = word_in ws 1;
+      kind = kind_of (word_in ws 2);
+      psk = octets_of (word_in ws 3);
+      barred = false;
+    })
 entry_of word.Packets ws = entry.Packets
 entry_of word.ToPeer ws = entry.Packet true (octets_of (word_in ws 1))
 entry_of word.FromPeer ws = entry.Packet false (octets_of (word_in ws 1))
@@ -65,7 +71,8 @@ line_of item p users = texts.line_of item (record { phase = p; users = users })
 
 -- line 1
 abbrev pub reading_after_header : List ℕ → Option Capture
-reading_after_header line = if bytes_eq line (codes "eap-capture 1") then Some (record { phase = phase.Settings; users = [] }) else None
+reading_after_header line = if bytes_eq line (codes "eap-capture 1")
+    then Some (record { phase = phase.Settings; users = [] }) else None
 
 -- BadCount: a 17th user
 abbrev pub is_crowded : List User → CaptureWord → Bool

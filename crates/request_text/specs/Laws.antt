@@ -13,7 +13,8 @@ use Rattle.request_text.specs.declared.key_line.Request.TheVariants as request
 abbrev pub RequestsAreJudged : Type 0
 RequestsAreJudged =
     (line : List ℕ) → is_passed_over line ≡ false →
-    Judges (key_line line) (has_fault line) (Some (asked_of (unwrap_or (keyword_in row_of requests (words line)) request.Name) (words line)))
+    Judges (key_line line) (has_fault line) (Some
+    (asked_of (unwrap_or (keyword_in row_of requests (words line)) request.Name) (words line)))
 
 -- a line of a capture by its words and its place
 abbrev pub CapturesAreJudged : Type 0

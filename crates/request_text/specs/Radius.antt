@@ -1,5 +1,6 @@
 -- A text of RADIUS packets: the table of its lines, how far it has come, and what each line says.
-use Rattle.std.specs.Prelude.{ℕ, List, [], ◌∷◌, Bool, true, false, if◌then◌else◌, codes, Option, Some, None, Result}
+use Rattle.std.specs.Prelude.{ℕ, List, [], ◌∷◌, Bool, true, false, if◌then◌else◌, codes, Option}
+use Rattle.std.specs.Prelude.{Some, None, Result}
 use Rattle.std.specs.Str.{bytes_eq}
 use Rattle.octet_lists.specs.Sizes.{max_name, max_packet}
 use Rattle.text_tables.specs.Fields.{word_in, number, octets_of}
@@ -24,7 +25,8 @@ use Rattle.request_text.specs.declared.radius_line.RadiusItem.TheVariants as ite
 -- each keyword, and what the words after it stand for
 abbrev pub row_of : RadiusWord → Row
 row_of word.Secret = row (codes "secret") 1 (Hex 1 64 ∷ [])
-row_of word.Request = row (codes "request") 5 (Number 0 255 ∷ Hex 16 16 ∷ Hex 0 max_name ∷ Hex 0 64 ∷ Hex 1 max_packet ∷ [])
+row_of word.Request = row (codes "request") 5
+    (Number 0 255 ∷ Hex 16 16 ∷ Hex 0 max_name ∷ Hex 0 64 ∷ Hex 1 max_packet ∷ [])
 row_of word.Reply = row (codes "reply") 3 (Choice choices.Reply ∷ Hex 0 64 ∷ Hex 1 max_packet ∷ [])
 row_of word.Read = row (codes "read") 1 (Hex 0 2000 ∷ [])
 row_of word.End = row (codes "end") 0 []
@@ -43,8 +45,10 @@ reply_of name =
 unfoldable pub item_of : RadiusWord → List (List ℕ) → RadiusItem
 item_of word.Secret ws = item.Secret (octets_of (word_in ws 1))
 item_of word.Request ws =
-    item.Request (number (word_in ws 1)) (octets_of (word_in ws 2)) (octets_of (word_in ws 3)) (octets_of (word_in ws 4)) (octets_of (word_in ws 5))
-item_of word.Reply ws = item.Reply (reply_of (word_in ws 1)) (octets_of (word_in ws 2)) (octets_of (word_in ws 3))
+    item.Request (number (word_in ws 1)) (octets_of (word_in ws 2)) (octets_of (word_in ws 3))
+    (octets_of (word_in ws 4)) (octets_of (word_in ws 5))
+item_of word.Reply ws =
+    item.Reply (reply_of (word_in ws 1)) (octets_of (word_in ws 2)) (octets_of (word_in ws 3))
 item_of word.Read ws = item.Read (octets_of (word_in ws 1))
 item_of word.End ws = item.End
 
@@ -60,7 +64,8 @@ RadiusLine = texts.ReadLine RadiusItem RadiusReader
 
 -- line 1
 abbrev pub reading_after_header : List ℕ → Option RadiusReader
-reading_after_header line = if bytes_eq line (codes "eap-radius 1") then Some (record { phase = phase.Settings }) else None
+reading_after_header line =
+    if bytes_eq line (codes "eap-radius 1") then Some (record { phase = phase.Settings }) else None
 
 -- Repeated: a second secret
 abbrev pub occurred_before : Phase → RadiusItem → Bool

@@ -74,7 +74,8 @@ impl CaptureReader {
     /// reader is as it was.
     #[tactic(auto, unfolding(crate::specs::Captures::read_line))]
     pub fn line_into(&mut self, line: &[u8]) -> Result<CaptureItemKind, LineFault>
-        ensures read { captures.read_line self.old line.now ≡ line_result (λ item after event. item) result self.new (tt {0}) }
+        ensures read { captures.read_line self.old line.now
+            ≡ line_result (λ item after event. item) result self.new (tt {0}) }
         ensures unchanged { OnErr result (self.new ≡ self.old) }
     {
         read_line(self, line, &mut ())
@@ -83,9 +84,11 @@ impl CaptureReader {
     /// Reads the next line, without its end, and says what it says, whole: the users have keys of their methods' sizes. The
     /// line is refused with its first fault, and then the reader is as it was.
     pub fn line(&mut self, line: &[u8]) -> Result<CaptureItem, LineFault>
-        ensures read { captures.read_line self.old line.now ≡ line_result (λ item after none. item_kind item) result self.new (tt {0}) }
+        ensures read { captures.read_line self.old line.now
+            ≡ line_result (λ item after none. item_kind item) result self.new (tt {0}) }
         ensures users { IfOk result (λ item. HasUsers item self.new.users) }
-        ensures keys { IfOk result (λ item. All (λ user. IsTrue (is_valid_for user.kind user.psk)) self.new.users) }
+        ensures keys { IfOk result
+            (λ item. All (λ user. IsTrue (is_valid_for user.kind user.psk)) self.new.users) }
         ensures unchanged { OnErr result (self.new ≡ self.old) }
     {
         match self.line_into(line)? {

@@ -4,7 +4,8 @@ ghost use Rattle.std.specs.Prelude.{◌≡◌, ◌≢◌, [], true, Ok, IfErr, I
 ghost use Rattle.text_tables.specs.Words.{words};
 ghost use Rattle.request_text.specs.declared.key_line.KeyLine.TheVariants as key;
 ghost use Rattle.text_tables.specs.IsValidRow.{IsValidRow};
-ghost use Rattle.request_text.specs.Keys.{row_of, ciphersuite_of, asked_of, asked_by, key_line, read_into, asked_into, HasSizes};
+ghost use Rattle.request_text.specs.Keys.{row_of, ciphersuite_of, asked_of, asked_by, key_line};
+ghost use Rattle.request_text.specs.Keys.{read_into, asked_into, HasSizes};
 
 use octet_lists::{Injected, MAX_NAME, Octets, Suite};
 use text_tables::{

@@ -1,6 +1,7 @@
 //! Laws of the lines of a text, over its table. Each is the contract of a function that does nothing.
 
-ghost use Rattle.request_text.specs.Laws.{CapturesAreJudged, RadiusLinesAreJudged, RequestsAreJudged};
+ghost use Rattle.request_text.specs.Laws.{CapturesAreJudged, RadiusLinesAreJudged};
+ghost use Rattle.request_text.specs.Laws.{RequestsAreJudged};
 
 /// A line of a capture is refused with exactly the first fault that it has at its place, and accepted exactly
 /// if it has none; then it says what its keyword says with its words.

@@ -30,7 +30,8 @@ impl RadiusReader {
     /// reader is as it was.
     #[tactic(auto, unfolding(crate::specs::Radius::read_line))]
     pub fn line(&mut self, line: &[u8]) -> Result<RadiusItem, LineFault>
-        ensures read { radius.read_line self.old line.now ≡ line_result (λ item after event. item) result self.new (tt {0}) }
+        ensures read { radius.read_line self.old line.now
+            ≡ line_result (λ item after event. item) result self.new (tt {0}) }
         ensures unchanged { OnErr result (self.new ≡ self.old) }
     {
         read_line(self, line, &mut ())

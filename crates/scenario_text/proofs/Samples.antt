@@ -1,5 +1,6 @@
 -- Lines, and a whole scenario, read by the definitions alone.
-use Rattle.std.proofs.Common.{◌≡◌, List, ℕ, true, false, [], ◌∷◌, ◌++◌, replicate, Some, None, find, Result, Ok, Err, refl}
+use Rattle.std.proofs.Common.{◌≡◌, List, ℕ, true, false, [], ◌∷◌, ◌++◌, replicate, Some, None, find}
+use Rattle.std.proofs.Common.{Result, Ok, Err, refl}
 use Rattle.std.specs.Prelude.{codes}
 use Rattle.login_setup.specs.Setup.{no_later}
 use Rattle.login_setup.specs.declared.setup.Later.{Later}
@@ -17,7 +18,8 @@ use Rattle.text_tables.specs.Rows.{faults, unless, keyword_in, line_has}
 use Rattle.scenario_text.specs.Entries.{item_of, has_fault, meaning_by}
 use Rattle.scenario_text.specs.Contents.{Entry, Set, Happens}
 use Rattle.text_tables.specs.Users.{with_user}
-use Rattle.scenario_text.specs.Reading.{with_later, peer_setup_of, server_setup_of, setup_of, read_line}
+use Rattle.scenario_text.specs.Reading.{with_later, peer_setup_of, server_setup_of, setup_of}
+use Rattle.scenario_text.specs.Reading.{read_line}
 use Rattle.scenario_text.specs.Whole.{IsScript, read_lines, read_all}
 use Rattle.text_tables.specs.declared.fault.LineFault.{LineFault}
 use Rattle.text_tables.specs.declared.fault.LineFault.TheVariants as fault
@@ -33,7 +35,8 @@ means_in version line = unless (find (has_fault version line) faults) (meaning_b
 abbrev says : List ℕ → Result Entry LineFault
 says line = means_in First line
 
--- a number has no leading zero, and is in its range; one space parts words, and their number comes before what they are
+-- a number has no leading zero, and is in its range; one space parts words, and their number comes
+-- before what they are
 numbers : (says (codes "deliver 1000000") ≡ Ok (Happens (event.Deliver 1000000)))
     × (says (codes "deliver 1000001") ≡ Err fault.BadNumber)
     × (says (codes "deliver 01") ≡ Err fault.BadNumber)
@@ -83,11 +86,14 @@ nonce = replicate 64 48
 -- the settings that are needed, in any order
 abbrev front : List (List ℕ)
 front =
-    codes "server-name home" ∷ codes "" ∷ codes "mode alone" ∷ codes "peer-name alice" ∷ codes "peer-server any" ∷ codes "peer-methods -"
-    ∷ (codes "peer-nonce " ++ nonce) ∷ codes "server-methods -" ∷ codes "# no user" ∷ (codes "server-nonce " ++ nonce) ∷ []
+    codes "server-name home" ∷ codes "" ∷ codes "mode alone" ∷ codes "peer-name alice"
+    ∷ codes "peer-server any" ∷ codes "peer-methods -"
+    ∷ (codes "peer-nonce " ++ nonce) ∷ codes "server-methods -" ∷ codes "# no user"
+    ∷ (codes "server-nonce " ++ nonce) ∷ []
 
 abbrev sample : List (List ℕ)
-sample = codes "eap-scenario 1" ∷ (front ++ codes "events" ∷ codes "idle" ∷ codes "deliver 2" ∷ codes "end" ∷ codes "" ∷ [])
+sample = codes "eap-scenario 1"
+    ∷ (front ++ codes "events" ∷ codes "idle" ∷ codes "deliver 2" ∷ codes "end" ∷ codes "" ∷ [])
 
 abbrev setup : Later → Setup
 setup later = record plain_setup {
@@ -96,11 +102,14 @@ setup later = record plain_setup {
   later = later;
 }
 
-reads : read_all sample ≡ Ok (record { setup = Some (setup no_later); events = event.Idle ∷ event.Deliver 2 ∷ [] })
-unfolding read_lines read_line texts.read_line read_body body_has line_has keyword_in item_of spells_number spells_octets peer_setup_of server_setup_of setup_of with_user nonce
+reads : read_all sample
+    ≡ Ok (record { setup = Some (setup no_later); events = event.Idle ∷ event.Deliver 2 ∷ [] })
+unfolding read_lines read_line texts.read_line read_body body_has line_has keyword_in item_of
+    spells_number spells_octets peer_setup_of server_setup_of setup_of with_user nonce
 reads = refl
 
-stands : IsScript sample (record { setup = Some (setup no_later); events = event.Idle ∷ event.Deliver 2 ∷ [] })
+stands : IsScript sample
+    (record { setup = Some (setup no_later); events = event.Idle ∷ event.Deliver 2 ∷ [] })
 stands = scenarios_are_read.only sample _ reads
 
 -- in the second version the nonces come again, in their order
@@ -109,14 +118,18 @@ ones = replicate 64 49
 
 abbrev later_sample : List (List ℕ)
 later_sample =
-    codes "eap-scenario 2" ∷ (codes "peer-expanded no" ∷ front ++ (codes "peer-nonce " ++ ones) ∷ (codes "peer-nonce " ++ nonce) ∷ codes "events" ∷ codes "restart peer" ∷ codes "end" ∷ [])
+    codes "eap-scenario 2" ∷ (codes "peer-expanded no" ∷ front ++ (codes "peer-nonce " ++ ones)
+    ∷ (codes "peer-nonce " ++ nonce) ∷ codes "events" ∷ codes "restart peer" ∷ codes "end" ∷ [])
 
 reads_later : read_all later_sample
     ≡ Ok (record {
-      setup = Some (setup (record { version = 2; peer = replicate 32 17 ∷ replicate 32 0 ∷ []; server = [] }));
+      setup = Some (setup
+          (record { version = 2; peer = replicate 32 17 ∷ replicate 32 0 ∷ []; server = [] }));
       events = event.Restart party.Peer ∷ [];
     })
-unfolding read_lines read_line texts.read_line read_body body_has line_has keyword_in item_of spells_number spells_octets with_later peer_setup_of server_setup_of setup_of with_user nonce ones
+unfolding read_lines read_line texts.read_line read_body body_has line_has
+    keyword_in item_of spells_number spells_octets with_later peer_setup_of server_setup_of setup_of
+    with_user nonce ones
 reads_later = refl
 
 nonces : ℕ → List (List ℕ)
@@ -126,13 +139,16 @@ twice : (read_all (codes "eap-scenario 1" ∷ nonces 2) ≡ Err fault.Repeated)
     × (read_all (codes "eap-scenario 2" ∷ nonces 16) ≡ Err fault.Missing)
     × (read_all (codes "eap-scenario 2" ∷ nonces 17) ≡ Err fault.BadCount)
     × (read_all (codes "eap-scenario 3" ∷ []) ≡ Err fault.NoHeader)
-unfolding read_lines read_line texts.read_line read_body body_has line_has keyword_in item_of spells_octets with_later nonce nonces
+unfolding read_lines read_line texts.read_line read_body body_has line_has keyword_in item_of
+    spells_octets with_later nonce nonces
 twice = (refl, refl, refl, refl)
 
 refused : (read_all [] ≡ Err fault.NoHeader)
     × (read_all (codes "eap-scenario 1" ∷ front) ≡ Err fault.Missing)
     × (read_all (codes "eap-scenario 1" ∷ codes "events" ∷ []) ≡ Err fault.Missing)
-    × (read_all (codes "eap-scenario 1" ∷ codes "first-id 1" ∷ codes "first-id 1" ∷ []) ≡ Err fault.Repeated)
+    × (read_all (codes "eap-scenario 1" ∷ codes "first-id 1" ∷ codes "first-id 1" ∷ [])
+    ≡ Err fault.Repeated)
     × (read_all (codes "eap-scenario 1" ∷ codes "end" ∷ []) ≡ Err fault.Order)
-unfolding read_lines read_line texts.read_line read_body body_has line_has keyword_in item_of spells_number spells_octets peer_setup_of server_setup_of setup_of with_user nonce
+unfolding read_lines read_line texts.read_line read_body body_has line_has keyword_in item_of
+    spells_number spells_octets peer_setup_of server_setup_of setup_of with_user nonce
 refused = (refl, refl, refl, refl, refl)

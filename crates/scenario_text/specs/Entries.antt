@@ -1,5 +1,6 @@
 -- The lines of a scenario: what each says, if no fault keeps it from that.
-use Rattle.std.specs.Prelude.{ℕ, List, [], ◌∷◌, length, Bool, ◌==◌, nat_le, if◌then◌else◌, codes, unwrap_or}
+use Rattle.std.specs.Prelude.{ℕ, List, [], ◌∷◌, length, Bool, ◌==◌, nat_le, if◌then◌else◌, codes}
+use Rattle.std.specs.Prelude.{unwrap_or}
 use Rattle.std.specs.Str.{bytes_eq}
 use Rattle.octet_lists.specs.Among.{psk_kind}
 use Rattle.login_setup.specs.declared.setup.Mode.{Mode}
@@ -83,10 +84,16 @@ item_of key.ServerMethods ws = Set (setting.ServerMethods (kinds_of ws))
 item_of key.ServerSuites ws = Set (setting.ServerSuites (suites_of ws))
 item_of key.ServerNonce ws = Set (setting.ServerNonce (octets_of (word_in ws 1)))
 item_of key.User ws =
-    Set (setting.User (record { name = word_in ws 1; kind = kind_of (word_in ws 2); psk = octets_of (word_in ws 3); barred = is_barred (word_in ws 4) }))
+    Set (setting.User (record {
+      name = word_in ws 1;
+      kind = kind_of (word_in ws 2);
+      psk = octets_of (word_in ws 3);
+      barred = is_barred (word_in ws 4);
+    }))
 item_of key.Events ws = Events
 item_of key.Deliver ws = Happens (event.Deliver (number (word_in ws 1)))
-item_of key.Alter ws = Happens (event.Alter (number (word_in ws 1)) (number (word_in ws 2)) (number (word_in ws 3)))
+item_of key.Alter ws =
+    Happens (event.Alter (number (word_in ws 1)) (number (word_in ws 2)) (number (word_in ws 3)))
 item_of key.Cut ws = Happens (event.Cut (number (word_in ws 1)) (number (word_in ws 2)))
 item_of key.Inject ws = Happens (event.Inject (port_of (word_in ws 1)) (octets_of (word_in ws 2)))
 item_of key.Timeout ws = Happens (event.Timeout (party_of (word_in ws 1)))

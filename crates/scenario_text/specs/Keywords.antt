@@ -2,7 +2,9 @@
 use Rattle.std.specs.Prelude.{List, [], ◌∷◌, ◌++◌, codes}
 use Rattle.octet_lists.specs.Sizes.{max_packet}
 use Rattle.text_tables.specs.Rows.{Row, row}
-use Rattle.text_tables.specs.declared.rows.Field.TheVariants.{Choice, Number, Kind, KindOrNone, OtherKind, Suite, OtherSuite, Name, Hex, Key}
+use Rattle.text_tables.specs.declared.rows.Field.TheVariants.{Choice, Number, Kind, KindOrNone}
+use Rattle.text_tables.specs.declared.rows.Field.TheVariants.{OtherKind, Suite, OtherSuite, Name}
+use Rattle.text_tables.specs.declared.rows.Field.TheVariants.{Hex, Key}
 use Rattle.text_tables.specs.declared.rows.Choices.TheVariants as choices
 use Rattle.scenario_text.specs.declared.keyword.Keyword.{Keyword}
 use Rattle.scenario_text.specs.declared.keyword.Keyword.TheVariants as key
@@ -43,9 +45,12 @@ row_of key.Restart = row (codes "restart") 1 (Choice choices.Party ∷ [])
 -- the keywords of both versions
 abbrev pub keywords : List Keyword
 keywords =
-    key.Deliver ∷ key.Alter ∷ key.Cut ∷ key.Inject ∷ key.Timeout ∷ key.AaaTimeout ∷ key.AaaNoReq ∷ key.Idle ∷ key.AltAccept ∷ key.AltReject ∷ key.End
-    ∷ key.Mode ∷ key.FirstId ∷ key.MaxRetrans ∷ key.PeerName ∷ key.PeerServer ∷ key.PeerMethods ∷ key.PeerSuites ∷ key.PeerPsk
-    ∷ key.PeerNonce ∷ key.ServerName ∷ key.ServerMethods ∷ key.ServerSuites ∷ key.ServerNonce ∷ key.User ∷ key.Events ∷ []
+    key.Deliver ∷ key.Alter ∷ key.Cut ∷ key.Inject ∷ key.Timeout ∷ key.AaaTimeout ∷ key.AaaNoReq
+    ∷ key.Idle ∷ key.AltAccept ∷ key.AltReject ∷ key.End
+    ∷ key.Mode ∷ key.FirstId ∷ key.MaxRetrans ∷ key.PeerName ∷ key.PeerServer ∷ key.PeerMethods
+    ∷ key.PeerSuites ∷ key.PeerPsk
+    ∷ key.PeerNonce ∷ key.ServerName ∷ key.ServerMethods ∷ key.ServerSuites ∷ key.ServerNonce
+    ∷ key.User ∷ key.Events ∷ []
 
 -- those that the second version has besides
 abbrev pub later_keywords : List Keyword

@@ -1,5 +1,7 @@
 -- A scenario, line by line: what has been read, and what each line adds.
-use Rattle.std.specs.Prelude.{ℕ, List, [], ◌∷◌, ◌++◌, length, nat_le, nat_lt, not, ◌&&◌, Bool, false, if◌then◌else◌, Option, Some, None, Result, Ok, Err, IsOk, ok_or, is_err, is_some, unwrap_or}
+use Rattle.std.specs.Prelude.{ℕ, List, [], ◌∷◌, ◌++◌, length, nat_le, nat_lt, not, ◌&&◌, Bool}
+use Rattle.std.specs.Prelude.{false, if◌then◌else◌, Option, Some, None, Result, Ok, Err, IsOk}
+use Rattle.std.specs.Prelude.{ok_or, is_err, is_some, unwrap_or}
 use Rattle.login_setup.specs.Setup.{has_keys}
 use Rattle.login_setup.specs.Users.{user_of, max_users}
 use Rattle.login_setup.specs.declared.setup.Later.{Later}
@@ -61,9 +63,11 @@ no_settings = record {
 abbrev pub settings_of_version : Version → Settings
 settings_of_version v = record no_settings { version = v }
 
--- the nonces of an end with one more, the first or a later one, unless there are as many as the version has
+-- the nonces of an end with one more, the first or a later one, unless there are as many as the
+-- version has
 unfoldable pub with_later : Version → List (List ℕ) → List ℕ → List (List ℕ)
-with_later v later nonce = if nat_lt (length later) (most_later v) then later ++ nonce ∷ [] else later
+with_later v later nonce =
+    if nat_lt (length later) (most_later v) then later ++ nonce ∷ [] else later
 
 abbrev pub with_nonce : Version → Option GivenNonces → List ℕ → Option GivenNonces
 with_nonce v None nonce = Some (record { first = nonce; later = [] })
@@ -74,7 +78,8 @@ abbrev pub is_full : Option GivenNonces → Bool
 is_full None = false
 is_full (Some given) = nat_le 15 (length given.later)
 
--- whether the setting has come before and may come once; the nonces may come again in the second version
+-- whether the setting has come before and may come once; the nonces may come again in the second
+-- version
 abbrev pub has_setting : Settings → Setting → Bool
 has_setting s (setting.Mode v) = is_some s.mode
 has_setting s (setting.FirstId v) = is_some s.first_id
@@ -105,11 +110,13 @@ with_setting s (setting.PeerMethods v) = record s { peer_methods = Some v }
 with_setting s (setting.PeerSuites v) = record s { peer_suites = Some v }
 with_setting s (setting.PeerPsk47 v) = record s { peer_psk47 = Some v }
 with_setting s (setting.PeerPsk51 v) = record s { peer_psk51 = Some v }
-with_setting s (setting.PeerNonce v) = record s { peer_nonces = with_nonce s.version s.peer_nonces v }
+with_setting s
+    (setting.PeerNonce v) = record s { peer_nonces = with_nonce s.version s.peer_nonces v }
 with_setting s (setting.ServerName v) = record s { server_name = Some v }
 with_setting s (setting.ServerMethods v) = record s { server_methods = Some v }
 with_setting s (setting.ServerSuites v) = record s { server_suites = Some v }
-with_setting s (setting.ServerNonce v) = record s { server_nonces = with_nonce s.version s.server_nonces v }
+with_setting s
+    (setting.ServerNonce v) = record s { server_nonces = with_nonce s.version s.server_nonces v }
 with_setting s (setting.User user) = record s { users = with_user s.users user }
 with_setting s (setting.PeerExpanded v) = record s { peer_expanded = Some v }
 with_setting s (setting.ServerExpanded v) = record s { server_expanded = Some v }
@@ -164,7 +171,11 @@ later_nonces None = []
 later_nonces (Some given) = given.later
 
 abbrev pub later_of : Settings → Later
-later_of s = record { version = version_number s.version; peer = later_nonces s.peer_nonces; server = later_nonces s.server_nonces }
+later_of s = record {
+  version = version_number s.version;
+  peer = later_nonces s.peer_nonces;
+  server = later_nonces s.server_nonces;
+}
 
 unfoldable pub setup_of : Settings → Result Setup LineFault
 setup_of s = do

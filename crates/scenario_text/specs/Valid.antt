@@ -1,7 +1,9 @@
 -- What every setting that was read keeps: its number, its name or its nonce is within its limits.
-use Rattle.std.specs.Prelude.{◌≡◌, ◌==◌, false, ◌≤◌, ◌<◌, length, IfSome, IsTrue, All, Option, ℕ, List}
+use Rattle.std.specs.Prelude.{◌≡◌, ◌==◌, false, ◌≤◌, ◌<◌, length, IfSome, IsTrue, All, Option, ℕ}
+use Rattle.std.specs.Prelude.{List}
 use Rattle.octet_lists.specs.Among.{psk_kind, gpsk_kind, is_kind}
-use Rattle.login_setup.specs.Setup.{are_kinds, are_suites, is_valid_for, no_later, IsSoundPeer, IsSoundServer, HasKeys}
+use Rattle.login_setup.specs.Setup.{are_kinds, are_suites, is_valid_for, no_later, IsSoundPeer}
+use Rattle.login_setup.specs.Setup.{IsSoundServer, HasKeys}
 use Rattle.login_setup.specs.Users.{AreDistinct, max_users}
 use Rattle.login_setup.specs.declared.users.User.{User}
 use Rattle.login_setup.specs.declared.setup.Accepts.{Accepts}

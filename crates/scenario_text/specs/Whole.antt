@@ -1,5 +1,7 @@
--- What a scenario is, by all its lines: its settings, its events, and what reading it makes of them.
-use Rattle.std.specs.Prelude.{◌≡◌, ℕ, ◌≤◌, List, [], ◌∷◌, ◌++◌, length, map, filter, not, All, Option, Some, None, Bool, true, false, Result, Ok}
+-- What a scenario is, by all its lines: its settings, its events, and what reading it makes of
+-- them.
+use Rattle.std.specs.Prelude.{◌≡◌, ℕ, ◌≤◌, List, [], ◌∷◌, ◌++◌, length, map, filter, not, All}
+use Rattle.std.specs.Prelude.{Option, Some, None, Bool, true, false, Result, Ok}
 use Rattle.std.specs.List.{list_any}
 use Rattle.login_setup.specs.Setup.{no_later, HasKeys}
 use Rattle.login_setup.specs.declared.users.User.{User}
@@ -84,7 +86,8 @@ with_value (setting.ServerSuites v) rest = record rest { server_suites = v ∷ r
 with_value (setting.ServerNonce v) rest = record rest { server_nonce = v ∷ rest.server_nonce }
 with_value (setting.User v) rest = record rest { users = v ∷ rest.users }
 with_value (setting.PeerExpanded v) rest = record rest { peer_expanded = v ∷ rest.peer_expanded }
-with_value (setting.ServerExpanded v) rest = record rest { server_expanded = v ∷ rest.server_expanded }
+with_value (setting.ServerExpanded v)
+    rest = record rest { server_expanded = v ∷ rest.server_expanded }
 
 abbrev pub values_of : List Setting → Values
 values_of [] = no_values
@@ -106,13 +109,16 @@ IsGivenOrNone [] slot = slot ≡ None
 IsGivenOrNone (given ∷ []) slot = slot ≡ Some given
 IsGivenOrNone (given ∷ again ∷ rest) slot = ⊥
 
--- the nonces of an end, in the order of their lines: the first conversation's, and in the second version at most 15 later ones
-pub record AreNoncesOf (version : Version) (values : List (List ℕ)) (first : List ℕ) (later : List (List ℕ)) : Type 0 where
+-- the nonces of an end, in the order of their lines: the first conversation's, and in the second
+-- version at most 15 later ones
+pub record AreNoncesOf (version : Version) (values : List (List ℕ)) (first : List ℕ)
+    (later : List (List ℕ)) : Type 0 where
   pub given : values ≡ first ∷ later
   pub few : length later ≤ most_later version
 
 -- the settings of each end and of a run are those that the lines give
-pub record MakesPeer (version : Version) (v : Values) (later : List (List ℕ)) (peer : PeerSetup) : Type 0 where
+pub record MakesPeer (version : Version) (v : Values) (later : List (List ℕ))
+    (peer : PeerSetup) : Type 0 where
   pub name : IsGiven v.peer_name peer.name
   pub accepts : IsGiven v.peer_server peer.accepts
   pub methods : IsGiven v.peer_methods peer.methods
@@ -123,7 +129,8 @@ pub record MakesPeer (version : Version) (v : Values) (later : List (List ℕ)) 
   pub nonces : AreNoncesOf version v.peer_nonce peer.nonce later
   pub expanded : IsGivenOr false v.peer_expanded peer.expanded
 
-pub record MakesServer (version : Version) (v : Values) (later : List (List ℕ)) (server : ServerSetup) : Type 0 where
+pub record MakesServer (version : Version) (v : Values) (later : List (List ℕ))
+    (server : ServerSetup) : Type 0 where
   pub name : IsGiven v.server_name server.name
   pub methods : IsGiven v.server_methods server.methods
   pub suites : IsGivenOr both_suites v.server_suites server.suites
@@ -148,15 +155,16 @@ lines_that_count lines = filter (λ line. not (is_passed_over line)) lines
 abbrev pub IsFaultless : Version → List ℕ → Type 0
 IsFaultless version line = (f : LineFault) → has_fault version line f ≡ false
 
--- a scenario: the header of a version, and then, but for lines that are ignored, settings, the line `events`,
--- events and the line `end`
+-- a scenario: the header of a version, and then, but for lines that are ignored, settings, the line
+-- `events`, events and the line `end`
 pub record IsScenario (lines : List (List ℕ)) (setup : Setup) (events : List Event) : Type 0 where
   pub version : Version
   pub body : List (List ℕ)
   pub settings : List Setting
   pub begins : lines ≡ header version ∷ body
   pub faultless : All (IsFaultless version) (lines_that_count body)
-  pub order : map (meaning_by version) (lines_that_count body) ≡ map Set settings ++ Events ∷ (map Happens events ++ End ∷ [])
+  pub order : map (meaning_by version) (lines_that_count body)
+      ≡ map Set settings ++ Events ∷ (map Happens events ++ End ∷ [])
   pub made : MakesSetup version (values_of settings) setup
 
 -- what reading lines makes: the setup, if the line `events` came, and the events
@@ -176,7 +184,8 @@ with_item item.End s = s
 -- the lines read in their order up to the end of the input, or the first fault
 unfoldable pub read_lines : Reading → List (List ℕ) → Result Script LineFault
 read_lines r [] = finish_of r >>= λ done. Ok no_script
-read_lines r (line ∷ rest) = read_line r line >>= λ x. read_lines x.after rest >>= λ s. Ok (with_item x.item s)
+read_lines r (line ∷ rest) =
+    read_line r line >>= λ x. read_lines x.after rest >>= λ s. Ok (with_item x.item s)
 
 abbrev pub read_all : List (List ℕ) → Result Script LineFault
 read_all lines = read_lines (record { phase = phase.Unread; settings = no_settings }) lines
@@ -187,11 +196,14 @@ pub record IsScript (lines : List (List ℕ)) (script : Script) : Type 0 where
   pub whole : script.setup ≡ Some setup
   pub scenario : IsScenario lines setup script.events
 
--- lines are read without a fault exactly if they are a scenario, and then give its setup and its events
+-- lines are read without a fault exactly if they are a scenario, and then give its setup and its
+-- events
 pub record ScenariosAreRead : Type 0 where
-  pub taken : (lines : List (List ℕ)) (setup : Setup) (events : List Event) → IsScenario lines setup events →
+  pub taken : (lines : List (List ℕ)) (setup : Setup) (events : List Event)
+      → IsScenario lines setup events →
       read_all lines ≡ Ok (record { setup = Some setup; events = events })
-  pub only : (lines : List (List ℕ)) (script : Script) → read_all lines ≡ Ok script → IsScript lines script
+  pub only : (lines : List (List ℕ)) (script : Script) → read_all lines ≡ Ok script
+      → IsScript lines script
 
 abbrev pub is_restart : Event → Bool
 is_restart (event.Restart party) = true
@@ -207,4 +219,5 @@ pub record IsAlone (setup : Setup) (events : List Event) : Type 0 where
 -- so it is in every scenario of the first version
 abbrev pub FirstScenariosAreAlone : Type 0
 FirstScenariosAreAlone =
-    (lines : List (List ℕ)) (setup : Setup) (events : List Event) → (s : IsScenario lines setup events) → s.version ≡ First → IsAlone setup events
+    (lines : List (List ℕ)) (setup : Setup) (events : List Event)
+    → (s : IsScenario lines setup events) → s.version ≡ First → IsAlone setup events

@@ -6,7 +6,8 @@ ghost use Rattle.text_tables.specs.Words.{words};
 ghost use Rattle.scenario_text.specs.Contents.{entry_with};
 ghost use Rattle.text_tables.specs.IsValidRow.{IsValidRow};
 ghost use Rattle.scenario_text.specs.Keywords.{row_of};
-ghost use Rattle.scenario_text.specs.Entries.{accepts_of, kinds_of, suites_of, key_setting, port_of, party_of, is_yes, mode_of, item_of, IsSet};
+ghost use Rattle.scenario_text.specs.Entries.{accepts_of, kinds_of, suites_of, key_setting};
+ghost use Rattle.scenario_text.specs.Entries.{port_of, party_of, is_yes, mode_of, item_of, IsSet};
 
 use crate::keyword::Keyword;
 use login_setup::{Accepts, Event, Mode, Party, Port, User};
@@ -103,7 +104,8 @@ fn inject(line: &[u8], event: &mut Event)
 #[tactic(auto, unfolding(crate::specs::Entries::item_of))]
 fn set_by(keyword: Keyword, line: &[u8]) -> Entry
     requires { IsValidRow (row_of keyword) (words line.now) }
-    ensures { (event : Event) → IsSet (item_of keyword (words line.now)) → item_of keyword (words line.now) ≡ entry_with result event }
+    ensures { (event : Event) → IsSet (item_of keyword (words line.now))
+        → item_of keyword (words line.now) ≡ entry_with result event }
 {
     let first = word_in(line, 1);
     match keyword {

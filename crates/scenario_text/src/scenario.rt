@@ -3,7 +3,8 @@
 
 ghost use Rattle.std.specs.Prelude.{◌≡◌, IfOk, OnErr};
 ghost use Rattle.text_tables.specs.Texts.{line_result};
-ghost use Rattle.scenario_text.specs.Reading.{no_settings, item_with, setup_of, finish_of, HasSetup};
+ghost use Rattle.scenario_text.specs.Reading.{no_settings, item_with, setup_of, finish_of};
+ghost use Rattle.scenario_text.specs.Reading.{HasSetup};
 ghost use Rattle.scenario_text.specs.Reading as reading;
 ghost use Rattle.scenario_text.specs.Items.{item_value};
 ghost use Rattle.scenario_text.specs.Valid.{IsValidSetup, IsValidItem};
@@ -75,7 +76,8 @@ impl ScenarioReader {
     /// refused with its first fault, and then the reader is as it was.
     #[tactic(auto, unfolding(crate::specs::Reading::read_line))]
     pub fn line_into(&mut self, line: &[u8], event: &mut Event) -> Result<ItemKind, LineFault>
-        ensures read { reading.read_line self.old line.now ≡ line_result item_with result self.new event.new }
+        ensures read { reading.read_line self.old line.now
+            ≡ line_result item_with result self.new event.new }
         ensures ready { IfOk result (λ item. HasSetup item self.new) }
         ensures unchanged { OnErr result (self.new ≡ self.old) }
     {
@@ -85,7 +87,8 @@ impl ScenarioReader {
     /// Reads the next line, without its end, and says what it says, whole: its settings are each within its limits. The line
     /// is refused with its first fault, and then the reader is as it was.
     pub fn line(&mut self, line: &[u8]) -> Result<Item, LineFault>
-        ensures read { reading.read_line self.old line.now ≡ line_result (λ item after none. item_value item) result self.new (tt {0}) }
+        ensures read { reading.read_line self.old line.now
+            ≡ line_result (λ item after none. item_value item) result self.new (tt {0}) }
         ensures valid { IfOk result (λ item. IsValidItem (item_value item)) }
         ensures unchanged { OnErr result (self.new ≡ self.old) }
     {

@@ -1,10 +1,13 @@
 //! The settings of a scenario that have been read so far.
 
-ghost use Rattle.std.specs.Prelude.{◌≡◌, ◌==◌, ◌∷◌, [], unwrap_or, is_err, is_some, if◌then◌else◌, None};
+ghost use Rattle.std.specs.Prelude.{◌≡◌, ◌==◌, ◌∷◌, [], unwrap_or, is_err, is_some, if◌then◌else◌};
+ghost use Rattle.std.specs.Prelude.{None};
 ghost use Rattle.std.specs.List.{list_all};
 ghost use Rattle.octet_lists.specs.Among.{psk_kind, gpsk_kind};
-ghost use Rattle.scenario_text.specs.Reading.{no_settings, is_full, with_later, with_nonce, has_setting, with_setting, both_suites};
-ghost use Rattle.scenario_text.specs.Reading.{later_nonces, later_of, peer_setup_of, server_setup_of, setup_of, is_crowded};
+ghost use Rattle.scenario_text.specs.Reading.{no_settings, is_full, with_later, with_nonce};
+ghost use Rattle.scenario_text.specs.Reading.{has_setting, with_setting, both_suites};
+ghost use Rattle.scenario_text.specs.Reading.{later_nonces, later_of, peer_setup_of};
+ghost use Rattle.scenario_text.specs.Reading.{server_setup_of, setup_of, is_crowded};
 
 use crate::entry::Setting;
 use crate::keyword::Keyword;
@@ -115,14 +118,16 @@ impl Settings {
 
     /// True if the key for each of these methods has come.
     fn has_each(&self, kinds: &[u8]) -> bool
-        ensures { result ≡ list_all (λ kind. is_some (if kind == psk_kind then self.now.peer_psk47 else if kind == gpsk_kind then self.now.peer_psk51 else None)) kinds.now }
+        ensures { result ≡ list_all (λ kind. is_some (if kind == psk_kind then self.now.peer_psk47
+            else if kind == gpsk_kind then self.now.peer_psk51 else None)) kinds.now }
     {
         kinds.iter().all(|kind| self.has_key(*kind))
     }
 
     /// True if the key for this method has come.
     fn has_key(&self, kind: u8) -> bool
-        ensures { result ≡ is_some (if kind == psk_kind then self.now.peer_psk47 else if kind == gpsk_kind then self.now.peer_psk51 else None) }
+        ensures { result ≡ is_some (if kind == psk_kind then self.now.peer_psk47 else if kind
+            == gpsk_kind then self.now.peer_psk51 else None) }
     {
         match kind {
             PSK_KIND => self.peer_psk47.is_some(),

@@ -1,6 +1,7 @@
 -- What the server makes of an input is one of the rows of its table.
 pub mod ServerRows
--- What a delivery comes to: the row of its table, a refusal, or the row of the plain form, whose Request is wrapped.
+-- What a delivery comes to: the row of its table, a refusal, or the row of the plain form, whose
+-- Request is wrapped.
 pub mod Receiving
 -- A discard changes nothing.
 pub mod Discards
@@ -18,7 +19,8 @@ pub mod Wrapping
 pub mod Starting
 -- The settings with another nonce, or with other users whose keys fit, are sound.
 pub mod Restarting
--- The readiness and the timer of a server that was made, and of one that has started, from the definitions alone.
+-- The readiness and the timer of a server that was made, and of one that has started, from the
+-- definitions alone.
 mod Worked
 -- Worked values of a server that reads Expanded Types.
 mod WorkedExpanded

@@ -4,7 +4,9 @@ use Rattle.std.specs.Prelude.{ℕ, List, [], if◌then◌else◌}
 use Rattle.eap_method.specs.Steps.{enters, is_end}
 use Rattle.eap_method.specs.Tags.{no_tags}
 use Rattle.server_machine.specs.Expanded.{server_receives}
-use Rattle.server_machine.specs.ServerTable.{ServerNow, ServerAnswer, answer, is_started, server_restart, server_start, server_deliver, server_timeout}
+use Rattle.server_machine.specs.ServerTable.{ServerNow, ServerAnswer, answer, is_started}
+use Rattle.server_machine.specs.ServerTable.{server_restart, server_start, server_deliver}
+use Rattle.server_machine.specs.ServerTable.{server_timeout}
 
 -- the start, the end of the retransmission timer, or octets from the peer
 pub data ServerInput : Type 0 where

@@ -14,7 +14,8 @@ pub record PreservesTheServer (before : ServerNow) (out : ServerAnswer) : Type 0
 -- a discard changes nothing
 abbrev pub DiscardsChangeNothing : Type 0
 DiscardsChangeNothing =
-    (now : ServerNow) (input : ServerInput) → IsSome (server_accepts now input).step.cause → PreservesTheServer now (server_accepts now input)
+    (now : ServerNow) (input : ServerInput) → IsSome (server_accepts now input).step.cause
+    → PreservesTheServer now (server_accepts now input)
 
 -- the role is the same, and a server to which octets may come is one afterwards
 pub record StaysReady (before after : ServerVariables) : Type 0 where
@@ -23,4 +24,5 @@ pub record StaysReady (before after : ServerVariables) : Type 0 where
 
 -- every input leaves the role and the readiness
 abbrev pub StaysAsItIs : Type 0
-StaysAsItIs = (now : ServerNow) (input : ServerInput) → StaysReady now.vars (server_accepts now input).after.vars
+StaysAsItIs = (now : ServerNow) (input : ServerInput)
+    → StaysReady now.vars (server_accepts now input).after.vars

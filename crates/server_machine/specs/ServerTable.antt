@@ -1,6 +1,9 @@
--- The stand-alone server of RFC 4137 section 5 and the backend of section 6, over the views of their
--- methods: each call as a function. The backend is the same table, entered by its first Response.
-use Rattle.std.specs.Prelude.{◌≡◌, ◌≤◌, ℕ, ◌+◌, ◌%◌, List, [], ◌∷◌, ◌++◌, Bool, true, false, ◌==◌, ◌&&◌, ◌||◌, not, nat_le, if◌then◌else◌, Option, Some, None, Result, Ok, Err, map}
+-- The stand-alone server of RFC 4137 section 5 and the backend of section 6, over the views of
+-- their methods: each call as a function. The backend is the same table, entered by its first
+-- Response.
+use Rattle.std.specs.Prelude.{◌≡◌, ◌≤◌, ℕ, ◌+◌, ◌%◌, List, [], ◌∷◌, ◌++◌, Bool, true, false, ◌==◌}
+use Rattle.std.specs.Prelude.{◌&&◌, ◌||◌, not, nat_le, if◌then◌else◌, Option, Some, None, Result}
+use Rattle.std.specs.Prelude.{Ok, Err, map}
 use Rattle.login_setup.specs.Setup.{ServerSetup}
 use Rattle.login_setup.specs.declared.users.User.{User}
 use Rattle.octet_lists.specs.Among.{is_among, identity_kind, nak_kind}
@@ -17,7 +20,8 @@ use Rattle.eap_method.specs.Tags.{Tags, no_tags}
 use Rattle.eap_method.specs.ServerTurn.{ServerTurn}
 use Rattle.eap_method.specs.ServerTurn as turn
 use Rattle.eap_method.specs.declared.values.Report.{Report}
-use Rattle.eap_method.specs.Server.{ServerShown, ServerViews, server_views, view_of, views_started, side_of, server_offer, server_turn, server_report_of}
+use Rattle.eap_method.specs.Server.{ServerShown, ServerViews, server_views, view_of, views_started}
+use Rattle.eap_method.specs.Server.{side_of, server_offer, server_turn, server_report_of}
 use Rattle.eap_method.specs.Steps.{sends, enters, discards, is_end}
 use Rattle.eap_method.specs.Unnamed.{PreservesServers}
 use Rattle.server_machine.specs.Variables.{ServerVariables}
@@ -40,12 +44,17 @@ pub record ServerNow : Type 0 where
 
 -- what a machine is, if an object shows its method and view
 abbrev pub now_of : {M : Type 0} → (M → ServerShown) → ServerValue M → ServerNow
-now_of shown value = record { vars = value.vars; views = server_views value.vars.setup.methods (map shown value.methods) }
+now_of shown value = record {
+  vars = value.vars;
+  views = server_views value.vars.setup.methods (map shown value.methods);
+}
 
--- what no call of a server changes but those that set the nonce or the users: its settings, the Types of its objects, and
--- what the objects show whose methods the settings don't name
-pub record Preserves {M : Type 0} (shown : M → ServerShown) (before after : ServerValue M) : Type 0 where
-  pub objects : PreservesServers before.vars.setup.methods (map shown before.methods) (map shown after.methods)
+-- what no call of a server changes but those that set the nonce or the users: its settings, the
+-- Types of its objects, and what the objects show whose methods the settings don't name
+pub record Preserves {M : Type 0} (shown : M → ServerShown)
+    (before after : ServerValue M) : Type 0 where
+  pub objects : PreservesServers before.vars.setup.methods (map shown before.methods)
+      (map shown after.methods)
   pub setup : after.vars.setup ≡ before.vars.setup
 
 -- what a call answers, and the machine after it
@@ -73,9 +82,13 @@ initial_vars_of of setup first_id max_retrans = record {
 }
 
 abbrev pub initial_server : Role → ServerSetup → ServerViews → ℕ → ℕ → ServerNow
-initial_server of setup views first_id max_retrans = record { vars = initial_vars_of of setup first_id max_retrans; views = views_started setup views }
+initial_server of setup views first_id max_retrans = record {
+  vars = initial_vars_of of setup first_id max_retrans;
+  views = views_started setup views;
+}
 
--- a backend before its first Response; it has no first Identifier of its own, and sends nothing again
+-- a backend before its first Response; it has no first Identifier of its own, and sends nothing
+-- again
 abbrev pub initial_backend : ServerSetup → ServerViews → ServerNow
 initial_backend setup views = initial_server role.Backend setup views 0 0
 
@@ -89,7 +102,11 @@ next_id vars = next_id_after vars.first_id vars.current_id
 
 -- SEND_REQUEST: a Request with the next Identifier, which is sent again from now on
 abbrev pub with_request : ServerVariables → List ℕ → ServerVariables
-with_request vars octets = record vars { current_id = Some (next_id vars); retrans_count = 0; last_request = octets }
+with_request vars octets = record vars {
+  current_id = Some (next_id vars);
+  retrans_count = 0;
+  last_request = octets;
+}
 
 -- the packets that the server makes itself: the Identity Request, Success and Failure
 abbrev pub identity_request : ℕ → List ℕ
@@ -106,7 +123,8 @@ unfoldable pub server_start : ServerNow → ServerAnswer
 server_start now =
     let octets = identity_request now.vars.first_id in
     answer
-    (sends (state.Initialize ∷ state.SelectAction ∷ state.ProposeMethod ∷ state.MethodRequest ∷ state.SendRequest ∷ state.Idle ∷ []) octets no_tags)
+    (sends (state.Initialize ∷ state.SelectAction ∷ state.ProposeMethod ∷ state.MethodRequest
+    ∷ state.SendRequest ∷ state.Idle ∷ []) octets no_tags)
     (record {
       vars = record now.vars {
         state = state.Idle;
@@ -127,39 +145,51 @@ server_discard now c = answer (discards (state.Received ∷ state.Discard ∷ st
 -- SUCCESS and FAILURE send a Success or a Failure with currentId
 abbrev pub ends_well : List State → ServerVariables → ServerViews → ℕ → Tags → ServerAnswer
 ends_well entered vars views id tags =
-    answer (sends (entered ++ state.Success ∷ []) (success_packet id) tags) (record { vars = record vars { state = state.Success }; views = views })
+    answer (sends (entered ++ state.Success ∷ []) (success_packet id) tags)
+    (record { vars = record vars { state = state.Success }; views = views })
 
 abbrev pub ends_badly : List State → ServerVariables → ServerViews → ℕ → Tags → ServerAnswer
 ends_badly entered vars views id tags =
-    answer (sends (entered ++ state.Failure ∷ []) (failure_packet id) tags) (record { vars = record vars { state = state.Failure }; views = views })
+    answer (sends (entered ++ state.Failure ∷ []) (failure_packet id) tags)
+    (record { vars = record vars { state = state.Failure }; views = views })
 
 -- PROPOSE_METHOD, METHOD_REQUEST and SEND_REQUEST of a method; without an object of it, FAILURE
-abbrev pub offers : List State → ServerVariables → ServerViews → ℕ → ℕ → Option (List ℕ) → ServerAnswer
+abbrev pub offers : List State → ServerVariables → ServerViews → ℕ → ℕ → Option (List ℕ)
+    → ServerAnswer
 offers entered vars views id kind None = ends_badly entered vars views id no_tags
 offers entered vars views id kind (Some octets) =
     answer
-    (sends (entered ++ state.ProposeMethod ∷ state.MethodRequest ∷ state.SendRequest ∷ state.Idle ∷ []) octets no_tags)
+    (sends (entered ++ state.ProposeMethod ∷ state.MethodRequest ∷ state.SendRequest ∷ state.Idle
+    ∷ []) octets no_tags)
     (record {
-      vars = record (with_request vars octets) { current = Some kind; progress = progress.Proposed; proposed = vars.proposed ++ kind ∷ [] };
+      vars = record (with_request vars octets) {
+        current = Some kind;
+        progress = progress.Proposed;
+        proposed = vars.proposed ++ kind ∷ [];
+      };
       views = views;
     })
 
--- SELECT_ACTION if a method is to be proposed: the first of the order that isn't yet proposed and that the
--- Nak, if one has come, desires; if there is none, FAILURE
+-- SELECT_ACTION if a method is to be proposed: the first of the order that isn't yet proposed and
+-- that the Nak, if one has come, desires; if there is none, FAILURE
 abbrev pub proposes : List State → ServerVariables → ServerViews → ℕ → Option ℕ → ServerAnswer
 proposes entered vars views id None = ends_badly entered vars views id no_tags
 proposes entered vars views id (Some kind) =
     let offer = server_offer (side_of vars.setup) vars.setup.nonce kind (next_id vars) views in
     offers entered vars offer.after id kind offer.packet
 
-unfoldable pub select_action : List State → ServerVariables → ServerViews → ℕ → Option (List ℕ) → ServerAnswer
-select_action entered vars views id desired = proposes entered vars views id (next_kind vars.setup.methods vars.proposed desired)
+unfoldable pub select_action : List State → ServerVariables → ServerViews → ℕ → Option (List ℕ)
+    → ServerAnswer
+select_action entered vars views id desired =
+    proposes entered vars views id (next_kind vars.setup.methods vars.proposed desired)
 
 -- the states up to SELECT_ACTION
 abbrev pub before_proposal : ProposalPath → List State
 before_proposal way.AfterNak = state.Received ∷ state.Nak ∷ state.SelectAction ∷ []
-before_proposal way.AfterResponse = state.Received ∷ state.IntegrityCheck ∷ state.MethodResponse ∷ state.SelectAction ∷ []
-before_proposal way.FirstIdentity = state.PickUpMethod ∷ state.MethodResponse ∷ state.SelectAction ∷ []
+before_proposal way.AfterResponse =
+    state.Received ∷ state.IntegrityCheck ∷ state.MethodResponse ∷ state.SelectAction ∷ []
+before_proposal way.FirstIdentity =
+    state.PickUpMethod ∷ state.MethodResponse ∷ state.SelectAction ∷ []
 before_proposal way.FirstNak = state.Nak ∷ state.SelectAction ∷ []
 before_proposal way.FirstOther = state.PickUpMethod ∷ state.SelectAction ∷ []
 
@@ -172,11 +202,16 @@ receives_identity now id =
 -- INTEGRITY_CHECK of the current method's turn
 abbrev pub method_answers : ServerNow → ℕ → ServerViews → ServerTurn → ServerAnswer
 method_answers now id views (turn.Discard c) =
-    answer (discards (state.Received ∷ state.IntegrityCheck ∷ state.Discard ∷ state.Idle ∷ []) c) now
+    answer (discards (state.Received ∷ state.IntegrityCheck ∷ state.Discard ∷ state.Idle ∷ []) c)
+    now
 method_answers now id views (turn.Request octets tags) =
     answer
-    (sends (state.Received ∷ state.IntegrityCheck ∷ state.MethodResponse ∷ state.MethodRequest ∷ state.SendRequest ∷ state.Idle ∷ []) octets tags)
-    (record { vars = record (with_request now.vars octets) { progress = progress.Continue }; views = views })
+    (sends (state.Received ∷ state.IntegrityCheck ∷ state.MethodResponse ∷ state.MethodRequest
+    ∷ state.SendRequest ∷ state.Idle ∷ []) octets tags)
+    (record {
+      vars = record (with_request now.vars octets) { progress = progress.Continue };
+      views = views;
+    })
 method_answers now id views (turn.Done good tags) =
     let entered = before_proposal way.AfterResponse in
     let vars = record now.vars { progress = progress.End } in
@@ -208,14 +243,16 @@ current_response now id kind body =
     if (kind == nak_kind) && is_proposed now.vars.progress
     then select_action (before_proposal way.AfterNak) now.vars now.views id (Some body)
     else if is_awaited now.vars.current kind
-    then (if kind == identity_kind then receives_identity now id else server_method now id kind (spelled (response id kind body)))
+    then (if kind == identity_kind then receives_identity now id
+    else server_method now id kind (spelled (response id kind body)))
     else server_discard now cause.WrongMethod
 
 abbrev pub server_row : ServerNow → Result PacketValue Cause → ServerAnswer
 server_row now (Err c) = server_discard now c
 server_row now (Ok (request id kind body)) = server_discard now cause.WrongRole
 server_row now (Ok (response id kind body)) =
-    if is_awaited now.vars.current_id id then current_response now id kind body else server_discard now cause.IdMismatch
+    if is_awaited now.vars.current_id id then current_response now id kind body
+    else server_discard now cause.IdMismatch
 server_row now (Ok (success id)) = server_discard now cause.WrongRole
 server_row now (Ok (failure id)) = server_discard now cause.WrongRole
 
@@ -225,14 +262,16 @@ server_row now (Ok (failure id)) = server_discard now cause.WrongRole
 abbrev pub picked_up : ServerVariables → ℕ → ServerVariables
 picked_up vars id = record vars { state = state.Idle; current_id = Some id }
 
--- PICK_UP_METHOD or NAK: the Identity round is over before it, and the first method is proposed, or the first
--- that a Nak desires
+-- PICK_UP_METHOD or NAK: the Identity round is over before it, and the first method is proposed, or
+-- the first that a Nak desires
 abbrev pub first_response : ServerNow → ℕ → ℕ → List ℕ → ServerAnswer
 first_response now id kind body =
     if kind == nak_kind
-    then select_action (before_proposal way.FirstNak) (picked_up now.vars id) now.views id (Some body)
+    then select_action (before_proposal way.FirstNak) (picked_up now.vars id)
+    now.views id (Some body)
     else if kind == identity_kind
-    then select_action (before_proposal way.FirstIdentity) (record (picked_up now.vars id) { progress = progress.End }) now.views id None
+    then select_action (before_proposal way.FirstIdentity)
+    (record (picked_up now.vars id) { progress = progress.End }) now.views id None
     else select_action (before_proposal way.FirstOther) (picked_up now.vars id) now.views id None
 
 -- all else is discarded with an empty path
@@ -270,18 +309,22 @@ abbrev pub own_users : ServerSetup → List User → ServerSetup
 own_users setup users = record setup { users = users }
 
 abbrev pub with_users : {M : Type 0} → ServerValue M → List User → ServerValue M
-with_users value users = record value { vars = record value.vars { setup = own_users value.vars.setup users } }
+with_users value
+    users = record value { vars = record value.vars { setup = own_users value.vars.setup users } }
 
 -- every variable and the view of each method as INITIALIZE sets it, with this nonce
 abbrev pub made_again : ServerNow → List ℕ → ServerNow
-made_again now nonce = initial_server now.vars.role (setup_with_nonce now.vars.setup nonce) now.views now.vars.first_id now.vars.max_retrans
+made_again now nonce = initial_server now.vars.role (setup_with_nonce now.vars.setup nonce)
+    now.views now.vars.first_id now.vars.max_retrans
 
 -- a new conversation: a stand-alone server starts, and a backend waits for its first Response
 unfoldable pub server_restart : ServerNow → List ℕ → ServerAnswer
 server_restart now nonce =
-    if is_backend now.vars then answer (enters (state.Initialize ∷ []) no_tags) (made_again now nonce) else server_start (made_again now nonce)
+    if is_backend now.vars then answer (enters (state.Initialize ∷ []) no_tags)
+    (made_again now nonce) else server_start (made_again now nonce)
 
--- whether the retransmission timer may end: at a stand-alone server that has started and has not ended
+-- whether the retransmission timer may end: at a stand-alone server that has started and has not
+-- ended
 abbrev pub has_timer : ServerVariables → Bool
 has_timer vars = not (is_backend vars) && (is_started vars && not (is_end vars.state))
 
@@ -300,7 +343,10 @@ server_timeout now =
     then answer (sends (state.Retransmit ∷ state.Idle ∷ []) now.vars.last_request no_tags)
     (record { vars = record now.vars { retrans_count = count }; views = now.views })
     else answer (enters (state.Retransmit ∷ state.TimeoutFailure ∷ []) no_tags)
-    (record { vars = record now.vars { retrans_count = count; state = state.TimeoutFailure }; views = now.views })
+    (record {
+      vars = record now.vars { retrans_count = count; state = state.TimeoutFailure };
+      views = now.views;
+    })
 
 -- the report of the current method
 abbrev pub current_report : ServerViews → Option ℕ → Option Report

@@ -20,7 +20,10 @@ ghost use Rattle.eap_method.specs.Server.{server_kinds, server_views};
 ghost use Rattle.eap_method.specs.Steps.{is_end, step_with};
 ghost use Rattle.eap_method.specs.Tags.{no_tags};
 ghost use Rattle.eap_method.specs.Unnamed.{PreservesServers};
-ghost use Rattle.server_machine.specs.ServerTable.{Preserves, answer, initial_backend, current_view, made_again, now_of, setup_with_nonce, server_reports, server_restart, initial_vars_of, with_users};
+ghost use Rattle.server_machine.specs.ServerTable.{Preserves, answer, initial_backend};
+ghost use Rattle.server_machine.specs.ServerTable.{current_view, made_again, now_of};
+ghost use Rattle.server_machine.specs.ServerTable.{setup_with_nonce, server_reports};
+ghost use Rattle.server_machine.specs.ServerTable.{server_restart, initial_vars_of, with_users};
 ghost use Rattle.server_machine.specs.Expanded.{server_receives};
 ghost use Rattle.server_machine.specs.declared.variables.Role.TheVariants as role;
 
@@ -60,7 +63,8 @@ impl<M: ServerMethod, const N: usize> SizedBackend<M, N> {
     /// Whether [`new`](Backend::new) takes these settings with these objects.
     pub fn takes(setup: &ServerSetup<UserList<N>>, methods: &[M]) -> bool
         ensures { IsTrue result ↔ (IsSoundServer setup.now
-            × (have_each (server_kinds (map M.server_shown methods.now)) setup.now.methods ≡ true)) }
+            × (have_each (server_kinds (map M.server_shown methods.now)) setup.now.methods
+            ≡ true)) }
     {
         SizedServer::takes(setup, 0, methods)
     }
@@ -69,9 +73,12 @@ impl<M: ServerMethod, const N: usize> SizedBackend<M, N> {
     /// proposes. Each of these methods has an object.
     pub fn new(setup: ServerSetup<UserList<N>>, methods: Vec<M>) -> SizedBackend<M, N>
         requires sound { IsSoundServer setup }
-        requires objects { have_each (server_kinds (map M.server_shown methods.items)) setup.methods ≡ true }
-        ensures initial { now_of M.server_shown result ≡ initial_backend setup.entry (server_views setup.entry.methods (map M.server_shown methods.items)) }
-        ensures preserves { PreservesServers setup.entry.methods (map M.server_shown methods.items) (map M.server_shown result.methods) }
+        requires objects { have_each (server_kinds (map M.server_shown methods.items)) setup.methods
+            ≡ true }
+        ensures initial { now_of M.server_shown result ≡ initial_backend setup.entry (server_views
+            setup.entry.methods (map M.server_shown methods.items)) }
+        ensures preserves { PreservesServers setup.entry.methods (map M.server_shown methods.items)
+            (map M.server_shown result.methods) }
     {
         SizedBackend {
             machine: SizedServer::in_role(Role::Backend, setup, 0, 0, methods),
@@ -118,7 +125,8 @@ impl<M: ServerMethod, const N: usize> SizedBackend<M, N> {
     /// first Response and sends nothing (RFC 4137 section 6.5). Each of its methods has an object.
     #[tactic(auto, unfolding(crate::specs::ServerTable::server_restart))]
     pub fn restart_step(&mut self, nonce: &Nonce) -> Step
-        requires objects { have_each (server_kinds (map M.server_shown self.old.methods)) self.old.vars.setup.methods ≡ true }
+        requires objects { have_each (server_kinds
+            (map M.server_shown self.old.methods)) self.old.vars.setup.methods ≡ true }
         ensures step { server_restart (now_of M.server_shown self.old) nonce.now
             ≡ answer (step_with result [] no_tags) (now_of M.server_shown self.new) }
         ensures preserves { PreservesServers self.old.vars.setup.methods
@@ -131,8 +139,10 @@ impl<M: ServerMethod, const N: usize> SizedBackend<M, N> {
 
     /// Sets the variables and begins the objects as INITIALIZE does, as [`ServerMachine::make_again`].
     pub fn make_again(&mut self, nonce: &Nonce)
-        requires objects { have_each (server_kinds (map M.server_shown self.old.methods)) self.old.vars.setup.methods ≡ true }
-        ensures restarted { made_again (now_of M.server_shown self.old) nonce.now ≡ now_of M.server_shown self.new }
+        requires objects { have_each (server_kinds
+            (map M.server_shown self.old.methods)) self.old.vars.setup.methods ≡ true }
+        ensures restarted { made_again (now_of M.server_shown self.old) nonce.now
+            ≡ now_of M.server_shown self.new }
         ensures preserves { PreservesServers self.old.vars.setup.methods
             (map M.server_shown self.old.methods) (map M.server_shown self.new.methods) }
         ensures setup { self.new.vars.setup ≡ setup_with_nonce self.old.vars.setup nonce.now }
@@ -171,7 +181,8 @@ impl<M: ServerMethod, const N: usize> SizedBackend<M, N> {
 
     /// The object of the current method, which shows its view; None before the first, and if there is no object of it.
     pub fn current(&self) -> Option<&M>
-        ensures { option_map (λ o. M.server_shown o.now) result ≡ current_view (now_of M.server_shown self.now) }
+        ensures { option_map (λ o. M.server_shown o.now) result
+            ≡ current_view (now_of M.server_shown self.now) }
     {
         self.machine.current()
     }
@@ -198,7 +209,8 @@ impl<M: ServerMethod, const N: usize> SizedBackend<M, N> {
 
     /// Whether each method that the settings name has an object: the condition of [`restart`](Backend::restart).
     pub fn has_objects(&self) -> bool
-        ensures { result ≡ have_each (server_kinds (map M.server_shown self.now.methods)) self.now.vars.setup.methods }
+        ensures { result ≡ have_each (server_kinds
+            (map M.server_shown self.now.methods)) self.now.vars.setup.methods }
     {
         self.machine.has_objects()
     }

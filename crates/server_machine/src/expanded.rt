@@ -1,6 +1,7 @@
 //! How a server that reads Expanded Types (RFC 3748 section 5.7) handles a Response and sends a Request.
 
-ghost use Rattle.std.specs.Prelude.{◌≡◌, ◌≤◌, ℕ, List, ◌==◌, false, if◌then◌else◌, length, slice_index};
+ghost use Rattle.std.specs.Prelude.{◌≡◌, ◌≤◌, ℕ, List, ◌==◌, false, if◌then◌else◌, length};
+ghost use Rattle.std.specs.Prelude.{slice_index};
 ghost use Rattle.octet_lists.specs.Among.{nak_kind};
 ghost use Rattle.eap_packet.specs.Packet.{response, spelled, max_type_data};
 ghost use Rattle.eap_packet.specs.Expanded.{is_nak_body};
@@ -36,7 +37,8 @@ pub fn write_if_accepted<const N: usize>(
 ) -> bool
     requires response { view.now.code ≡ Code.Response }
     requires bounded { length view.now.body.now ≤ max_type_data }
-    ensures { (octets : List ℕ) → response_octets vars.now octets view.now.id view.now.kind view.now.body.now
+    ensures { (octets : List ℕ)
+        → response_octets vars.now octets view.now.id view.now.kind view.now.body.now
         ≡ (if result then packet.new else octets) }
 {
     if view.kind == EXPANDED && is_nak_body(view.body) && accepts_nak(vars) {
@@ -93,8 +95,10 @@ pub fn wrap_sent<const N: usize>(
     packet: &mut Packet,
 )
     requires capacity { MayWrap sends packet.old }
-    ensures step { (step : brief.Step) (tags : records.Tags) (views : ServerViews) → step.sends ≡ sends
-        → wraps (answer (step_with step packet.old tags) (record { vars = vars.old; views = views }))
+    ensures step { (step : brief.Step) (tags : records.Tags) (views : ServerViews)
+        → step.sends ≡ sends
+        → wraps (answer (step_with step packet.old tags)
+        (record { vars = vars.old; views = views }))
         ≡ answer (step_with step packet.new tags) (record { vars = vars.new; views = views }) }
     ensures setup { vars.new.setup ≡ vars.old.setup }
     ensures order { AreInOrder vars.old → AreInOrder vars.new }

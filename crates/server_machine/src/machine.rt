@@ -18,7 +18,9 @@
 //! If no row applies, a delivery is discarded with its cause by RECEIVED, DISCARD and IDLE; after the end as Ended with
 //! an empty path.
 
-ghost use Rattle.std.specs.Prelude.{◌≡◌, ◌≤◌, ◌↔◌, [], ◌∷◌, ◌++◌, true, false, map, length, Some, None, Ok, option_copied, option_map, All, IsTrue, if◌then◌else◌};
+ghost use Rattle.std.specs.Prelude.{◌≡◌, ◌≤◌, ◌↔◌, [], ◌∷◌, ◌++◌, true, false, map, length, Some};
+ghost use Rattle.std.specs.Prelude.{None, Ok, option_copied, option_map, All, IsTrue};
+ghost use Rattle.std.specs.Prelude.{if◌then◌else◌};
 ghost use Rattle.octet_lists.specs.Among.{is_among, is_kind};
 ghost use Rattle.login_setup.specs.Setup.{IsSoundServer, are_suites, is_valid_for};
 ghost use Rattle.login_setup.specs.Users as users;
@@ -27,14 +29,16 @@ ghost use Rattle.eap_packet.specs.Packet as packets;
 ghost use Rattle.eap_packet.specs.Fault.{packet_of};
 ghost use Rattle.eap_packet.specs.declared.state.State.TheVariants.{Received, Discard, Idle};
 ghost use Rattle.eap_method.specs.Peer.{have_each};
-ghost use Rattle.eap_method.specs.Server.{IsResponse, server_views, server_kinds, server_offer, server_turn, side_of};
+ghost use Rattle.eap_method.specs.Server.{IsResponse, server_views, server_kinds, server_offer};
+ghost use Rattle.eap_method.specs.Server.{server_turn, side_of};
 ghost use Rattle.eap_method.specs.ServerTurn.{server_turn_with, server_tags};
 ghost use Rattle.eap_method.specs.Capacity.{HasCapacity, requests};
 ghost use Rattle.eap_method.specs.Steps.{step_with};
 ghost use Rattle.eap_method.specs.Tags.{no_tags};
 ghost use Rattle.eap_method.specs.Unnamed.{PreservesServers};
 ghost use Rattle.server_machine.specs.Expanded.{MayWrap, reads_response};
-ghost use Rattle.server_machine.specs.ServerTable.{Preserves, answer, before_proposal, identity_request, next_id, AreInOrder};
+ghost use Rattle.server_machine.specs.ServerTable.{Preserves, answer, before_proposal};
+ghost use Rattle.server_machine.specs.ServerTable.{identity_request, next_id, AreInOrder};
 
 use crate::expanded::{awaits_first, wrap_sent, write_if_accepted};
 use crate::outcome::{end_badly, next_id, settle, settle_offer};
@@ -77,15 +81,23 @@ impl<M, const N: usize> Model for SizedServer<M, N> {
 
 impl<M: ServerMethod, const N: usize> SizedServer<M, N> {
     ghost use Rattle.eap_method.specs.Steps.{is_end};
-    ghost use Rattle.server_machine.specs.ServerTable.{now_of, made_again, setup_with_nonce, initial_vars_of, initial_server, server_restart, server_start, server_deliver, server_timeout, server_reports, is_started, server_row, select_action, server_method, current_response};
-    ghost use Rattle.server_machine.specs.ServerTable.{current_view, first_response, has_timer, is_backend, is_ready, pick_up, with_users};
+    ghost use Rattle.server_machine.specs.ServerTable.{now_of, made_again, setup_with_nonce};
+    ghost use Rattle.server_machine.specs.ServerTable.{initial_vars_of, initial_server};
+    ghost use Rattle.server_machine.specs.ServerTable.{server_restart, server_start};
+    ghost use Rattle.server_machine.specs.ServerTable.{server_deliver, server_timeout};
+    ghost use Rattle.server_machine.specs.ServerTable.{server_reports, is_started, server_row};
+    ghost use Rattle.server_machine.specs.ServerTable.{select_action, server_method};
+    ghost use Rattle.server_machine.specs.ServerTable.{current_response};
+    ghost use Rattle.server_machine.specs.ServerTable.{current_view, first_response, has_timer};
+    ghost use Rattle.server_machine.specs.ServerTable.{is_backend, is_ready, pick_up, with_users};
     ghost use Rattle.server_machine.specs.Expanded.{server_receives, server_reads};
     ghost use Rattle.server_machine.specs.declared.variables.Role.TheVariants.{StandAlone};
 
     /// Whether [`new`](ServerMachine::new) takes these settings with these objects.
     pub fn takes(setup: &ServerSetup<UserList<N>>, max_retrans: u8, methods: &[M]) -> bool
         ensures { IsTrue result ↔ (IsSoundServer setup.now × (max_retrans ≤ 10)
-            × (have_each (server_kinds (map M.server_shown methods.now)) setup.now.methods ≡ true)) }
+            × (have_each (server_kinds (map M.server_shown methods.now)) setup.now.methods
+            ≡ true)) }
     {
         is_sound_server(setup)
             && max_retrans <= 10
@@ -102,10 +114,13 @@ impl<M: ServerMethod, const N: usize> SizedServer<M, N> {
     ) -> SizedServer<M, N>
         requires sound { IsSoundServer setup }
         requires few { max_retrans ≤ 10 }
-        requires objects { have_each (server_kinds (map M.server_shown methods.items)) setup.methods ≡ true }
+        requires objects { have_each (server_kinds (map M.server_shown methods.items)) setup.methods
+            ≡ true }
         ensures initial { now_of M.server_shown result
-            ≡ initial_server StandAlone setup.entry (server_views setup.entry.methods (map M.server_shown methods.items)) first_id max_retrans }
-        ensures preserves { PreservesServers setup.entry.methods (map M.server_shown methods.items) (map M.server_shown result.methods) }
+            ≡ initial_server StandAlone setup.entry (server_views setup.entry.methods
+            (map M.server_shown methods.items)) first_id max_retrans }
+        ensures preserves { PreservesServers setup.entry.methods (map M.server_shown methods.items)
+            (map M.server_shown result.methods) }
     {
         SizedServer::in_role(Role::StandAlone, setup, first_id, max_retrans, methods)
     }
@@ -121,10 +136,13 @@ impl<M: ServerMethod, const N: usize> SizedServer<M, N> {
     ) -> SizedServer<M, N>
         requires sound { IsSoundServer setup }
         requires few { max_retrans ≤ 10 }
-        requires objects { have_each (server_kinds (map M.server_shown methods.items)) setup.methods ≡ true }
+        requires objects { have_each (server_kinds (map M.server_shown methods.items)) setup.methods
+            ≡ true }
         ensures initial { now_of M.server_shown result
-            ≡ initial_server role setup.entry (server_views setup.entry.methods (map M.server_shown methods.items)) first_id max_retrans }
-        ensures preserves { PreservesServers setup.entry.methods (map M.server_shown methods.items) (map M.server_shown result.methods) }
+            ≡ initial_server role setup.entry (server_views setup.entry.methods
+            (map M.server_shown methods.items)) first_id max_retrans }
+        ensures preserves { PreservesServers setup.entry.methods (map M.server_shown methods.items)
+            (map M.server_shown result.methods) }
     {
         let mut methods = methods;
         start_servers(methods.as_mut_slice(), &setup);
@@ -170,7 +188,8 @@ impl<M: ServerMethod, const N: usize> SizedServer<M, N> {
     pub fn start_step(&mut self, packet: &mut Packet) -> Step
         requires unstarted { is_started self.old.vars ≡ false }
         requires stand_alone { is_backend self.old.vars ≡ false }
-        ensures step { server_start (now_of M.server_shown self.old) ≡ answer (step_with result packet.new no_tags) (now_of M.server_shown self.new) }
+        ensures step { server_start (now_of M.server_shown self.old)
+            ≡ answer (step_with result packet.new no_tags) (now_of M.server_shown self.new) }
         ensures preserves { Preserves M.server_shown self.old self.new }
     {
         write_identity(packet, self.vars.first_id);
@@ -198,7 +217,8 @@ impl<M: ServerMethod, const N: usize> SizedServer<M, N> {
     /// backend waits for its first Response and sends nothing (section 6.5). Each of its methods has an object.
     #[tactic(auto, unfolding(crate::specs::ServerTable::server_restart))]
     pub fn restart_step(&mut self, nonce: &Nonce, packet: &mut Packet) -> Step
-        requires objects { have_each (server_kinds (map M.server_shown self.old.methods)) self.old.vars.setup.methods ≡ true }
+        requires objects { have_each (server_kinds
+            (map M.server_shown self.old.methods)) self.old.vars.setup.methods ≡ true }
         ensures step { server_restart (now_of M.server_shown self.old) nonce.now
             ≡ answer (step_with result packet.new no_tags) (now_of M.server_shown self.new) }
         ensures preserves { PreservesServers self.old.vars.setup.methods
@@ -215,8 +235,10 @@ impl<M: ServerMethod, const N: usize> SizedServer<M, N> {
     /// Sets the variables and begins the objects as INITIALIZE does, with this nonce. Each of the methods has an object.
     #[tactic(auto, using(crate::proofs::Restarting::still_sound))]
     pub fn make_again(&mut self, nonce: &Nonce)
-        requires objects { have_each (server_kinds (map M.server_shown self.old.methods)) self.old.vars.setup.methods ≡ true }
-        ensures restarted { made_again (now_of M.server_shown self.old) nonce.now ≡ now_of M.server_shown self.new }
+        requires objects { have_each (server_kinds
+            (map M.server_shown self.old.methods)) self.old.vars.setup.methods ≡ true }
+        ensures restarted { made_again (now_of M.server_shown self.old) nonce.now
+            ≡ now_of M.server_shown self.new }
         ensures preserves { PreservesServers self.old.vars.setup.methods
             (map M.server_shown self.old.methods) (map M.server_shown self.new.methods) }
         ensures setup { self.new.vars.setup ≡ setup_with_nonce self.old.vars.setup nonce.now }
@@ -271,7 +293,8 @@ impl<M: ServerMethod, const N: usize> SizedServer<M, N> {
     #[inline(never)]
     fn read<R: Turns>(&mut self, octets: &[u8], packet: &mut Packet, tags: &mut Tags<R>) -> Step
         requires ready { is_ready self.old.vars ≡ true }
-        ensures step { server_reads (now_of M.server_shown self.old) octets.now (packet_of octets.now)
+        ensures step { server_reads (now_of M.server_shown self.old) octets.now
+            (packet_of octets.now)
             ≡ answer (step_with result packet.new tags.new) (now_of M.server_shown self.new) }
         ensures preserves { Preserves M.server_shown self.old self.new }
     {
@@ -297,7 +320,8 @@ impl<M: ServerMethod, const N: usize> SizedServer<M, N> {
         requires ready { is_ready self.old.vars ≡ true }
         requires response { view.now.code ≡ Code.Response }
         requires bounded { length view.now.body.now ≤ max_type_data }
-        ensures step { reads_response (now_of M.server_shown self.old) octets.now view.now.id view.now.kind view.now.body.now
+        ensures step { reads_response (now_of M.server_shown self.old)
+            octets.now view.now.id view.now.kind view.now.body.now
             ≡ answer (step_with result packet.new tags.new) (now_of M.server_shown self.new) }
         ensures preserves { Preserves M.server_shown self.old self.new }
     {
@@ -443,7 +467,8 @@ impl<M: ServerMethod, const N: usize> SizedServer<M, N> {
     /// there is no object of it.
     #[tactic(auto, using(crate::proofs::Current::found_is_view))]
     pub fn current(&self) -> Option<&M>
-        ensures { option_map (λ o. M.server_shown o.now) result ≡ current_view (now_of M.server_shown self.now) }
+        ensures { option_map (λ o. M.server_shown o.now) result
+            ≡ current_view (now_of M.server_shown self.now) }
     {
         match self.vars.current {
             None => None,
@@ -476,7 +501,8 @@ impl<M: ServerMethod, const N: usize> SizedServer<M, N> {
 
     /// Whether each method that the settings name has an object: the condition of [`restart`](ServerMachine::restart).
     pub fn has_objects(&self) -> bool
-        ensures { result ≡ have_each (server_kinds (map M.server_shown self.now.methods)) self.now.vars.setup.methods }
+        ensures { result ≡ have_each (server_kinds
+            (map M.server_shown self.now.methods)) self.now.vars.setup.methods }
     {
         has_servers(self.methods.as_slice(), self.vars.setup.methods.as_slice())
     }
@@ -562,9 +588,11 @@ impl<M: ServerMethod, const N: usize> SizedServer<M, N> {
         tags: &mut Tags<R>,
     ) -> Step
         requires response { IsResponse view.now.kind view.now.whole.now }
-        requires whole { view.now.whole.now ≡ spelled (packets.response view.now.id view.now.kind view.now.body.now) }
+        requires whole { view.now.whole.now
+            ≡ spelled (packets.response view.now.id view.now.kind view.now.body.now) }
         requires tags { tags.old ≡ no_tags }
-        ensures step { current_response (now_of M.server_shown self.old) view.now.id view.now.kind view.now.body.now
+        ensures step { current_response (now_of M.server_shown self.old)
+            view.now.id view.now.kind view.now.body.now
             ≡ answer (step_with result packet.new tags.new) (now_of M.server_shown self.new) }
         ensures capacity { MayWrap result.sends packet.new }
         ensures preserves { Preserves M.server_shown self.old self.new }
@@ -591,7 +619,8 @@ impl<M: ServerMethod, const N: usize> SizedServer<M, N> {
         desired: Option<&[u8]>,
         packet: &mut Packet,
     ) -> Step
-        ensures step { let now = now_of M.server_shown self.old in select_action (before_proposal way) now.vars now.views id (option_copied desired.entry)
+        ensures step { let now = now_of M.server_shown self.old in
+            select_action (before_proposal way) now.vars now.views id (option_copied desired.entry)
             ≡ answer (step_with result packet.new no_tags) (now_of M.server_shown self.new) }
         ensures capacity { MayWrap result.sends packet.new }
         ensures preserves { Preserves M.server_shown self.old self.new }
@@ -629,7 +658,8 @@ impl<M: ServerMethod, const N: usize> SizedServer<M, N> {
 
 /// DISCARD: nothing changes.
 fn discard(cause: Cause) -> Step
-    ensures { result ≡ record { path = Received ∷ Discard ∷ Idle ∷ []; cause = Some cause; sends = false } }
+    ensures { result
+        ≡ record { path = Received ∷ Discard ∷ Idle ∷ []; cause = Some cause; sends = false } }
 {
     Step::discarding(&[State::Received, State::Discard, State::Idle], cause)
 }
@@ -651,11 +681,16 @@ fn write_first<M: ServerMethod, const N: usize>(
 ) -> bool
     requires ordered { is_among vars.now.setup.methods kind ≡ true }
     requires suites { IsTrue (are_suites vars.now.setup.suites) }
-    ensures offer { server_offer (side_of vars.now.setup) vars.now.setup.nonce kind (next_id vars.now)
+    ensures offer { server_offer (side_of vars.now.setup) vars.now.setup.nonce kind
+        (next_id vars.now)
         (server_views vars.now.setup.methods (map M.server_shown methods.old.items))
-        ≡ record { packet = if result then Some packet.new else None; after = server_views vars.now.setup.methods (map M.server_shown methods.new.items) } }
+        ≡ record {
+          packet = if result then Some packet.new else None;
+          after = server_views vars.now.setup.methods (map M.server_shown methods.new.items);
+        } }
     ensures capacity { result ≡ true → HasCapacity packet.new }
-    ensures preserves { PreservesServers vars.now.setup.methods (map M.server_shown methods.old.items) (map M.server_shown methods.new.items) }
+    ensures preserves { PreservesServers vars.now.setup.methods
+        (map M.server_shown methods.old.items) (map M.server_shown methods.new.items) }
 {
     offer_method(
         methods.as_mut_slice(),
@@ -681,10 +716,14 @@ fn turn_of<M: ServerMethod, R: Turns, const N: usize>(
     requires keys { All (λ user. IsTrue (is_valid_for user.kind user.psk)) vars.now.setup.users }
     ensures turn { server_turn vars.now.setup.users (next_id vars.now) kind
         (server_views vars.now.setup.methods (map M.server_shown methods.old.items)) response.now
-        ≡ record { turn = server_turn_with result packet.new tags.new; after = server_views vars.now.setup.methods (map M.server_shown methods.new.items) } }
+        ≡ record {
+          turn = server_turn_with result packet.new tags.new;
+          after = server_views vars.now.setup.methods (map M.server_shown methods.new.items);
+        } }
     ensures tags { tags.new ≡ server_tags (server_turn_with result packet.new tags.new) }
     ensures capacity { requests result ≡ true → HasCapacity packet.new }
-    ensures preserves { PreservesServers vars.now.setup.methods (map M.server_shown methods.old.items) (map M.server_shown methods.new.items) }
+    ensures preserves { PreservesServers vars.now.setup.methods
+        (map M.server_shown methods.old.items) (map M.server_shown methods.new.items) }
 {
     call_server_method(
         methods.as_mut_slice(),

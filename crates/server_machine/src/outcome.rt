@@ -1,17 +1,20 @@
 //! What follows a proposal, and a method's turn (RFC 4137 section 5.4): the variables, the packet and the step.
 
-ghost use Rattle.std.specs.Prelude.{◌≡◌, ◌≢◌, ◌≤◌, [], ◌∷◌, ◌++◌, length, false, true, not, Some, None, IsTrue, if◌then◌else◌};
+ghost use Rattle.std.specs.Prelude.{◌≡◌, ◌≢◌, ◌≤◌, [], ◌∷◌, ◌++◌, length, false, true, not, Some};
+ghost use Rattle.std.specs.Prelude.{None, IsTrue, if◌then◌else◌};
 ghost use Rattle.octet_lists.specs.Among.{is_among};
 ghost use Rattle.eap_packet.specs.Fault.{code_of};
 ghost use Rattle.eap_packet.specs.Packet.{spelled, value_with, has_type};
-ghost use Rattle.eap_packet.specs.declared.state.State.TheVariants.{ProposeMethod, MethodRequest, SendRequest, Idle};
+ghost use Rattle.eap_packet.specs.declared.state.State.TheVariants.{ProposeMethod, MethodRequest};
+ghost use Rattle.eap_packet.specs.declared.state.State.TheVariants.{SendRequest, Idle};
 ghost use Rattle.eap_method.specs.Capacity.{HasCapacity, requests};
 ghost use Rattle.eap_method.specs.Server.{ServerViews};
 ghost use Rattle.eap_method.specs.ServerTurn.{server_turn_with, server_tags};
 ghost use Rattle.eap_method.specs.Steps.{step_with};
 ghost use Rattle.eap_method.specs.Tags.{Tags, no_tags};
 ghost use Rattle.server_machine.specs.Expanded.{MayWrap};
-ghost use Rattle.server_machine.specs.ServerTable.{answer, before_proposal, next_id, with_request, ends_well, ends_badly, offers, method_answers};
+ghost use Rattle.server_machine.specs.ServerTable.{answer, before_proposal, next_id, with_request};
+ghost use Rattle.server_machine.specs.ServerTable.{ends_well, ends_badly, offers, method_answers};
 ghost use Rattle.server_machine.specs.ServerTable.{views_after, AreInOrder};
 ghost use Rattle.server_machine.specs.declared.variables.ProposalPath.TheVariants.{AfterResponse};
 
@@ -46,7 +49,8 @@ fn states_before(way: ProposalPath) -> &'static [State]
 
 /// The step of SUCCESS or of FAILURE in place of a proposal.
 fn ending(way: ProposalPath, state: State) -> Step
-    ensures { result ≡ record { path = before_proposal way ++ state ∷ []; cause = None; sends = true } }
+    ensures { result
+        ≡ record { path = before_proposal way ++ state ∷ []; cause = None; sends = true } }
 {
     Step::sending(&[state]).after(states_before(way))
 }
@@ -78,7 +82,8 @@ pub fn end_badly<const N: usize>(
     id: u8,
     packet: &mut Packet,
 ) -> Step
-    ensures step { (views : ServerViews) → ends_badly (before_proposal way) vars.old views id no_tags
+    ensures step { (views : ServerViews)
+        → ends_badly (before_proposal way) vars.old views id no_tags
         ≡ answer (step_with result packet.new no_tags) (record { vars = vars.new; views = views }) }
     ensures capacity { MayWrap result.sends packet.new }
     ensures setup { vars.new.setup ≡ vars.old.setup }
@@ -104,7 +109,8 @@ pub fn settle_offer<const N: usize>(
     requires unproposed { is_among vars.old.proposed kind ≡ false }
     requires in_order { AreInOrder vars.old }
     requires capacity { has_first ≡ true → HasCapacity packet.old }
-    ensures step { (views : ServerViews) → offers (before_proposal way) vars.old views id kind (if has_first then Some packet.old else None)
+    ensures step { (views : ServerViews) → offers (before_proposal way) vars.old views id kind (if
+        has_first then Some packet.old else None)
         ≡ answer (step_with result packet.new no_tags) (record { vars = vars.new; views = views }) }
     ensures capacity { MayWrap result.sends packet.new }
     ensures setup { vars.new.setup ≡ vars.old.setup }
@@ -123,7 +129,11 @@ pub fn settle_offer<const N: usize>(
 
 /// The step of a proposal.
 fn proposing(way: ProposalPath) -> Step
-    ensures { result ≡ record { path = before_proposal way ++ ProposeMethod ∷ MethodRequest ∷ SendRequest ∷ Idle ∷ []; cause = None; sends = true } }
+    ensures { result ≡ record {
+      path = before_proposal way ++ ProposeMethod ∷ MethodRequest ∷ SendRequest ∷ Idle ∷ [];
+      cause = None;
+      sends = true;
+    } }
 {
     let states = [
         State::ProposeMethod,
@@ -152,9 +162,11 @@ pub fn settle<const N: usize>(
     packet: &mut Packet,
 ) -> Step
     requires capacity { requests turn ≡ true → HasCapacity packet.old }
-    ensures step { (before after : ServerViews) (tags : Tags) → let whole = server_turn_with turn packet.old tags in
+    ensures step { (before after : ServerViews) (tags : Tags)
+        → let whole = server_turn_with turn packet.old tags in
         method_answers (record { vars = vars.old; views = before }) id after whole
-        ≡ answer (step_with result packet.new (server_tags whole)) (record { vars = vars.new; views = views_after before after whole }) }
+        ≡ answer (step_with result packet.new (server_tags whole))
+        (record { vars = vars.new; views = views_after before after whole }) }
     ensures capacity { MayWrap result.sends packet.new }
     ensures setup { vars.new.setup ≡ vars.old.setup }
     ensures order { AreInOrder vars.old → AreInOrder vars.new }

@@ -5,7 +5,10 @@ ghost use Rattle.eap_method.specs.Peer.{have_each};
 ghost use Rattle.eap_method.specs.Server.{server_kinds};
 ghost use Rattle.eap_method.specs.Unnamed.{PreservesServers};
 ghost use Rattle.server_machine.specs.Expanded.{server_receives};
-ghost use Rattle.server_machine.specs.ServerTable.{Preserves, answer, now_of, has_timer, is_backend, is_ready, is_started, server_restart, server_start, server_timeout, setup_with_nonce};
+ghost use Rattle.server_machine.specs.ServerTable.{Preserves, answer, now_of, has_timer};
+ghost use Rattle.server_machine.specs.ServerTable.{is_backend, is_ready, is_started};
+ghost use Rattle.server_machine.specs.ServerTable.{server_restart, server_start, server_timeout};
+ghost use Rattle.server_machine.specs.ServerTable.{setup_with_nonce};
 
 use crate::ServerStep;
 use crate::backend::SizedBackend;
@@ -18,7 +21,8 @@ impl<M: ServerMethod, const N: usize> SizedServer<M, N> {
     pub fn start(&mut self) -> ServerStep
         requires unstarted { is_started self.old.vars ≡ false }
         requires stand_alone { is_backend self.old.vars ≡ false }
-        ensures step { server_start (now_of M.server_shown self.old) ≡ answer result (now_of M.server_shown self.new) }
+        ensures step { server_start (now_of M.server_shown self.old)
+            ≡ answer result (now_of M.server_shown self.new) }
         ensures preserves { Preserves M.server_shown self.old self.new }
     {
         let mut packet = Packet::new();
@@ -27,8 +31,10 @@ impl<M: ServerMethod, const N: usize> SizedServer<M, N> {
 
     /// [`restart_step`](ServerMachine::restart_step), with the packet in its answer.
     pub fn restart(&mut self, nonce: &Nonce) -> ServerStep
-        requires objects { have_each (server_kinds (map M.server_shown self.old.methods)) self.old.vars.setup.methods ≡ true }
-        ensures step { server_restart (now_of M.server_shown self.old) nonce.now ≡ answer result (now_of M.server_shown self.new) }
+        requires objects { have_each (server_kinds
+            (map M.server_shown self.old.methods)) self.old.vars.setup.methods ≡ true }
+        ensures step { server_restart (now_of M.server_shown self.old) nonce.now
+            ≡ answer result (now_of M.server_shown self.new) }
         ensures preserves { PreservesServers self.old.vars.setup.methods
             (map M.server_shown self.old.methods) (map M.server_shown self.new.methods) }
         ensures setup { self.new.vars.setup ≡ setup_with_nonce self.old.vars.setup nonce.now }
@@ -41,7 +47,8 @@ impl<M: ServerMethod, const N: usize> SizedServer<M, N> {
     /// [`deliver_step`](ServerMachine::deliver_step), with the packet and the records in its answer.
     pub fn deliver(&mut self, octets: &[u8]) -> ServerStep
         requires ready { is_ready self.old.vars ≡ true }
-        ensures step { server_receives (now_of M.server_shown self.old) octets.now ≡ answer result (now_of M.server_shown self.new) }
+        ensures step { server_receives (now_of M.server_shown self.old) octets.now
+            ≡ answer result (now_of M.server_shown self.new) }
         ensures preserves { Preserves M.server_shown self.old self.new }
     {
         let mut packet = Packet::new();
@@ -53,7 +60,8 @@ impl<M: ServerMethod, const N: usize> SizedServer<M, N> {
     /// [`timeout_step`](ServerMachine::timeout_step), with the packet in its answer.
     pub fn timeout(&mut self) -> ServerStep
         requires { has_timer self.old.vars ≡ true }
-        ensures step { server_timeout (now_of M.server_shown self.old) ≡ answer result (now_of M.server_shown self.new) }
+        ensures step { server_timeout (now_of M.server_shown self.old)
+            ≡ answer result (now_of M.server_shown self.new) }
         ensures preserves { Preserves M.server_shown self.old self.new }
     {
         let mut packet = Packet::new();
@@ -64,7 +72,8 @@ impl<M: ServerMethod, const N: usize> SizedServer<M, N> {
 impl<M: ServerMethod, const N: usize> SizedBackend<M, N> {
     /// [`deliver_step`](Backend::deliver_step), with the packet and the records in its answer.
     pub fn deliver(&mut self, octets: &[u8]) -> ServerStep
-        ensures step { server_receives (now_of M.server_shown self.old) octets.now ≡ answer result (now_of M.server_shown self.new) }
+        ensures step { server_receives (now_of M.server_shown self.old) octets.now
+            ≡ answer result (now_of M.server_shown self.new) }
         ensures preserves { Preserves M.server_shown self.old self.new }
     {
         let mut packet = Packet::new();
@@ -75,8 +84,10 @@ impl<M: ServerMethod, const N: usize> SizedBackend<M, N> {
 
     /// [`restart_step`](Backend::restart_step), with all that it does in its answer.
     pub fn restart(&mut self, nonce: &Nonce) -> ServerStep
-        requires objects { have_each (server_kinds (map M.server_shown self.old.methods)) self.old.vars.setup.methods ≡ true }
-        ensures step { server_restart (now_of M.server_shown self.old) nonce.now ≡ answer result (now_of M.server_shown self.new) }
+        requires objects { have_each (server_kinds
+            (map M.server_shown self.old.methods)) self.old.vars.setup.methods ≡ true }
+        ensures step { server_restart (now_of M.server_shown self.old) nonce.now
+            ≡ answer result (now_of M.server_shown self.new) }
         ensures preserves { PreservesServers self.old.vars.setup.methods
             (map M.server_shown self.old.methods) (map M.server_shown self.new.methods) }
         ensures setup { self.new.vars.setup ≡ setup_with_nonce self.old.vars.setup nonce.now }

@@ -11,7 +11,8 @@ use Rattle.eap_world.specs.World.{WorldNow, run_after, world_start, world_step}
 use Rattle.eap_world.specs.declared.conversations.Waiting.{Waiting}
 use Rattle.world_laws.proofs.Conversing.{BothConverse, LeftSized, run_converses}
 use Rattle.smooth_laws.specs.Again.{IsLoggedInSince, SucceedsAgain}
-use Rattle.smooth_laws.specs.Restarts.{AreLoggedIn, HasRestarted, LoginsAfterRestartsSucceed, LoginsSucceed, are_new, first_login, next_login, with_nonces}
+use Rattle.smooth_laws.specs.Restarts.{AreLoggedIn, HasRestarted, LoginsAfterRestartsSucceed}
+use Rattle.smooth_laws.specs.Restarts.{LoginsSucceed, are_new, first_login, next_login, with_nonces}
 use Rattle.smooth_laws.specs.Smooth.{EndsCompatible, HasShortNames}
 use Rattle.smooth_laws.proofs.Again.{first_fresh, smooth_logins_succeed_again}
 use Rattle.smooth_laws.proofs.SmoothRuns.{smooth_logins_succeed}
@@ -19,7 +20,8 @@ use Rattle.smooth_laws.proofs.Restarts.{restarts_start_anew}
 use Rattle.world_laws.specs.Runs.{initial_world, run_of}
 
 -- settings with other nonces are whole, have short names, and fit
-still_whole : (setup : Setup) (one two : List ℕ) → length one ≡ 32 → length two ≡ 32 → IsWhole setup → IsWhole (with_nonces setup one two)
+still_whole : (setup : Setup) (one two : List ℕ) → length one ≡ 32 → length two ≡ 32 → IsWhole setup
+    → IsWhole (with_nonces setup one two)
 still_whole setup one two one_size two_size whole = record {
   peer = peers.still_sound setup.peer one whole.peer;
   keys = whole.keys;
@@ -30,10 +32,12 @@ still_whole setup one two one_size two_size whole = record {
   server_later = whole.server_later;
 }
 
-still_short : (setup : Setup) (one two : List ℕ) → HasShortNames setup → HasShortNames (with_nonces setup one two)
+still_short : (setup : Setup) (one two : List ℕ) → HasShortNames setup
+    → HasShortNames (with_nonces setup one two)
 still_short setup one two names = record { peer = names.peer; server = names.server }
 
-still_compatible : (setup : Setup) (one two : List ℕ) → EndsCompatible setup → EndsCompatible (with_nonces setup one two)
+still_compatible : (setup : Setup) (one two : List ℕ) → EndsCompatible setup
+    → EndsCompatible (with_nonces setup one two)
 still_compatible setup one two fit = record {
   kind = fit.kind;
   common = fit.common;
@@ -47,7 +51,8 @@ still_compatible setup one two fit = record {
 }
 
 pub logins_after_restarts_succeed : LoginsAfterRestartsSucceed
-logins_after_restarts_succeed setup events restarts smooth whole names fit next order in_order enough =
+logins_after_restarts_succeed setup events restarts smooth whole names fit next order
+    in_order enough =
     let w : WorldNow = run_of setup events in
     let both : BothConverse setup w = run_converses setup events whole in
     let one : List ℕ = next.peer.nonce in
@@ -55,21 +60,26 @@ logins_after_restarts_succeed setup events restarts smooth whole names fit next 
     let one_size = (subst LeftSized next.peer_left both.sized.peer).0 in
     let two_size = (subst LeftSized next.server_left both.sized.server).0 in
     let again : SucceedsAgain (with_nonces setup one two) (run_after w restarts) smooth =
-    smooth_logins_succeed_again (with_nonces setup one two) (run_after w restarts) smooth (still_whole setup one two one_size two_size whole)
-    (still_short setup one two names) (still_compatible setup one two fit) (restarts_start_anew setup events restarts whole next order).begun in_order enough in
+    smooth_logins_succeed_again (with_nonces setup one two) (run_after w restarts) smooth
+    (still_whole setup one two one_size two_size whole)
+    (still_short setup one two names) (still_compatible setup one two fit)
+    (restarts_start_anew setup events restarts whole next order).begun in_order enough in
     record { not_before = again.not_before; in_time = again.in_time; stays = again.stays }
 
 -- ---- one login after the other
 
 -- the run over joined lists goes on where that over the first ends
-joined : (w : WorldNow) (one other : List Event) → run_after w (one ++ other) ≡ run_after (run_after w one) other
+joined : (w : WorldNow) (one other : List Event)
+    → run_after w (one ++ other) ≡ run_after (run_after w one) other
 unfolding run_after
 joined w [] other = refl
 joined w (e ∷ rest) other = joined (world_step w e).after rest other
 
 -- a login after one that was honest, and none of whose deliveries was discarded
-logged_in : (setup : Setup) (one two : Waiting) (was : Bool) (before w after : WorldNow) → AreLoggedIn was before → HasRestarted setup one two before w
-    → IsLoggedInSince w after → AreLoggedIn (was && are_new before.conversations.begun one two) after
+logged_in : (setup : Setup) (one two : Waiting) (was : Bool) (before w after : WorldNow)
+    → AreLoggedIn was before → HasRestarted setup one two before w
+    → IsLoggedInSince w after
+    → AreLoggedIn (was && are_new before.conversations.begun one two) after
 logged_in setup one two was before w after so anew is = record {
   last = record {
     peer = is.peer;
@@ -78,7 +88,8 @@ logged_in setup one two was before w after so anew is = record {
     honest = is.tags ∙ ap tags_verdict anew.book ∙ so.last.honest;
     agree = is.agree;
   };
-  told = is.fresh ∙ anew.fresh ∙ ap (λ (b : Bool). b && are_new before.conversations.begun one two) so.told;
+  told = is.fresh ∙ anew.fresh
+      ∙ ap (λ (b : Bool). b && are_new before.conversations.begun one two) so.told;
 }
 
 pub logins_succeed : LoginsSucceed
@@ -86,12 +97,16 @@ logins_succeed setup _ events whole names fit (first_login _ in_order enough) = 
   last = (smooth_logins_succeed setup events whole names fit in_order enough).stays;
   told = first_fresh setup events in_order;
 }
-logins_succeed setup _ _ whole names fit (next_login fresh events restarts smooth before next anew in_order enough) =
+logins_succeed setup _ _ whole names fit
+    (next_login fresh events restarts smooth before next anew in_order enough) =
     let w : WorldNow = run_after (run_of setup events) restarts in
     let all : run_of setup (events ++ (restarts ++ smooth)) ≡ run_after w smooth =
-    joined (world_start (initial_world setup)).after events (restarts ++ smooth) ∙ joined (run_of setup events) restarts smooth in
-    subst (AreLoggedIn (fresh && are_new (run_of setup events).conversations.begun next.peer next.server)) (sym all)
+    joined (world_start (initial_world setup)).after events (restarts ++ smooth)
+    ∙ joined (run_of setup events) restarts smooth in
+    subst (AreLoggedIn
+    (fresh && are_new (run_of setup events).conversations.begun next.peer next.server)) (sym all)
     (logged_in setup next.peer next.server fresh (run_of setup events) w (run_after w smooth)
     (logins_succeed setup fresh events whole names fit before)
     (restarts_start_anew setup events restarts whole next anew)
-    (logins_after_restarts_succeed setup events restarts smooth whole names fit next anew in_order enough).stays)
+    (logins_after_restarts_succeed setup events restarts smooth whole names fit next anew in_order
+    enough).stays)

@@ -26,7 +26,8 @@ mod Choosing
 mod GpskTalk
 -- A login by EAP-PSK as both machines see it.
 mod PskTalk
--- The methods: which a server has, the first Request of each, and its turns where two ends fit by it.
+-- The methods: which a server has, the first Request of each, and its turns where two ends fit by
+-- it.
 mod Methods
 -- A smooth login succeeds within its bound.
 pub mod SmoothRuns

@@ -11,17 +11,23 @@ use Rattle.octet_lists.specs.Among.{is_kind}
 use Rattle.login_setup.specs.Setup.{is_valid_for}
 use Rattle.login_setup.specs.Plain.{plain_peer, plain_server, plain_setup}
 use Rattle.world_laws.specs.Agreement.{IsWhole}
-use Rattle.smooth_laws.specs.Smooth.{EndsCompatible, HasShortNames, event_bound, common_kind, deliveries}
+use Rattle.smooth_laws.specs.Smooth.{EndsCompatible, HasShortNames, event_bound, common_kind}
+use Rattle.smooth_laws.specs.Smooth.{deliveries}
 
 user_of_kind : ℕ → List ℕ → User
 user_of_kind kind key = record { name = codes "alice"; kind = kind; psk = key; barred = false }
 
--- alice has a key of each method, and logs in at the server srv; each end has these methods in its order
+-- alice has a key of each method, and logs in at the server srv; each end has these methods in its
+-- order
 pub example_setup : Mode → List ℕ → List ℕ → Setup
 example_setup runs allowed order = record plain_setup {
   mode = runs;
   first_id = 255;
-  peer = record plain_peer { methods = allowed; psk47 = Some (replicate 16 71); psk51 = Some (replicate 32 81) };
+  peer = record plain_peer {
+    methods = allowed;
+    psk47 = Some (replicate 16 71);
+    psk51 = Some (replicate 32 81);
+  };
   server = record plain_server {
     methods = order;
     suites = 2 ∷ 1 ∷ [];
@@ -56,7 +62,8 @@ unfolding example_setup both
 through_after_nak = refl
 
 -- no method is common
-none_common : common_kind (example_setup Alone (47 ∷ []) (51 ∷ [])).peer (example_setup Alone (47 ∷ []) (51 ∷ [])).server ≡ None
+none_common : common_kind (example_setup Alone (47 ∷ []) (51 ∷ [])).peer (example_setup Alone
+    (47 ∷ []) (51 ∷ [])).server ≡ None
 unfolding example_setup
 none_common = refl
 
@@ -102,8 +109,10 @@ whole_at_once = record {
   server = record {
     methods = refl;
     suites = refl;
-    kinds = All-from_recursion (λ (user : User). IsTrue (is_kind user.kind)) (example_setup Alone both both).server.users (refl, (refl, tt));
-    keys = All-from_recursion (λ (user : User). IsTrue (is_valid_for user.kind user.psk)) (example_setup Alone both both).server.users (refl, (refl, tt));
+    kinds = All-from_recursion (λ (user : User). IsTrue (is_kind user.kind))
+        (example_setup Alone both both).server.users (refl, (refl, tt));
+    keys = All-from_recursion (λ (user : User). IsTrue (is_valid_for user.kind user.psk))
+        (example_setup Alone both both).server.users (refl, (refl, tt));
   };
   peer_nonce = refl;
   server_nonce = refl;

@@ -1,4 +1,5 @@
--- Worked values of the definitions: a world that has just begun, nonces that are left, restarts of all parties.
+-- Worked values of the definitions: a world that has just begun, nonces that are left, restarts of
+-- all parties.
 use Rattle.std.proofs.Common.{[], ◌∷◌, false, refl}
 use Rattle.std.specs.Prelude.{replicate}
 use Rattle.login_setup.specs.declared.event.Event.TheVariants.{Restart}

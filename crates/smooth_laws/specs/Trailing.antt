@@ -1,6 +1,7 @@
--- A run behind others: from a world whose parties have just begun again, events in which no party begins again do
--- what they do in a run of its own.
-use Rattle.std.specs.Prelude.{◌≡◌, ℕ, ◌+◌, List, ◌++◌, length, map, Bool, true, false, ◌==◌, ◌||◌, if◌then◌else◌, All}
+-- A run behind others: from a world whose parties have just begun again, events in which no party
+-- begins again do what they do in a run of its own.
+use Rattle.std.specs.Prelude.{◌≡◌, ℕ, ◌+◌, List, ◌++◌, length, map, Bool, true, false, ◌==◌, ◌||◌}
+use Rattle.std.specs.Prelude.{if◌then◌else◌, All}
 use Rattle.login_setup.specs.declared.event.Event.{Event}
 use Rattle.login_setup.specs.declared.event.Event.TheVariants as event
 use Rattle.login_setup.specs.declared.setup.Setup.{Setup}
@@ -14,9 +15,10 @@ use Rattle.world_laws.specs.Runs.{run_of}
 abbrev pub later : ℕ → Entry → Entry
 later shift e = record e { event = shift + e.event }
 
--- the one world goes on from a moment as the other does from its start: its parties are the same, and so what they report; its packets,
--- tags and counts are those that it had and then the other's; an end has had a report if it had one then, or has had one in the other;
--- the conversations that have begun, and whether their nonces were fresh, are as they were then
+-- the one world goes on from a moment as the other does from its start: its parties are the same,
+-- and so what they report; its packets, tags and counts are those that it had and then the other's;
+-- an end has had a report if it had one then, or has had one in the other; the conversations that
+-- have begun, and whether their nonces were fresh, are as they were then
 pub record Follows (since : WorldNow) (before : List Sent) (w v : WorldNow) : Type 0 where
   pub parties : w.parties ≡ v.parties
   pub sent : w.sent ≡ before ++ v.sent
@@ -47,5 +49,7 @@ is_restart e = false
 -- whatever is delivered, altered, cut, injected or reported
 abbrev pub RunsGoOnAsTheirOwn : Type 0
 RunsGoOnAsTheirOwn =
-    (setup : Setup) (w : WorldNow) (begun : HasJustStarted setup w) (events : List Event) → All (λ (e : Event). is_restart e ≡ false) events →
-    Follows w begun.before (run_after w (map (event_past (length begun.before)) events)) (run_of setup events)
+    (setup : Setup) (w : WorldNow) (begun : HasJustStarted setup w) (events : List Event)
+    → All (λ (e : Event). is_restart e ≡ false) events →
+    Follows w begun.before (run_after w (map (event_past (length begun.before)) events))
+    (run_of setup events)

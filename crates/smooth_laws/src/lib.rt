@@ -5,7 +5,8 @@
 
 ghost use Rattle.smooth_laws.specs.Again.{SmoothLoginsSucceedAgain};
 ghost use Rattle.smooth_laws.specs.Trailing.{RunsGoOnAsTheirOwn};
-ghost use Rattle.smooth_laws.specs.Restarts.{RestartsStartAnew, LoginsAfterRestartsSucceed, LoginsSucceed};
+ghost use Rattle.smooth_laws.specs.Restarts.{RestartsStartAnew, LoginsAfterRestartsSucceed};
+ghost use Rattle.smooth_laws.specs.Restarts.{LoginsSucceed};
 ghost use Rattle.smooth_laws.specs.Smooth.{SmoothLoginsSucceed};
 
 /// A login between two ends that fit, each of whose packets is delivered once and in order, succeeds: after 7

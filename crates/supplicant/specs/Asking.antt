@@ -14,9 +14,11 @@ is_request packet = false
 -- whether octets begin a new login: the peer has ended, has its objects, and is asked
 abbrev pub restarts : {M : Type 0} → (M → PeerShown) → PeerValue M → List ℕ → Bool
 restarts shown peer octets =
-    is_end peer.vars.state && (have_each (peer_kinds (map shown peer.methods)) peer.vars.setup.methods && is_request (packet_of octets))
+    is_end peer.vars.state && (have_each (peer_kinds
+    (map shown peer.methods)) peer.vars.setup.methods && is_request (packet_of octets))
 
 -- the peer that takes these octets: one that has begun with this nonce, or as it is
 abbrev pub asked : {M : Type 0} → (M → PeerShown) → PeerValue M → List ℕ → List ℕ → PeerNow
 asked shown peer octets nonce =
-    if restarts shown peer octets then initial_peer (setup_with_nonce peer.vars.setup nonce) (now_of shown peer).views else now_of shown peer
+    if restarts shown peer octets then initial_peer (setup_with_nonce peer.vars.setup nonce)
+    (now_of shown peer).views else now_of shown peer

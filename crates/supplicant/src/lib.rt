@@ -51,9 +51,11 @@ impl<M: PeerMethod> Supplicant<M> {
     /// A packet has come from the authenticator. If the peer has ended, a Request begins a new login, with this nonce, which no
     /// login had before: so it is asked again (IEEE 802.1X calls it reauthentication).
     pub fn receive(&mut self, packet: &[u8], nonce: &Nonce) -> Answer
-        ensures step { peer_receives (asked M.peer_shown self.old.peer packet.now nonce.now) packet.now
+        ensures step { peer_receives
+            (asked M.peer_shown self.old.peer packet.now nonce.now) packet.now
             ≡ answer result.step (now_of M.peer_shown self.new.peer) }
-        ensures outcome { result.outcome ≡ outcome_of result.step.cause (entered result.step.path) (is_some result.step.sent)
+        ensures outcome { result.outcome
+            ≡ outcome_of result.step.cause (entered result.step.path) (is_some result.step.sent)
             (peer_reports (now_of M.peer_shown self.new.peer)) }
     {
         self.restart_if_asked(packet, nonce);
@@ -65,7 +67,8 @@ impl<M: PeerMethod> Supplicant<M> {
     /// Restarts the peer, if it has ended and is asked again.
     #[tactic(auto, unfolding(peer_machine::specs::PeerTable::peer_restart))]
     fn restart_if_asked(&mut self, packet: &[u8], nonce: &Nonce)
-        ensures { now_of M.peer_shown self.new.peer ≡ asked M.peer_shown self.old.peer packet.now nonce.now }
+        ensures { now_of M.peer_shown self.new.peer
+            ≡ asked M.peer_shown self.old.peer packet.now nonce.now }
     {
         if self.peer.ended() && self.peer.has_objects() && is_request(packet) {
             self.peer.restart(nonce);

@@ -1,19 +1,23 @@
 -- The tags of a book under one key, entry by entry.
-use Rattle.std.proofs.Common.{◌≡◌, ℕ, ◌+◌, ◌<◌, ◌≤◌, List, [], ◌∷◌, ◌++◌, Bool, true, false, length, take, drop, get_or, None, Some, refl, sym, ap, ◌∙◌, true≢false, append-nil}
+use Rattle.std.proofs.Common.{◌≡◌, ℕ, ◌+◌, ◌<◌, ◌≤◌, List, [], ◌∷◌, ◌++◌, Bool, true, false, length}
+use Rattle.std.proofs.Common.{take, drop, get_or, None, Some, refl, sym, ap, ◌∙◌, true≢false}
+use Rattle.std.proofs.Common.{append-nil}
 use Rattle.std.specs.Prelude.{not, ◌==◌, ◌&&◌, ◌||◌, if◌then◌else◌}
 use Rattle.std.specs.List.{list_any}
 use Rattle.std.specs.Str.{bytes_eq}
 use Rattle.std.proofs.lemmas.Bool.{and_parts}
 use Rattle.std.proofs.lemmas.List.{drop_more, take_more, drop_all}
 use Rattle.std.proofs.lemmas.Slice.Eq.{bytes_eq-Decides}
-use Rattle.tag_book.specs.Book.{first_broken, is_accepted, is_honest, may_make, same_label, under, vouches}
+use Rattle.tag_book.specs.Book.{first_broken, is_accepted, is_honest, may_make, same_label, under}
+use Rattle.tag_book.specs.Book.{vouches}
 use Rattle.tag_book.specs.declared.book.Entry.{Entry}
 use Rattle.tag_book.specs.declared.book.RecordOwner.{RecordOwner}
 use Rattle.tag_book.proofs.FirstBroken.{found, passed}
 
 module _ (key : List ℕ) where
   -- a tag that vouches is under the same key
-  same_key : (makers : RecordOwner) (e x : Entry) → vouches makers e x ≡ true → x.tag.psk ≡ e.tag.psk
+  same_key : (makers : RecordOwner) (e x : Entry) → vouches makers e x ≡ true
+      → x.tag.psk ≡ e.tag.psk
   same_key makers e x v =
       let a = and_parts (not (is_accepted x)) _ v in
       let b = and_parts (may_make makers x.end e.end) _ a.1 in
@@ -22,48 +26,63 @@ module _ (key : List ℕ) where
       (bytes_eq-Decides x.tag.psk e.tag.psk).0 (and_parts (bytes_eq x.tag.psk e.tag.psk) _ d.1).0
 
   -- so one under another key vouches for none
-  no_voucher : (makers : RecordOwner) (e x : Entry) → bytes_eq e.tag.psk key ≡ true → bytes_eq x.tag.psk key ≡ false → vouches makers e x ≡ false
+  no_voucher : (makers : RecordOwner) (e x : Entry) → bytes_eq e.tag.psk key ≡ true
+      → bytes_eq x.tag.psk key ≡ false → vouches makers e x ≡ false
   no_voucher makers e x its other = by (vouches makers e x) refl
     where
       by : (b : Bool) → vouches makers e x ≡ b → b ≡ false
       by false v = refl
-      by true v = absurd (true≢false (sym ((bytes_eq-Decides x.tag.psk key).1 (same_key makers e x v ∙ (bytes_eq-Decides e.tag.psk key).0 its)) ∙ other))
+      by true v = absurd (true≢false (sym ((bytes_eq-Decides x.tag.psk key).1
+          (same_key makers e x v ∙ (bytes_eq-Decides e.tag.psk key).0 its)) ∙ other))
 
-  any_under : (makers : RecordOwner) (e : Entry) → bytes_eq e.tag.psk key ≡ true → (earlier : List Entry)
+  any_under : (makers : RecordOwner) (e : Entry) → bytes_eq e.tag.psk key ≡ true
+      → (earlier : List Entry)
       → list_any (vouches makers e) (under key earlier) ≡ list_any (vouches makers e) earlier
   unfolding under
   any_under makers e its [] = refl
   any_under makers e its (x ∷ rest) = by (bytes_eq x.tag.psk key) refl (any_under makers e its rest)
     where
-      by : (b : Bool) → bytes_eq x.tag.psk key ≡ b → list_any (vouches makers e) (under key rest) ≡ list_any (vouches makers e) rest
-          → list_any (vouches makers e) (if b then x ∷ under key rest else under key rest) ≡ (vouches makers e x || list_any (vouches makers e) rest)
+      by : (b : Bool) → bytes_eq x.tag.psk key ≡ b → list_any (vouches makers e) (under key rest)
+          ≡ list_any (vouches makers e) rest
+          → list_any (vouches makers e) (if b then x ∷ under key rest else under key rest)
+          ≡ (vouches makers e x || list_any (vouches makers e) rest)
       by true same more = ap (λ (b : Bool). vouches makers e x || b) more
-      by false other more = more ∙ sym (ap (λ (b : Bool). b || list_any (vouches makers e) rest) (no_voucher makers e x its other))
+      by false other more = more ∙ sym (ap (λ (b : Bool). b || list_any (vouches makers e) rest)
+          (no_voucher makers e x its other))
 
   -- what is honest among all is so among those of its key
-  pub honest_under : (makers : RecordOwner) (e : Entry) → bytes_eq e.tag.psk key ≡ true → (earlier : List Entry)
+  pub honest_under : (makers : RecordOwner) (e : Entry) → bytes_eq e.tag.psk key ≡ true
+      → (earlier : List Entry)
       → is_honest makers (under key earlier) e ≡ is_honest makers earlier e
-  honest_under makers e its earlier = ap (λ (b : Bool). if is_accepted e then b else true) (any_under makers e its earlier)
+  honest_under makers e its earlier =
+      ap (λ (b : Bool). if is_accepted e then b else true) (any_under makers e its earlier)
 
-  put : (b : Bool) (x : Entry) (sub other : List Entry) → (if b then x ∷ (sub ++ other) else sub ++ other) ≡ (if b then x ∷ sub else sub) ++ other
+  put : (b : Bool) (x : Entry) (sub other : List Entry)
+      → (if b then x ∷ (sub ++ other) else sub ++ other) ≡ (if b then x ∷ sub else sub) ++ other
   put true x sub other = refl
   put false x sub other = refl
 
-  under_both : (one other : List Entry) → under key (one ++ other) ≡ under key one ++ under key other
+  under_both : (one other : List Entry)
+      → under key (one ++ other) ≡ under key one ++ under key other
   unfolding under
   under_both [] other = refl
   under_both (x ∷ rest) other =
-      ap (λ (l : List Entry). if bytes_eq x.tag.psk key then x ∷ l else l) (under_both rest other) ∙ put (bytes_eq x.tag.psk key) x (under key rest) (under key other)
+      ap (λ (l : List Entry). if bytes_eq x.tag.psk key then x ∷ l else l) (under_both rest other)
+      ∙ put (bytes_eq x.tag.psk key) x (under key rest) (under key other)
 
   -- one more entry of this key, or of another
-  pub one_more : (earlier : List Entry) (e : Entry) → bytes_eq e.tag.psk key ≡ true → under key (earlier ++ e ∷ []) ≡ under key earlier ++ e ∷ []
+  pub one_more : (earlier : List Entry) (e : Entry) → bytes_eq e.tag.psk key ≡ true
+      → under key (earlier ++ e ∷ []) ≡ under key earlier ++ e ∷ []
   unfolding under
-  one_more earlier e its = under_both earlier (e ∷ []) ∙ ap (λ (b : Bool). under key earlier ++ (if b then e ∷ [] else [])) its
+  one_more earlier e its = under_both earlier (e ∷ [])
+      ∙ ap (λ (b : Bool). under key earlier ++ (if b then e ∷ [] else [])) its
 
-  pub none_more : (earlier : List Entry) (e : Entry) → bytes_eq e.tag.psk key ≡ false → under key (earlier ++ e ∷ []) ≡ under key earlier
+  pub none_more : (earlier : List Entry) (e : Entry) → bytes_eq e.tag.psk key ≡ false
+      → under key (earlier ++ e ∷ []) ≡ under key earlier
   unfolding under
   none_more earlier e other =
-      under_both earlier (e ∷ []) ∙ ap (λ (b : Bool). under key earlier ++ (if b then e ∷ [] else [])) other ∙ append-nil (under key earlier)
+      under_both earlier (e ∷ []) ∙ ap (λ (b : Bool).
+      under key earlier ++ (if b then e ∷ [] else [])) other ∙ append-nil (under key earlier)
 
   -- ---- place by place
 
@@ -71,45 +90,63 @@ module _ (key : List ℕ) where
   abbrev pub breaks : RecordOwner → List Entry → Entry → Bool
   breaks makers earlier e = bytes_eq e.tag.psk key && not (is_honest makers earlier e)
 
-  step_over : (makers : RecordOwner) (earlier rest : List Entry) (e : Entry) → breaks makers earlier e ≡ false
-      → first_broken makers (under key earlier) (under key (e ∷ rest)) ≡ first_broken makers (under key (earlier ++ e ∷ [])) (under key rest)
+  step_over : (makers : RecordOwner) (earlier rest : List Entry) (e : Entry)
+      → breaks makers earlier e ≡ false
+      → first_broken makers (under key earlier) (under key (e ∷ rest))
+      ≡ first_broken makers (under key (earlier ++ e ∷ [])) (under key rest)
   unfolding under
-  step_over makers earlier rest e sound = by (bytes_eq e.tag.psk key) (is_honest makers earlier e) refl refl sound
+  step_over makers earlier rest e sound =
+      by (bytes_eq e.tag.psk key) (is_honest makers earlier e) refl refl sound
     where
-      by : (b honest : Bool) → bytes_eq e.tag.psk key ≡ b → is_honest makers earlier e ≡ honest → (b && not honest) ≡ false
-          → first_broken makers (under key earlier) (if b then e ∷ under key rest else under key rest)
+      by : (b honest : Bool) → bytes_eq e.tag.psk key ≡ b → is_honest makers earlier e ≡ honest
+          → (b && not honest) ≡ false
+          → first_broken makers (under key earlier)
+          (if b then e ∷ under key rest else under key rest)
           ≡ first_broken makers (under key (earlier ++ e ∷ [])) (under key rest)
       by true true its honest _ =
-          passed makers (under key earlier) (under key rest) e (honest_under makers e its earlier ∙ honest)
-          ∙ ap (λ (l : List Entry). first_broken makers l (under key rest)) (sym (one_more earlier e its))
+          passed makers (under key earlier) (under key rest) e
+          (honest_under makers e its earlier ∙ honest)
+          ∙ ap (λ (l : List Entry). first_broken makers l (under key rest))
+          (sym (one_more earlier e its))
       by true false its broken h = cc
-      by false honest other _ _ = ap (λ (l : List Entry). first_broken makers l (under key rest)) (sym (none_more earlier e other))
+      by false honest other _ _ = ap (λ (l : List Entry). first_broken makers l (under key rest))
+          (sym (none_more earlier e other))
 
-  stop_at : (makers : RecordOwner) (earlier rest : List Entry) (e : Entry) → breaks makers earlier e ≡ true
+  stop_at : (makers : RecordOwner) (earlier rest : List Entry) (e : Entry)
+      → breaks makers earlier e ≡ true
       → first_broken makers (under key earlier) (under key (e ∷ rest)) ≡ Some e.event
   unfolding under
-  stop_at makers earlier rest e broken = by (bytes_eq e.tag.psk key) (is_honest makers earlier e) refl refl broken
+  stop_at makers earlier rest e broken =
+      by (bytes_eq e.tag.psk key) (is_honest makers earlier e) refl refl broken
     where
-      by : (b honest : Bool) → bytes_eq e.tag.psk key ≡ b → is_honest makers earlier e ≡ honest → (b && not honest) ≡ true
-          → first_broken makers (under key earlier) (if b then e ∷ under key rest else under key rest) ≡ Some e.event
+      by : (b honest : Bool) → bytes_eq e.tag.psk key ≡ b → is_honest makers earlier e ≡ honest
+          → (b && not honest) ≡ true
+          → first_broken makers (under key earlier) (if b then e ∷ under key rest
+          else under key rest) ≡ Some e.event
       by true true its honest h = cc
-      by true false its dishonest _ = found makers (under key earlier) (under key rest) e (honest_under makers e its earlier ∙ dishonest)
+      by true false its dishonest _ = found makers (under key earlier) (under key rest) e
+          (honest_under makers e its earlier ∙ dishonest)
       by false honest other _ h = cc
 
-  pub under_more : (makers : RecordOwner) (book : List Entry) (i : ℕ) (e : Entry) → i < length book → e ≡ get_or book i e
+  pub under_more : (makers : RecordOwner) (book : List Entry) (i : ℕ) (e : Entry) → i < length book
+      → e ≡ get_or book i e
       → breaks makers (take i book) e ≡ false
       → first_broken makers (under key (take i book)) (under key (drop i book))
       ≡ first_broken makers (under key (take (i + 1) book)) (under key (drop (i + 1) book))
   under_more makers book i e below read sound =
-      let rest : drop i book ≡ e ∷ drop (i + 1) book = drop_more book i e below ∙ ap (λ (x : Entry). x ∷ drop (i + 1) book) (sym read) in
-      let front : take (i + 1) book ≡ take i book ++ e ∷ [] = take_more book i e below ∙ ap (λ (x : Entry). take i book ++ x ∷ []) (sym read) in
+      let rest : drop i book ≡ e ∷ drop (i + 1) book =
+      drop_more book i e below ∙ ap (λ (x : Entry). x ∷ drop (i + 1) book) (sym read) in
+      let front : take (i + 1) book ≡ take i book ++ e ∷ [] =
+      take_more book i e below ∙ ap (λ (x : Entry). take i book ++ x ∷ []) (sym read) in
       rw (rest, front) (step_over makers (take i book) (drop (i + 1) book) e sound)
 
-  pub under_here : (makers : RecordOwner) (book : List Entry) (i : ℕ) (e : Entry) → i < length book → e ≡ get_or book i e
+  pub under_here : (makers : RecordOwner) (book : List Entry) (i : ℕ) (e : Entry) → i < length book
+      → e ≡ get_or book i e
       → breaks makers (take i book) e ≡ true
       → first_broken makers (under key (take i book)) (under key (drop i book)) ≡ Some e.event
   under_here makers book i e below read broken =
-      let rest : drop i book ≡ e ∷ drop (i + 1) book = drop_more book i e below ∙ ap (λ (x : Entry). x ∷ drop (i + 1) book) (sym read) in
+      let rest : drop i book ≡ e ∷ drop (i + 1) book =
+      drop_more book i e below ∙ ap (λ (x : Entry). x ∷ drop (i + 1) book) (sym read) in
       rw rest (stop_at makers (take i book) (drop (i + 1) book) e broken)
 
   -- at the end each was honest

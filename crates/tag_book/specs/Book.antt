@@ -1,6 +1,7 @@
--- The book of tags: which tags each end made and accepted, in their order, and whether each accepted tag
--- was made earlier: by the other end, or by either.
-use Rattle.std.specs.Prelude.{ℕ, List, [], ◌∷◌, ◌++◌, Bool, true, false, ◌==◌, ◌&&◌, not, if◌then◌else◌, Option, Some, None, map}
+-- The book of tags: which tags each end made and accepted, in their order, and whether each
+-- accepted tag was made earlier: by the other end, or by either.
+use Rattle.std.specs.Prelude.{ℕ, List, [], ◌∷◌, ◌++◌, Bool, true, false, ◌==◌, ◌&&◌, not}
+use Rattle.std.specs.Prelude.{if◌then◌else◌, Option, Some, None, map}
 use Rattle.std.specs.Str.{bytes_eq}
 use Rattle.std.specs.List.{list_any}
 use Rattle.eap_method.specs.declared.tags.Label.{Label}
@@ -22,7 +23,8 @@ entry event end how tag = record { event = event; end = end; used = how; tag = t
 
 -- the entries of an event: the accepted tags before those made
 abbrev pub entries_of : ℕ → End → Tags → List Entry
-entries_of event end tags = map (entry event end Accepted) tags.accepted ++ map (entry event end Made) tags.made
+entries_of event end tags =
+    map (entry event end Accepted) tags.accepted ++ map (entry event end Made) tags.made
 
 -- whether two ends, two labels, two records are the same
 abbrev pub same_end : End → End → Bool
@@ -42,7 +44,8 @@ same_label one other = label_number one == label_number other
 abbrev pub same_tag : TagRecord → TagRecord → Bool
 same_tag one other =
     (one.method == other.method)
-    && (same_label one.label other.label && (bytes_eq one.psk other.psk && (bytes_eq one.octets other.octets && bytes_eq one.tag other.tag)))
+    && (same_label one.label other.label && (bytes_eq one.psk other.psk
+    && (bytes_eq one.octets other.octets && bytes_eq one.tag other.tag)))
 
 abbrev pub is_accepted : Entry → Bool
 is_accepted e = elim e.used [ Accepted ↦ true | Made ↦ false ]
@@ -54,7 +57,8 @@ may_make Either made accepted = true
 
 -- whether an entry is that of the same tag, made by such an end
 abbrev pub vouches : RecordOwner → Entry → Entry → Bool
-vouches makers accepted made = not (is_accepted made) && (may_make makers made.end accepted.end && same_tag made.tag accepted.tag)
+vouches makers accepted made = not (is_accepted
+    made) && (may_make makers made.end accepted.end && same_tag made.tag accepted.tag)
 
 -- whether an entry is no accepted tag, or one that such an end made earlier
 abbrev pub is_honest : RecordOwner → List Entry → Entry → Bool
@@ -63,7 +67,8 @@ is_honest makers earlier e = if is_accepted e then list_any (vouches makers e) e
 -- the event of the first accepted tag which no such end made earlier
 unfoldable pub first_broken : RecordOwner → List Entry → List Entry → Option ℕ
 first_broken makers earlier [] = None
-first_broken makers earlier (e ∷ rest) = if is_honest makers earlier e then first_broken makers (earlier ++ e ∷ []) rest else Some e.event
+first_broken makers earlier (e ∷ rest) = if is_honest makers earlier e
+    then first_broken makers (earlier ++ e ∷ []) rest else Some e.event
 
 abbrev pub verdict_on : Option ℕ → TagsVerdict
 verdict_on None = Honest
@@ -73,7 +78,8 @@ verdict_on (Some event) = Broken event
 abbrev pub tags_verdict : List Entry → TagsVerdict
 tags_verdict book = verdict_on (first_broken Other [] book)
 
--- whether each accepted tag was made earlier by either end: also by the one that accepts it, to which it came back
+-- whether each accepted tag was made earlier by either end: also by the one that accepts it, to
+-- which it came back
 abbrev pub tags_verdict_either : List Entry → TagsVerdict
 tags_verdict_either book = verdict_on (first_broken Either [] book)
 

@@ -1,9 +1,11 @@
 //! The book of tags.
 
-ghost use Rattle.std.specs.Prelude.{◌≡◌, ◌≤◌, ◌+◌, ◌++◌, ◌∷◌, [], ◌&&◌, not, map, vec_len, vec_capacity};
+ghost use Rattle.std.specs.Prelude.{◌≡◌, ◌≤◌, ◌+◌, ◌++◌, ◌∷◌, [], ◌&&◌, not, map, vec_len};
+ghost use Rattle.std.specs.Prelude.{vec_capacity};
 ghost use Rattle.std.specs.Str.{bytes_eq};
 ghost use Rattle.std.specs.List.{list_any};
-ghost use Rattle.tag_book.specs.Book.{entry, entries_of, first_broken, verdict_on, is_honest, may_make, vouches, same_tag, under};
+ghost use Rattle.tag_book.specs.Book.{entry, entries_of, first_broken, verdict_on, is_honest};
+ghost use Rattle.tag_book.specs.Book.{may_make, vouches, same_tag, under};
 
 use eap_method::{TagList, TagRecord, Tags, TwoRecords};
 
@@ -123,7 +125,8 @@ pub fn judge_tags_under(book: &[Entry], key: &[u8], makers: RecordOwner) -> Tags
 
 /// Whether an entry is an accepted tag under this key that no such end made earlier.
 fn breaks(earlier: &[Entry], entry: &Entry, key: &[u8], makers: RecordOwner) -> bool
-    ensures { result ≡ (bytes_eq entry.now.tag.psk key.now && not (is_honest makers earlier.now entry.now)) }
+    ensures { result
+        ≡ (bytes_eq entry.now.tag.psk key.now && not (is_honest makers earlier.now entry.now)) }
 {
     entry.tag.psk.as_slice() == key && !is_honest(earlier, entry, makers)
 }

@@ -1,5 +1,7 @@
 -- What a word spells: a number, octets in hex, a method, a ciphersuite.
-use Rattle.std.specs.Prelude.{ℕ, ◌+◌, ◌-◌, ◌*◌, ◌%◌, List, [], ◌∷◌, length, Bool, false, ◌==◌, ◌&&◌, ◌||◌, not, nat_lt, nat_le, if◌then◌else◌, codes, Result, Ok, Err, slice_get, unwrap_or}
+use Rattle.std.specs.Prelude.{ℕ, ◌+◌, ◌-◌, ◌*◌, ◌%◌, List, [], ◌∷◌, length, Bool, false, ◌==◌, ◌&&◌}
+use Rattle.std.specs.Prelude.{◌||◌, not, nat_lt, nat_le, if◌then◌else◌, codes, Result, Ok, Err}
+use Rattle.std.specs.Prelude.{slice_get, unwrap_or}
 use Rattle.std.specs.List.{list_all}
 use Rattle.std.specs.Str.{bytes_eq}
 use Rattle.octet_lists.specs.Among.{psk_kind, gpsk_kind}
@@ -8,7 +10,8 @@ use Rattle.text_tables.specs.declared.fault.LineFault.TheVariants.{BadNumber, Ba
 
 -- the second step, if the first met no fault
 infixl 10 ◌>>=◌
-abbrev pub ◌>>=◌ : {A B : Type 0} → Result A LineFault → (A → Result B LineFault) → Result B LineFault
+abbrev pub ◌>>=◌ : {A B : Type 0} → Result A LineFault → (A → Result B LineFault)
+    → Result B LineFault
 Ok x >>= f = f x
 Err e >>= f = Err e
 
@@ -39,14 +42,16 @@ is_decimal (d ∷ e ∷ rest) = not (d == 48) && list_all is_digit (d ∷ e ∷ 
 
 -- a number from low to high
 unfoldable pub spells_number : List ℕ → ℕ → ℕ → Bool
-spells_number word low high = is_decimal word && nat_le low (number word) && nat_le (number word) high
+spells_number word low high =
+    is_decimal word && nat_le low (number word) && nat_le (number word) high
 
 unfoldable pub number_of : List ℕ → ℕ → ℕ → Result ℕ LineFault
 number_of word low high = if spells_number word low high then Ok (number word) else Err BadNumber
 
 -- a hex digit in either case, and its value
 abbrev pub is_hex_digit : ℕ → Bool
-is_hex_digit b = (nat_le 48 b && nat_le b 57) || (nat_le 97 b && nat_le b 102) || (nat_le 65 b && nat_le b 70)
+is_hex_digit b =
+    (nat_le 48 b && nat_le b 57) || (nat_le 97 b && nat_le b 102) || (nat_le 65 b && nat_le b 70)
 
 abbrev pub hex_value : ℕ → ℕ
 hex_value b = if nat_le b 57 then b - 48 else if nat_le b 70 then b - 55 else b - 87

@@ -1,5 +1,6 @@
 -- The first fault of the words of a line, word by word.
-use Rattle.std.specs.Prelude.{ℕ, List, [], ◌∷◌, length, nat_lt, if◌then◌else◌, Option, Some, None, find}
+use Rattle.std.specs.Prelude.{ℕ, List, [], ◌∷◌, length, nat_lt, if◌then◌else◌, Option, Some, None}
+use Rattle.std.specs.Prelude.{find}
 use Rattle.text_tables.specs.Rows.{field_has, any_has}
 use Rattle.text_tables.specs.declared.fault.LineFault.{LineFault}
 use Rattle.text_tables.specs.declared.fault.LineFault.TheVariants as fault
@@ -21,7 +22,8 @@ rank_of fault.Order = 9
 abbrev pub earlier : Option LineFault → Option LineFault → Option LineFault
 earlier None other = other
 earlier (Some first) None = Some first
-earlier (Some first) (Some second) = if nat_lt (rank_of second) (rank_of first) then Some second else Some first
+earlier (Some first) (Some second) =
+    if nat_lt (rank_of second) (rank_of first) then Some second else Some first
 
 -- the faults that a word can have
 abbrev pub word_faults : List LineFault

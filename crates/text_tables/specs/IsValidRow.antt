@@ -1,9 +1,11 @@
 -- What the words of a line without a fault are.
-use Rattle.std.specs.Prelude.{◌≡◌, ℕ, ◌+◌, ◌<◌, ◌≤◌, List, [], ◌∷◌, length, Bool, true, false, nat_le, IsTrue}
+use Rattle.std.specs.Prelude.{◌≡◌, ℕ, ◌+◌, ◌<◌, ◌≤◌, List, [], ◌∷◌, length, Bool, true, false}
+use Rattle.std.specs.Prelude.{nat_le, IsTrue}
 use Rattle.login_setup.specs.Setup.{is_valid_for}
 use Rattle.std.specs.Str.{bytes_eq}
 use Rattle.octet_lists.specs.Sizes.{max_name}
-use Rattle.text_tables.specs.Fields.{word_in, number, spells_octets, octets_of, spells_kind, kind_of, spells_suite}
+use Rattle.text_tables.specs.Fields.{word_in, number, spells_octets, octets_of, spells_kind}
+use Rattle.text_tables.specs.Fields.{kind_of, spells_suite}
 use Rattle.text_tables.specs.Rows.{Row, field_has, any_has, is_choice, is_kind_or_none}
 use Rattle.text_tables.specs.declared.fault.LineFault.{LineFault}
 use Rattle.text_tables.specs.declared.rows.Field.{Field}
@@ -50,7 +52,9 @@ Where false there IsValidRow = there → IsValidRow
 
 abbrev pub AreValidFields : ℕ → ℕ → List Field → List (List ℕ) → Type 0
 AreValidFields least place [] ws = Unit {0}
-AreValidFields least place (f ∷ rest) ws = Where (nat_le place least) (place < length ws) (IsValidField f place ws) × AreValidFields least (place + 1) rest ws
+AreValidFields least place (f ∷ rest) ws =
+    Where (nat_le place least) (place < length ws) (IsValidField f place ws)
+    × AreValidFields least (place + 1) rest ws
 
 pub record IsValidRow (row : Row) (ws : List (List ℕ)) : Type 0 where
   pub least : row.least < length ws

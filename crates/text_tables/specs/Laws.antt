@@ -15,7 +15,8 @@ abbrev pub IsFirst : (LineFault → Bool) → LineFault → Type 0
 IsFirst has f = IsFirstOf faults has f
 
 -- a line is refused with exactly the first fault that it has, and accepted exactly if it has none
-pub record Judges {A : Type 0} (answer : Result A LineFault) (has : LineFault → Bool) (value : A) : Type 0 where
+pub record Judges {A : Type 0} (answer : Result A LineFault) (has : LineFault → Bool)
+    (value : A) : Type 0 where
   pub refused : (f : LineFault) → answer ≡ Err f → IsFirst has f
   pub first : (f : LineFault) → IsFirst has f → answer ≡ Err f
   pub taken : IsOk answer → (f : LineFault) → has f ≡ false

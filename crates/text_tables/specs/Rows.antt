@@ -1,11 +1,14 @@
 -- The faults of a line by the row that its keyword has in the text's table: one definition a fault.
-use Rattle.std.specs.Prelude.{ℕ, ◌+◌, ◌-◌, List, [], ◌∷◌, length, Bool, false, ◌&&◌, ◌||◌, not, nat_lt, nat_le, if◌then◌else◌, codes, Option, Some, None, is_some, find, ok_or, Result, Ok, Err}
+use Rattle.std.specs.Prelude.{ℕ, ◌+◌, ◌-◌, List, [], ◌∷◌, length, Bool, false, ◌&&◌, ◌||◌, not}
+use Rattle.std.specs.Prelude.{nat_lt, nat_le, if◌then◌else◌, codes, Option, Some, None, is_some}
+use Rattle.std.specs.Prelude.{find, ok_or, Result, Ok, Err}
 use Rattle.std.specs.List.{list_any}
 use Rattle.std.specs.Str.{bytes_eq}
 use Rattle.octet_lists.specs.Sizes.{max_name}
 use Rattle.login_setup.specs.Setup.{is_valid_for}
 use Rattle.text_tables.specs.Words.{words, is_printable}
-use Rattle.text_tables.specs.Fields.{word_in, is_dash, spells_number, spells_octets, octets_of, spells_kind, kind_of, spells_suite}
+use Rattle.text_tables.specs.Fields.{word_in, is_dash, spells_number, spells_octets, octets_of}
+use Rattle.text_tables.specs.Fields.{spells_kind, kind_of, spells_suite}
 use Rattle.text_tables.specs.declared.fault.LineFault.{LineFault}
 use Rattle.text_tables.specs.declared.fault.LineFault.TheVariants as fault
 use Rattle.text_tables.specs.declared.rows.Field.{Field}
@@ -25,7 +28,8 @@ row word least fields = record { word = word; least = least; fields = fields }
 -- the words of each choice
 abbrev pub choices_of : Choices → List (List ℕ)
 choices_of choices.Mode = codes "alone" ∷ codes "through" ∷ []
-choices_of choices.Port = codes "peer" ∷ codes "server" ∷ codes "pass-peer" ∷ codes "pass-server" ∷ []
+choices_of choices.Port =
+    codes "peer" ∷ codes "server" ∷ codes "pass-peer" ∷ codes "pass-server" ∷ []
 choices_of choices.Timer = codes "server" ∷ codes "pass" ∷ []
 choices_of choices.Party = codes "peer" ∷ codes "server" ∷ codes "pass" ∷ []
 choices_of choices.Access = codes "allowed" ∷ codes "barred" ∷ []
@@ -49,7 +53,8 @@ has_bad_choice other place ws = false
 
 -- a method, or `-` with no word after it
 abbrev pub is_kind_or_none : ℕ → List (List ℕ) → Bool
-is_kind_or_none place ws = spells_kind (word_in ws place) || (is_dash (word_in ws place) && nat_le (length ws - 1) place)
+is_kind_or_none place ws =
+    spells_kind (word_in ws place) || (is_dash (word_in ws place) && nat_le (length ws - 1) place)
 
 -- BadNumber: no number in its range, no method, no ciphersuite
 abbrev pub has_bad_number : Field → ℕ → List (List ℕ) → Bool
@@ -70,8 +75,10 @@ has_bad_hex other place ws = false
 -- BadSize: a name or octets of another length; a key of another than its method requires
 abbrev pub has_bad_size : Field → ℕ → List (List ℕ) → Bool
 has_bad_size field.Name place ws = not (is_within (length (word_in ws place)) 1 max_name)
-has_bad_size (field.Hex low high) place ws = not (is_within (length (octets_of (word_in ws place))) low high)
-has_bad_size (field.Key p) place ws = not (is_valid_for (kind_of (word_in ws p)) (octets_of (word_in ws place)))
+has_bad_size (field.Hex low high) place ws =
+    not (is_within (length (octets_of (word_in ws place))) low high)
+has_bad_size (field.Key p) place ws =
+    not (is_valid_for (kind_of (word_in ws p)) (octets_of (word_in ws place)))
 has_bad_size other place ws = false
 
 -- Repeated: the method or the ciphersuite of another word again
@@ -99,7 +106,8 @@ any_has e place (f ∷ rest) ws = word_has e f place ws || any_has e (place + 1)
 -- the faults in their order
 abbrev pub faults : List LineFault
 faults =
-    fault.NoHeader ∷ fault.BadWord ∷ fault.BadCount ∷ fault.BadChoice ∷ fault.BadNumber ∷ fault.BadHex ∷ fault.BadSize
+    fault.NoHeader ∷ fault.BadWord ∷ fault.BadCount ∷ fault.BadChoice ∷ fault.BadNumber
+    ∷ fault.BadHex ∷ fault.BadSize
     ∷ fault.Repeated ∷ fault.Missing ∷ fault.Order ∷ []
 
 -- the words after a keyword have the fault
@@ -131,7 +139,8 @@ module _ {K : Type 0} (row : K → Row) (keywords : List K) where
 
   -- or BadWord, also if an octet isn't printable
   unfoldable pub first_word : List ℕ → Result K LineFault
-  first_word line = if is_printable line then ok_or (keyword_in (words line)) fault.BadWord else Err fault.BadWord
+  first_word line =
+      if is_printable line then ok_or (keyword_in (words line)) fault.BadWord else Err fault.BadWord
 
   abbrev pub row_has : Option K → List (List ℕ) → LineFault → Bool
   row_has None ws e = false

@@ -1,5 +1,7 @@
--- A text, line by line: its table, what its lines say, which faults they have at their places, and what they add.
-use Rattle.std.specs.Prelude.{ℕ, List, not, ◌&&◌, ◌||◌, Bool, false, if◌then◌else◌, Option, Some, None, is_some, find, unwrap_or, Result, Ok, Err}
+-- A text, line by line: its table, what its lines say, which faults they have at their places, and
+-- what they add.
+use Rattle.std.specs.Prelude.{ℕ, List, not, ◌&&◌, ◌||◌, Bool, false, if◌then◌else◌, Option, Some}
+use Rattle.std.specs.Prelude.{None, is_some, find, unwrap_or, Result, Ok, Err}
 use Rattle.text_tables.specs.Fields.{◌>>=◌}
 use Rattle.text_tables.specs.Laws.{Judges}
 use Rattle.text_tables.specs.Phases.{may_occur}
@@ -60,7 +62,8 @@ module _ {K E S I : Type 0} (row : K → Row) (t : Table K E S I) where
 
   -- a line after the first that isn't ignored has the fault, by its words or by its place
   unfoldable pub body_has : S → List ℕ → LineFault → Bool
-  body_has s line f = line_has row (t.keywords s) line f || place_has s (word_of s line) (entry_in s line) f
+  body_has s line f =
+      line_has row (t.keywords s) line f || place_has s (word_of s line) (entry_in s line) f
 
   -- a line after the first
   unfoldable pub read_body : S → List ℕ → Result (ReadLine I S) LineFault
@@ -108,14 +111,18 @@ module _ {K E S I : Type 0} (row : K → Row) (t : Table K E S I) where
 
   abbrev pub says_at : Phase → S → List ℕ → ReadLine I S
   says_at phase.Unread s line = line_of t.nothing (unwrap_or (t.begun s line) s)
-  says_at p s line = if is_passed_over line then line_of t.nothing s else t.taken s (entry_in s line)
+  says_at p s line =
+      if is_passed_over line then line_of t.nothing s else t.taken s (entry_in s line)
 
   -- each line is judged
   abbrev pub AreJudged : Type 0
-  AreJudged = (s : S) (line : List ℕ) → Judges (read_line s line) (has_at (t.phase s) s line) (says_at (t.phase s) s line)
+  AreJudged = (s : S) (line : List ℕ)
+      → Judges (read_line s line) (has_at (t.phase s) s line) (says_at (t.phase s) s line)
 
--- the answer of a reader, with what was written and what it keeps after, as what a line says and adds
-abbrev pub line_result : {A O S I : Type 0} → (A → S → O → I) → Result A LineFault → S → O → Result (ReadLine I S) LineFault
+-- the answer of a reader, with what was written and what it keeps after, as what a line says and
+-- adds
+abbrev pub line_result : {A O S I : Type 0} → (A → S → O → I) → Result A LineFault → S → O
+    → Result (ReadLine I S) LineFault
 line_result says (Ok item) after out = Ok (line_of (says item after out) after)
 line_result says (Err f) after out = Err f
 

@@ -1,5 +1,6 @@
 -- The users that the words of a command name: NAME KIND HEX, and so on.
-use Rattle.std.specs.Prelude.{ℕ, List, [], ◌∷◌, ◌++◌, length, Bool, true, false, ◌&&◌, not, nat_lt, nat_le, if◌then◌else◌, Option, Some, None, is_some}
+use Rattle.std.specs.Prelude.{ℕ, List, [], ◌∷◌, ◌++◌, length, Bool, true, false, ◌&&◌, not, nat_lt}
+use Rattle.std.specs.Prelude.{nat_le, if◌then◌else◌, Option, Some, None, is_some}
 use Rattle.std.specs.List.{list_all}
 use Rattle.octet_lists.specs.Sizes.{max_name}
 use Rattle.login_setup.specs.Setup.{is_valid_for}
@@ -24,13 +25,15 @@ is_key kind word = spells_octets word && is_valid_for kind (octets_of word)
 unfoldable pub user_named : List ℕ → List ℕ → List ℕ → Option User
 user_named name kind key =
     if is_name name && (spells_kind kind && is_key (kind_of kind) key)
-    then Some (record { name = name; kind = kind_of kind; psk = octets_of key; barred = false }) else None
+    then Some (record { name = name; kind = kind_of kind; psk = octets_of key; barred = false })
+    else None
 
 -- the users with one more, unless 16 are there or one of them has its name and method
 abbrev pub with_named : List User → Option User → Option (List User)
 with_named users None = None
 with_named users (Some user) =
-    if nat_lt (length users) 16 && not (is_some (user_of users user.name user.kind)) then Some (users ++ user ∷ []) else None
+    if nat_lt (length users) 16 && not (is_some (user_of users user.name user.kind))
+    then Some (users ++ user ∷ []) else None
 
 -- the users that words name after these
 unfoldable pub users_named : Option (List User) → List (List ℕ) → Option (List User)
@@ -38,15 +41,18 @@ users_named None words = None
 users_named (Some users) [] = Some users
 users_named (Some users) (name ∷ []) = None
 users_named (Some users) (name ∷ kind ∷ []) = None
-users_named (Some users) (name ∷ kind ∷ key ∷ rest) = users_named (with_named users (user_named name kind key)) rest
+users_named (Some users) (name ∷ kind ∷ key ∷ rest) =
+    users_named (with_named users (user_named name kind key)) rest
 
--- the users with those that words name after them, up to the first words that name none, or none that is added
+-- the users with those that words name after them, up to the first words that name none, or none
+-- that is added
 unfoldable pub users_until : List User → Option (List User) → List (List ℕ) → List User
 users_until added None words = added
 users_until added (Some users) [] = users
 users_until added (Some users) (name ∷ []) = users
 users_until added (Some users) (name ∷ kind ∷ []) = users
-users_until added (Some users) (name ∷ kind ∷ key ∷ rest) = users_until users (with_named users (user_named name kind key)) rest
+users_until added (Some users) (name ∷ kind ∷ key ∷ rest) =
+    users_until users (with_named users (user_named name kind key)) rest
 
 -- what a call that adds users to a list has read
 abbrev pub read_as : Bool → List User → Option (List User)

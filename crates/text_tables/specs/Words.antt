@@ -2,7 +2,10 @@
 use Rattle.std.specs.Prelude.{ℕ, List, [], ◌∷◌, ◌==◌, ◌&&◌, Bool, true, nat_le, codes}
 use Rattle.std.specs.List.{slice_split, list_all}
 use Rattle.text_tables.specs.declared.fault.LineFault.{LineFault}
-use Rattle.text_tables.specs.declared.fault.LineFault.TheVariants.{NoHeader, BadWord, BadCount, BadChoice, BadNumber, BadHex, BadSize, Repeated, Missing, Order}
+use Rattle.text_tables.specs.declared.fault.LineFault.TheVariants.{NoHeader, BadWord, BadCount}
+use Rattle.text_tables.specs.declared.fault.LineFault.TheVariants.{BadChoice, BadNumber, BadHex}
+use Rattle.text_tables.specs.declared.fault.LineFault.TheVariants.{BadSize, Repeated, Missing}
+use Rattle.text_tables.specs.declared.fault.LineFault.TheVariants.{Order}
 
 -- the words, which one space separates
 abbrev pub words : List ℕ → List (List ℕ)

@@ -3,8 +3,10 @@
 ghost use Rattle.std.specs.Prelude.{◌≡◌, ◌≤◌, ◌<◌, ◌+◌, ◌*◌, ◌/◌, ◌^◌, length, min, IsTrue, IfOk};
 ghost use Rattle.std.specs.List.{list_all};
 ghost use Rattle.octet_lists.specs.Sizes.{max_name};
-ghost use Rattle.text_tables.specs.Fields.{number, spells_number, number_of, number_after, is_digit, is_decimal, hex_of, hex_value};
-ghost use Rattle.text_tables.specs.Fields.{is_hex_digit, is_hex, octets_of, spells_octets, spells_kind, kind_of, spells_suite, suite_of};
+ghost use Rattle.text_tables.specs.Fields.{number, spells_number, number_of, number_after};
+ghost use Rattle.text_tables.specs.Fields.{is_digit, is_decimal, hex_of, hex_value};
+ghost use Rattle.text_tables.specs.Fields.{is_hex_digit, is_hex, octets_of, spells_octets};
+ghost use Rattle.text_tables.specs.Fields.{spells_kind, kind_of, spells_suite, suite_of};
 
 use crate::fault::LineFault;
 use octet_lists::{GPSK_KIND, Identity, Injected, Octets, PSK_KIND};

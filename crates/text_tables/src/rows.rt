@@ -4,7 +4,8 @@ ghost use Rattle.std.specs.Prelude.{◌≡◌, ◌+◌, ◌<◌, ◌^◌, length
 ghost use Rattle.text_tables.specs.Words.{words};
 ghost use Rattle.login_setup.specs.Setup.{is_valid_for};
 ghost use Rattle.text_tables.specs.Fields.{octets_of};
-ghost use Rattle.text_tables.specs.Rows.{is_choice, is_kind_or_none, is_within, has_bad_count, fault_of_words, keyword_in, first_word};
+ghost use Rattle.text_tables.specs.Rows.{is_choice, is_kind_or_none, is_within, has_bad_count};
+ghost use Rattle.text_tables.specs.Rows.{fault_of_words, keyword_in, first_word};
 ghost use Rattle.text_tables.specs.Firsts.{earlier, first_fault, fault_at, fault_of_word};
 
 use crate::fault::LineFault;

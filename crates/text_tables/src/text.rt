@@ -80,22 +80,27 @@ pub trait Text: Drop {
 
     /// True for what came before.
     fn occurred_before(&self, entry: &Self::Entry) -> bool
-        ensures { (event : Self.Event) → result ≡ table.occurred_before self.now (whole entry.now event) };
+        ensures { (event : Self.Event)
+            → result ≡ table.occurred_before self.now (whole entry.now event) };
 
     /// True if something that the entry needs has not come.
     fn is_missing(&self, entry: &Self::Entry) -> bool
-        ensures { (event : Self.Event) → result ≡ table.is_missing self.now (whole entry.now event) };
+        ensures { (event : Self.Event)
+            → result ≡ table.is_missing self.now (whole entry.now event) };
 
     /// Adds what a line contains.
     fn add(&mut self, entry: Self::Entry) -> Self::Item
         requires valid { is_valid entry }
-        requires none_missing { (event : Self.Event) → table.is_missing self.old (whole entry event) ≡ false }
-        ensures consumed { (event : Self.Event) → table.taken self.old (whole entry event) ≡ line_of (item_meaning result self.new event) self.new }
+        requires none_missing { (event : Self.Event)
+            → table.is_missing self.old (whole entry event) ≡ false }
+        ensures consumed { (event : Self.Event) → table.taken self.old (whole entry event)
+            ≡ line_of (item_meaning result self.new event) self.new }
         ensures so { is_so result self.new };
 
     /// What the header says, and a line that is ignored.
     fn nothing() -> Self::Item
-        ensures item { (after : Self) (event : Self.Event) → item_meaning result after event ≡ table.nothing }
+        ensures item { (after : Self) (event : Self.Event) → item_meaning result after event
+            ≡ table.nothing }
         ensures so { (after : Self) → is_so result after };
 }
 
@@ -107,7 +112,8 @@ pub fn read_line<T: Text>(
     line: &[u8],
     event: &mut T::Event,
 ) -> Result<T::Item, LineFault>
-    ensures read { texts.read_line T.Word.row_of T.table text.old line.now ≡ line_result T.item_meaning result text.new event.new }
+    ensures read { texts.read_line T.Word.row_of T.table text.old line.now
+        ≡ line_result T.item_meaning result text.new event.new }
     ensures so { IfOk result (λ item. T.is_so item text.new) }
     ensures unchanged { OnErr result (text.new ≡ text.old) }
 {
@@ -119,7 +125,8 @@ pub fn read_line<T: Text>(
 
 /// Reads line 1.
 fn read_header<T: Text>(text: &mut T, line: &[u8]) -> Result<T::Item, LineFault>
-    ensures read { (event : T.Event) → read_first_line T.Word.row_of T.table (T.table.begun text.old line.now)
+    ensures read { (event : T.Event)
+        → read_first_line T.Word.row_of T.table (T.table.begun text.old line.now)
         ≡ line_result T.item_meaning result text.new event }
     ensures so { IfOk result (λ item. T.is_so item text.new) }
     ensures unchanged { OnErr result (text.new ≡ text.old) }
@@ -133,7 +140,8 @@ fn read_header<T: Text>(text: &mut T, line: &[u8]) -> Result<T::Item, LineFault>
 
 /// Reads a line after the first.
 fn read_body<T: Text>(text: &mut T, line: &[u8], event: &mut T::Event) -> Result<T::Item, LineFault>
-    ensures read { texts.read_body T.Word.row_of T.table text.old line.now ≡ line_result T.item_meaning result text.new event.new }
+    ensures read { texts.read_body T.Word.row_of T.table text.old line.now
+        ≡ line_result T.item_meaning result text.new event.new }
     ensures so { IfOk result (λ item. T.is_so item text.new) }
     ensures unchanged { OnErr result (text.new ≡ text.old) }
 {
@@ -153,7 +161,8 @@ fn read_words<T: Text>(
     line: &[u8],
     event: &mut T::Event,
 ) -> Result<T::Item, LineFault>
-    ensures read { read_words T.Word.row_of T.table text.old word (words line.now) ≡ line_result T.item_meaning result text.new event.new }
+    ensures read { read_words T.Word.row_of T.table text.old word (words line.now)
+        ≡ line_result T.item_meaning result text.new event.new }
     ensures so { IfOk result (λ item. T.is_so item text.new) }
     ensures unchanged { OnErr result (text.new ≡ text.old) }
 {
@@ -174,7 +183,8 @@ fn read_words<T: Text>(
 #[tactic(auto, unfolding(crate::specs::Texts::take))]
 fn take<T: Text>(text: &mut T, entry: T::Entry) -> Result<T::Item, LineFault>
     requires { T.is_valid entry }
-    ensures read { (event : T.Event) → texts.take T.Word.row_of T.table text.old (T.whole entry event)
+    ensures read { (event : T.Event)
+        → texts.take T.Word.row_of T.table text.old (T.whole entry event)
         ≡ line_result T.item_meaning result text.new event }
     ensures so { IfOk result (λ item. T.is_so item text.new) }
     ensures unchanged { OnErr result (text.new ≡ text.old) }
@@ -187,7 +197,8 @@ fn take<T: Text>(text: &mut T, entry: T::Entry) -> Result<T::Item, LineFault>
 
 /// The fault of what a line contains at its place: what came before is `Repeated`, also if it may not come here.
 fn fault_of<T: Text>(text: &T, entry: &T::Entry) -> Option<LineFault>
-    ensures { (event : T.Event) → result ≡ place_fault T.Word.row_of T.table text.now (T.whole entry.now event) }
+    ensures { (event : T.Event)
+        → result ≡ place_fault T.Word.row_of T.table text.now (T.whole entry.now event) }
 {
     if text.occurred_before(entry) {
         Some(LineFault::Repeated)

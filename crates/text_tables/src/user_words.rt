@@ -2,7 +2,8 @@
 
 ghost use Rattle.std.specs.Prelude.{◌≡◌, true, false, Some, map, string_bytes};
 ghost use Rattle.text_tables.specs.IsValidRow.{IsKey, IsName};
-ghost use Rattle.text_tables.specs.UserWords.{is_visible, is_name, is_key, user_named, with_named, users_named, users_until, read_as};
+ghost use Rattle.text_tables.specs.UserWords.{is_visible, is_name, is_key, user_named, with_named};
+ghost use Rattle.text_tables.specs.UserWords.{users_named, users_until, read_as};
 
 use crate::fields::{kind_of, name, octets, spells_kind, spells_octets};
 use crate::rows::{is_valid_for, is_within};
@@ -15,8 +16,10 @@ use octet_lists::MAX_NAME;
 /// the words before name were added then.
 #[tactic(auto, unfolding(crate::specs::UserWords::users_named, crate::specs::UserWords::users_until))]
 pub fn read_users(words: &[String], users: &mut Users) -> bool
-    ensures named { read_as result users.new ≡ users_named (Some users.old) (map string_bytes words.now) }
-    ensures added { users.new ≡ users_until users.old (Some users.old) (map string_bytes words.now) }
+    ensures named { read_as result users.new
+        ≡ users_named (Some users.old) (map string_bytes words.now) }
+    ensures added { users.new
+        ≡ users_until users.old (Some users.old) (map string_bytes words.now) }
 {
     match words.split_first() {
         None => true,
@@ -38,7 +41,8 @@ pub fn read_users(words: &[String], users: &mut Users) -> bool
 
 /// Adds the user that three words name.
 fn add_named(name: &[u8], kind: &[u8], key: &[u8], users: &mut Users) -> bool
-    ensures named { read_as result users.new ≡ with_named users.old (user_named name.now kind.now key.now) }
+    ensures named { read_as result users.new
+        ≡ with_named users.old (user_named name.now kind.now key.now) }
     ensures unchanged { result ≡ false → users.new ≡ users.old }
 {
     match user_named(name, kind, key) {

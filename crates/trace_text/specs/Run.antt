@@ -1,5 +1,6 @@
 -- The trace of a run: the lines of its start, of each event, and of its end.
-use Rattle.std.specs.Prelude.{ℕ, List, [], ◌∷◌, ◌++◌, length, Bool, true, false, ◌==◌, nat_le, if◌then◌else◌, Option, Some, None, codes, decimal, slice_index}
+use Rattle.std.specs.Prelude.{ℕ, List, [], ◌∷◌, ◌++◌, length, Bool, true, false, ◌==◌, nat_le}
+use Rattle.std.specs.Prelude.{if◌then◌else◌, Option, Some, None, codes, decimal, slice_index}
 use Rattle.std.specs.List.{concat}
 use Rattle.login_setup.specs.declared.setup.Mode.{Mode}
 use Rattle.login_setup.specs.declared.setup.Mode.TheVariants as mode
@@ -55,24 +56,29 @@ code_word code =
 
 -- the Type of a packet, if it has one
 abbrev pub type_text : List ℕ → List ℕ
-type_text octets = if nat_le (slice_index octets 0) 2 then concat (codes " type " ∷ decimal (slice_index octets 4) ∷ []) else []
+type_text octets = if nat_le (slice_index octets 0) 2
+    then concat (codes " type " ∷ decimal (slice_index octets 4) ∷ []) else []
 
 -- the line of the party that acted, with the states that it entered
 abbrev pub party_text : ℕ → Option Party → List State → List ℕ
 party_text event None path = []
-party_text event (Some party) path = concat (decimal event ∷ codes " " ∷ party_word party ∷ []) ++ path_text path
+party_text event (Some party) path =
+    concat (decimal event ∷ codes " " ∷ party_word party ∷ []) ++ path_text path
 
 -- the line of a packet that was sent, of these octets
 abbrev pub sent_text : ℕ → List ℕ → Option SentNumber → List ℕ
 sent_text event octets None = []
 sent_text event octets (Some sent) = concat (
-    decimal event ∷ codes " sent " ∷ decimal sent.number ∷ codes " to " ∷ port_word sent.port ∷ codes " " ∷
-    code_word (slice_index octets 0) ∷ codes " " ∷ decimal (slice_index octets 1) ∷ type_text octets ∷
+    decimal event ∷ codes " sent " ∷ decimal sent.number ∷ codes " to " ∷ port_word sent.port
+    ∷ codes " " ∷
+    code_word (slice_index octets 0) ∷ codes " " ∷ decimal (slice_index octets 1)
+    ∷ type_text octets ∷
     codes " length " ∷ decimal (length octets) ∷ codes "\n" ∷ [])
 
 -- the octets of a packet that was sent, which are only in a trace with names
 abbrev pub octets_line : ℕ → List ℕ → List ℕ
-octets_line event octets = concat (decimal event ∷ codes " octets " ∷ hex_text octets ∷ codes "\n" ∷ [])
+octets_line event octets =
+    concat (decimal event ∷ codes " octets " ∷ hex_text octets ∷ codes "\n" ∷ [])
 
 abbrev pub octets_text : Bool → ℕ → List ℕ → Option SentNumber → List ℕ
 octets_text names event octets None = []
@@ -81,10 +87,12 @@ octets_text names event octets (Some sent) = if names then octets_line event oct
 -- the names of the keys that a party first reports, which are only in a trace with names
 abbrev pub key_names_line : ℕ → List ℕ → List ℕ → List ℕ → List ℕ
 key_names_line event party msk emsk = concat (
-    decimal event ∷ codes " keys " ∷ party ∷ codes " msk " ∷ hex_text msk ∷ codes " emsk " ∷ hex_text emsk ∷ codes "\n" ∷ [])
+    decimal event ∷ codes " keys " ∷ party ∷ codes " msk " ∷ hex_text msk ∷ codes " emsk "
+    ∷ hex_text emsk ∷ codes "\n" ∷ [])
 
 abbrev pub keys_line : ℕ → Named → List ℕ
-keys_line event named = key_names_line event (party_word named.party) (key_name_of named.report.msk) (key_name_of named.report.emsk)
+keys_line event named = key_names_line event (party_word named.party) (key_name_of named.report.msk)
+    (key_name_of named.report.emsk)
 
 abbrev pub keys_text : Bool → ℕ → Option Named → List ℕ
 keys_text names event None = []
@@ -97,7 +105,8 @@ shown_text names octets told = sent_text told.event octets told.sent
 
 -- the lines of a result: a skipped event has one alone
 abbrev pub acted_text : Bool → List ℕ → Brief → List ℕ
-acted_text names octets told = party_text told.event told.party told.path ++ (cause_text told.event told.cause ++ shown_text names octets told)
+acted_text names octets told = party_text told.event told.party told.path
+    ++ (cause_text told.event told.cause ++ shown_text names octets told)
 
 -- the line of a skipped event
 abbrev pub skip_text : ℕ → Skip → List ℕ
@@ -107,8 +116,8 @@ abbrev pub told_by : Bool → List ℕ → Brief → Option Skip → List ℕ
 told_by names octets told (Some skip) = skip_text told.event skip
 told_by names octets told None = acted_text names octets told
 
--- the lines of an event, with the octets of packets and the names of keys or without; the packet that was
--- sent has these octets
+-- the lines of an event, with the octets of packets and the names of keys or without; the packet
+-- that was sent has these octets
 unfoldable pub told_text : Bool → List ℕ → Brief → List ℕ
 told_text names octets told = told_by names octets told told.skip
 
@@ -126,7 +135,8 @@ server_start_text mode.Alone = []
 server_start_text mode.Through = codes "0 server INITIALIZE\n"
 
 abbrev pub start_text : Mode → Bool → List ℕ → Brief → List ℕ
-start_text m names octets told = peer_start_text ++ (told_text names octets told ++ server_start_text m)
+start_text m names octets told =
+    peer_start_text ++ (told_text names octets told ++ server_start_text m)
 
 abbrev pub start_line_text : Bool → WorldOutcome → List ℕ
 start_line_text names out = start_text out.after.parties.mode names (result_octets out) out.told
@@ -141,7 +151,8 @@ pass_state_line None = []
 pass_state_line (Some state) = state_line (codes "state pass ") state
 
 abbrev pub end_state_text : State → Option State → State → List ℕ
-end_state_text peer pass server = state_line (codes "state peer ") peer ++ (pass_state_line pass ++ state_line (codes "state server ") server)
+end_state_text peer pass server = state_line (codes
+    "state peer ") peer ++ (pass_state_line pass ++ state_line (codes "state server ") server)
 
 -- how many events, deliveries and discards there were
 unfoldable pub counts_text : Counts → List ℕ
@@ -149,7 +160,8 @@ counts_text counts = concat (
     codes "events " ∷ decimal counts.events ∷ codes "\ndeliveries " ∷ decimal counts.deliveries ∷
     codes "\ndiscards " ∷ decimal counts.discards ∷ codes "\n" ∷ [])
 
--- whether each conversation began with a fresh nonce; version 1 has one conversation an end, and doesn't say it
+-- whether each conversation began with a fresh nonce; version 1 has one conversation an end, and
+-- doesn't say it
 abbrev pub freshness_shown : WorldNow → Option Bool
 freshness_shown w = if w.version == 2 then Some w.conversations.fresh else None
 
@@ -158,7 +170,8 @@ fresh_text None = []
 fresh_text (Some true) = codes "fresh yes\n"
 fresh_text (Some false) = codes "fresh no\n"
 
--- whether each accepted tag was made earlier by the other end, and else the event of the first that wasn't
+-- whether each accepted tag was made earlier by the other end, and else the event of the first that
+-- wasn't
 unfoldable pub tags_text : TagsVerdict → List ℕ
 tags_text tags.Honest = codes "tags honest\n"
 tags_text (tags.Broken event) = concat (codes "tags broken " ∷ decimal event ∷ codes "\n" ∷ [])
@@ -173,11 +186,13 @@ unfoldable pub result_text : Verdict → List ℕ
 result_text v = concat (codes "result " ∷ verdict_word v ∷ codes "\nend\n" ∷ [])
 
 -- the lines of the end
-unfoldable pub end_text_of : State → Option State → State → Counts → Option Bool → TagsVerdict → Verdict → List ℕ
+unfoldable pub end_text_of : State → Option State → State → Counts → Option Bool → TagsVerdict
+    → Verdict → List ℕ
 end_text_of peer pass server counts fresh tags verdict =
-    end_state_text peer pass server ++ (counts_text counts ++ (fresh_text fresh ++ (tags_text tags ++ result_text verdict)))
+    end_state_text peer pass server
+    ++ (counts_text counts ++ (fresh_text fresh ++ (tags_text tags ++ result_text verdict)))
 
 abbrev pub end_text : WorldNow → List ℕ
 end_text w =
-    end_text_of w.parties.peer.vars.state (pass_state w.parties.mode w.parties.pass) w.parties.server.vars.state
-    w.counts (freshness_shown w) (tags_verdict w.book) (verdict_of w)
+    end_text_of w.parties.peer.vars.state (pass_state w.parties.mode w.parties.pass)
+    w.parties.server.vars.state w.counts (freshness_shown w) (tags_verdict w.book) (verdict_of w)

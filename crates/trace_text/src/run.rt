@@ -5,9 +5,13 @@ ghost use Rattle.std.specs.Prelude.{◌≡◌, Some, slice_index, [], ◌∷◌,
 ghost use Rattle.std.specs.List.{concat};
 ghost use Rattle.answer_text.specs.Writes.{Appends, Puts};
 ghost use Rattle.trace_text.specs.Run.{party_word, port_word, skip_word, code_word, party_text};
-ghost use Rattle.trace_text.specs.Run.{sent_text, octets_text, key_names_line, keys_line, keys_text, acted_text, skip_text};
-ghost use Rattle.trace_text.specs.Run.{told_text, peer_start_text, server_start_text, start_text, end_state_text, counts_text, fresh_text, freshness_shown, tags_text, verdict_word};
-ghost use Rattle.trace_text.specs.Run.{result_text, end_text_of, end_text, pass_state_line, state_line};
+ghost use Rattle.trace_text.specs.Run.{sent_text, octets_text, key_names_line, keys_line};
+ghost use Rattle.trace_text.specs.Run.{keys_text, acted_text, skip_text};
+ghost use Rattle.trace_text.specs.Run.{told_text, peer_start_text, server_start_text, start_text};
+ghost use Rattle.trace_text.specs.Run.{end_state_text, counts_text, fresh_text, freshness_shown};
+ghost use Rattle.trace_text.specs.Run.{tags_text, verdict_word};
+ghost use Rattle.trace_text.specs.Run.{result_text, end_text_of, end_text, pass_state_line};
+ghost use Rattle.trace_text.specs.Run.{state_line};
 ghost use Rattle.eap_world.specs.World.{brief_of, now_of, packet_octets};
 
 use answer_text::Piece::{Hex, Leading, Line, Number, Text};
@@ -117,7 +121,8 @@ fn put_party<W: Sink>(
     party: Party,
     path: &[State],
 ) -> Result<(), Failed>
-    ensures { Puts W.shown result sink.old sink.new line.old line.new (party_text event (Some party) path.now) }
+    ensures { Puts W.shown result sink.old sink.new line.old line.new
+        (party_text event (Some party) path.now) }
 {
     put_head(sink, line, event, party)?;
     put_path(sink, line, path)
@@ -184,7 +189,8 @@ fn write_octets<W: Sink>(
     sent: &Option<SentNumber>,
     names: bool,
 ) -> Result<(), Failed>
-    ensures { Appends W.shown result sink.old sink.new (octets_text names event octets.now sent.now) }
+    ensures { Appends W.shown result sink.old sink.new
+        (octets_text names event octets.now sent.now) }
 {
     match sent {
         Some(_) if names => write_pieces(
@@ -216,7 +222,8 @@ fn write_key_names<'a, W: Sink>(
     msk: &'a [u8],
     emsk: &'a [u8],
 ) -> Result<(), Failed>
-    ensures { Appends W.shown result sink.old sink.new (key_names_line event party.now msk.now emsk.now) }
+    ensures { Appends W.shown result sink.old sink.new
+        (key_names_line event party.now msk.now emsk.now) }
 {
     write_pieces(
         sink,
@@ -297,7 +304,8 @@ fn write_skip<W: Sink>(sink: &mut W, event: u32, skip: Skip) -> Result<(), Faile
 
 /// Writes the lines of an event, as [`write_event_brief`], of a result that has its packet.
 pub fn write_told<W: Sink>(sink: &mut W, told: &Told, names: bool) -> Result<(), Failed>
-    ensures { Appends W.shown result sink.old sink.new (told_text names (packet_octets told.now.sent) (brief_of told.now)) }
+    ensures { Appends W.shown result sink.old sink.new
+        (told_text names (packet_octets told.now.sent) (brief_of told.now)) }
 {
     write_event_brief(sink, &brief_of(told), octets_sent(told), names)
 }
@@ -351,7 +359,8 @@ pub fn write_start<W: Sink>(
     told: &Told,
     names: bool,
 ) -> Result<(), Failed>
-    ensures { Appends W.shown result sink.old sink.new (start_text mode names (packet_octets told.now.sent) (brief_of told.now)) }
+    ensures { Appends W.shown result sink.old sink.new
+        (start_text mode names (packet_octets told.now.sent) (brief_of told.now)) }
 {
     write_start_brief(sink, mode, &brief_of(told), octets_sent(told), names)
 }
@@ -407,7 +416,8 @@ pub fn write_end_of<W: Sink>(
     tags: TagsVerdict,
     verdict: Verdict,
 ) -> Result<(), Failed>
-    ensures { Appends W.shown result sink.old sink.new (end_text_of peer pass server counts fresh tags verdict) }
+    ensures { Appends W.shown result sink.old sink.new
+        (end_text_of peer pass server counts fresh tags verdict) }
 {
     write_end_state(sink, peer, pass, server)?;
     write_counts(sink, counts)?;
@@ -529,7 +539,8 @@ pub fn write_end<W: Sink, P: PeerMethod, S: ServerMethod>(
     sink: &mut W,
     world: &World<P, S>,
 ) -> Result<(), Failed>
-    ensures { Appends W.shown result sink.old sink.new (end_text (now_of P.peer_shown S.server_shown world.now)) }
+    ensures { Appends W.shown result sink.old sink.new
+        (end_text (now_of P.peer_shown S.server_shown world.now)) }
 {
     write_end_of(
         sink,

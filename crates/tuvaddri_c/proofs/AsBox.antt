@@ -14,7 +14,13 @@ abbrev pub E : Bx
 E = record {
   row = session.the_row;
   laws = session_laws.the_row_laws;
-  al = record { row = heap.the_row; laws = heap_laws.the_row_laws; g = ghosts; d = dict; drops = impl [] tnil dnil };
+  al = record {
+    row = heap.the_row;
+    laws = heap_laws.the_row_laws;
+    g = ghosts;
+    d = dict;
+    drops = impl [] tnil dnil;
+  };
 }
 
 abbrev pub From : Slot 0

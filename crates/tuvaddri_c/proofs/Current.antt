@@ -12,34 +12,43 @@ use Rattle.peer_machine.specs.PeerTable as peer
 use Rattle.peer_machine.specs.PeerTable.{PeerValue}
 use Rattle.server_machine.specs.ServerTable as server
 use Rattle.server_machine.specs.ServerTable.{ServerValue}
-use Rattle.tuvaddri_c.specs.Ends.{nonces_of_peer, nonces_of_server, selected_shown_of, current_shown_of}
+use Rattle.tuvaddri_c.specs.Ends.{nonces_of_peer, nonces_of_server, selected_shown_of}
+use Rattle.tuvaddri_c.specs.Ends.{current_shown_of}
 use Rattle.tuvaddri_c.specs.Reports.{both, peer_stored, server_stored}
 
 nothing_stored : (report : Option Report) → both report None ≡ None
 nothing_stored None = refl
 nothing_stored (Some report) = refl
 
-peer_reported : (views : PeerViews) (selected : Option ℕ) → peer.selected_report views selected ≡ peers.reported (peer.selected_of views selected)
+peer_reported : (views : PeerViews) (selected : Option ℕ) → peer.selected_report views selected
+    ≡ peers.reported (peer.selected_of views selected)
 unfolding peers.peer_report_of
 peer_reported views None = refl
 peer_reported views (Some kind) = refl
 
-server_reported : (views : ServerViews) (current : Option ℕ) → server.current_report views current ≡ servers.reported (server.current_of views current)
+server_reported : (views : ServerViews) (current : Option ℕ) → server.current_report views current
+    ≡ servers.reported (server.current_of views current)
 unfolding servers.server_report_of
 server_reported views None = refl
 server_reported views (Some kind) = refl
 
 pub of_peer : (m : PeerValue PeerObject) (seen : Option PeerShown) → seen ≡ selected_shown_of m
-    → ((shown : PeerShown) → seen ≡ Some shown → peer.selected_view (peer.now_of peer_object_shown m) ≡ Some shown)
-    → both (peer.peer_reports (peer.now_of peer_object_shown m)) (nonces_of_peer (selected_shown_of m)) ≡ peer_stored seen
-of_peer m None selected view = rw (sym selected) (nothing_stored (peer.peer_reports (peer.now_of peer_object_shown m)))
+    → ((shown : PeerShown) → seen ≡ Some shown
+    → peer.selected_view (peer.now_of peer_object_shown m) ≡ Some shown)
+    → both (peer.peer_reports (peer.now_of peer_object_shown m)) (nonces_of_peer
+    (selected_shown_of m)) ≡ peer_stored seen
+of_peer m None selected view =
+    rw (sym selected) (nothing_stored (peer.peer_reports (peer.now_of peer_object_shown m)))
 of_peer m (Some shown) selected view =
     let now = peer.now_of peer_object_shown m in
     rw (sym selected, peer_reported now.views now.vars.selected, view shown refl) refl
 
-pub of_server : (m : ServerValue ServerObject) (seen : Option ServerShown) → seen ≡ current_shown_of m
-    → both (server.server_reports (server.now_of server_object_shown m)) (nonces_of_server (current_shown_of m)) ≡ server_stored seen
-of_server m None current = rw (sym current) (nothing_stored (server.server_reports (server.now_of server_object_shown m)))
+pub of_server : (m : ServerValue ServerObject) (seen : Option ServerShown)
+    → seen ≡ current_shown_of m
+    → both (server.server_reports (server.now_of server_object_shown m)) (nonces_of_server
+    (current_shown_of m)) ≡ server_stored seen
+of_server m None current =
+    rw (sym current) (nothing_stored (server.server_reports (server.now_of server_object_shown m)))
 of_server m (Some shown) current =
     let now = server.now_of server_object_shown m in
     rw (server_reported now.views now.vars.current, sym current) refl

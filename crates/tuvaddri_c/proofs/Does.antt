@@ -34,51 +34,73 @@ sends_so true p = refl
 sends_so false p = refl
 
 says_so : (step : brief.Step) (packet : List ℕ) (s : State)
-    → turn_of step s ≡ record (turn_of step s) { sends = is_some (if step.sends then Some packet else None) }
-says_so step packet s = ap (λ (b : Bool). record (turn_of step s) { sends = b }) (sym (sends_so step.sends packet))
+    → turn_of step s
+    ≡ record (turn_of step s) { sends = is_some (if step.sends then Some packet else None) }
+says_so step packet s =
+    ap (λ (b : Bool). record (turn_of step s) { sends = b }) (sym (sends_so step.sends packet))
 
-pub peer_does : (row : PeerAnswer) (step : brief.Step) (packet : List ℕ) (tags : Tags) (after : PeerValue PeerObject) (before sent : Sent)
+pub peer_does : (row : PeerAnswer) (step : brief.Step) (packet : List ℕ) (tags : Tags)
+    (after : PeerValue PeerObject) (before sent : Sent)
     → row ≡ peer.answer (step_with step packet tags) (peer.now_of peer_object_shown after)
     → sent ≡ after_turn (if step.sends then Some packet else None) before
     → PeerDoes row before (turn_of step after.vars.state) sent after
-peer_does row step packet tags after before sent e s = subst (λ (r : PeerAnswer). PeerDoes r before (turn_of step after.vars.state) sent after) (sym e)
+peer_does row step packet tags after before sent e s =
+    subst (λ (r : PeerAnswer). PeerDoes r before (turn_of step after.vars.state) sent after) (sym e)
     (record { turn_is = says_so step packet after.vars.state; sent_is = s; machine = refl })
 
-pub server_does : (row : ServerAnswer) (step : brief.Step) (packet : List ℕ) (tags : Tags) (after : ServerValue ServerObject) (before sent : Sent)
+pub server_does : (row : ServerAnswer) (step : brief.Step) (packet : List ℕ) (tags : Tags)
+    (after : ServerValue ServerObject) (before sent : Sent)
     → row ≡ server.answer (step_with step packet tags) (server.now_of server_object_shown after)
     → sent ≡ after_turn (if step.sends then Some packet else None) before
     → ServerDoes row before (turn_of step after.vars.state) sent after
-server_does row step packet tags after before sent e s = subst (λ (r : ServerAnswer). ServerDoes r before (turn_of step after.vars.state) sent after) (sym e)
+server_does row step packet tags after before sent e s = subst (λ (r : ServerAnswer).
+    ServerDoes r before (turn_of step after.vars.state) sent after) (sym e)
     (record { turn_is = says_so step packet after.vars.state; sent_is = s; machine = refl })
 
-pub pass_does : (to : Side) (row : PassAnswer) (step : brief.Step) (packet : List ℕ) (after : PassVariables) (before sent : Sent)
+pub pass_does : (to : Side) (row : PassAnswer) (step : brief.Step) (packet : List ℕ)
+    (after : PassVariables) (before sent : Sent)
     → row ≡ pass.answer (step_to to step packet) after
     → sent ≡ after_turn (if step.sends then Some packet else None) before
     → PassDoes row before (turn_of step after.state) sent after
-pass_does to row step packet after before sent e s = subst (λ (r : PassAnswer). PassDoes r before (turn_of step after.state) sent after) (sym e)
+pass_does to row step packet after before sent e s =
+    subst (λ (r : PassAnswer). PassDoes r before (turn_of step after.state) sent after) (sym e)
     (record { turn_is = says_so step packet after.state; sent_is = s; machine = refl })
 
 -- a method's turn sends the packet that it wrote, where it says so
-peer_replies : (b : peer_briefs.PeerAnswer) (packet : List ℕ) (tags : Tags) (after : PeerObject) (before sent : Sent)
+peer_replies : (b : peer_briefs.PeerAnswer) (packet : List ℕ) (tags : Tags) (after : PeerObject)
+    (before sent : Sent)
     → sent ≡ after_turn (if (peer_brief b).sends then Some packet else None) before
-    → PeerTurns (record { turn = peer_turn_with b packet tags; after = peer_object_shown after }) before (peer_brief b) sent after
-peer_replies (peer_answer.Discard c) packet tags after before sent s = record { turn_is = refl; sent_is = s; object = refl }
-peer_replies (peer_answer.Reply m d) packet tags after before sent s = record { turn_is = refl; sent_is = s; object = refl }
+    → PeerTurns (record { turn = peer_turn_with b packet tags; after = peer_object_shown after })
+    before (peer_brief b) sent after
+peer_replies (peer_answer.Discard c) packet tags after before sent s =
+    record { turn_is = refl; sent_is = s; object = refl }
+peer_replies (peer_answer.Reply m d) packet tags after before sent s =
+    record { turn_is = refl; sent_is = s; object = refl }
 
-pub peer_turns : (out : PeerOutcome PeerShown) (b : peer_briefs.PeerAnswer) (packet : List ℕ) (tags : Tags) (after : PeerObject) (before sent : Sent)
+pub peer_turns : (out : PeerOutcome PeerShown) (b : peer_briefs.PeerAnswer) (packet : List ℕ)
+    (tags : Tags) (after : PeerObject) (before sent : Sent)
     → out ≡ record { turn = peer_turn_with b packet tags; after = peer_object_shown after }
     → sent ≡ after_turn (if (peer_brief b).sends then Some packet else None) before
     → PeerTurns out before (peer_brief b) sent after
 peer_turns out b packet tags after before sent e s =
-    subst (λ (o : PeerOutcome PeerShown). PeerTurns o before (peer_brief b) sent after) (sym e) (peer_replies b packet tags after before sent s)
+    subst (λ (o : PeerOutcome PeerShown). PeerTurns o before (peer_brief b) sent after) (sym e)
+    (peer_replies b packet tags after before sent s)
 
-server_asks : (b : server_briefs.ServerAnswer) (packet : List ℕ) (tags : Tags) (after : ServerObject) (before sent : Sent)
+server_asks : (b : server_briefs.ServerAnswer) (packet : List ℕ) (tags : Tags)
+    (after : ServerObject) (before sent : Sent)
     → sent ≡ after_turn (if (server_brief b).sends then Some packet else None) before
-    → ServerTurns (record { turn = server_turn_with b packet tags; after = server_object_shown after }) before (server_brief b) sent after
-server_asks (server_answer.Discard c) packet tags after before sent s = record { turn_is = refl; sent_is = s; object = refl }
-server_asks server_answer.Request packet tags after before sent s = record { turn_is = refl; sent_is = s; object = refl }
-server_asks (server_answer.Done true) packet tags after before sent s = record { turn_is = refl; sent_is = s; object = refl }
-server_asks (server_answer.Done false) packet tags after before sent s = record { turn_is = refl; sent_is = s; object = refl }
+    → ServerTurns (record {
+      turn = server_turn_with b packet tags;
+      after = server_object_shown after;
+    }) before (server_brief b) sent after
+server_asks (server_answer.Discard c) packet tags after before sent s =
+    record { turn_is = refl; sent_is = s; object = refl }
+server_asks server_answer.Request packet tags after before sent s =
+    record { turn_is = refl; sent_is = s; object = refl }
+server_asks (server_answer.Done true) packet tags after before sent s =
+    record { turn_is = refl; sent_is = s; object = refl }
+server_asks (server_answer.Done false) packet tags after before sent s =
+    record { turn_is = refl; sent_is = s; object = refl }
 
 pub server_turns : (out : ServerOutcome ServerShown) (b : server_briefs.ServerAnswer)
     (packet : List ℕ) (tags : Tags) (after : ServerObject) (before sent : Sent)
@@ -86,4 +108,5 @@ pub server_turns : (out : ServerOutcome ServerShown) (b : server_briefs.ServerAn
     → sent ≡ after_turn (if (server_brief b).sends then Some packet else None) before
     → ServerTurns out before (server_brief b) sent after
 server_turns out b packet tags after before sent e s =
-    subst (λ (o : ServerOutcome ServerShown). ServerTurns o before (server_brief b) sent after) (sym e) (server_asks b packet tags after before sent s)
+    subst (λ (o : ServerOutcome ServerShown). ServerTurns o before (server_brief b) sent after)
+    (sym e) (server_asks b packet tags after before sent s)

@@ -6,6 +6,7 @@ use Rattle.end_objects.specs.Refusals.{server_refusal}
 use Rattle.end_objects.specs.Settings.{SettingsValue, side_of, server_setup_of}
 use Rattle.end_objects.proofs.Taken.{alone_is_sound}
 
-pub side_has_suites : (told : SettingsValue) → server_refusal told ≡ None → IsTrue (are_suites (side_of told).suites)
+pub side_has_suites : (told : SettingsValue) → server_refusal told ≡ None
+    → IsTrue (are_suites (side_of told).suites)
 unfolding side_of server_setup_of
 side_has_suites told none = (alone_is_sound told [] none).suites

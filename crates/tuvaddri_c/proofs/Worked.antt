@@ -15,7 +15,8 @@ use Rattle.tuvaddri_c.specs.Reports.{EndReport}
 
 -- ID_P of a PSK-2 with padding behind it, and none in a PSK-1 that claims to be a Response
 psk2 : List ℕ
-psk2 = 2 ∷ 7 ∷ 0 ∷ 59 ∷ 47 ∷ 64 ∷ replicate 16 1 ++ replicate 16 2 ++ replicate 16 3 ++ codes "alice" ++ 0 ∷ 0 ∷ []
+psk2 = 2 ∷ 7 ∷ 0 ∷ 59 ∷ 47 ∷ 64
+    ∷ replicate 16 1 ++ replicate 16 2 ++ replicate 16 3 ++ codes "alice" ++ 0 ∷ 0 ∷ []
 
 named_by_psk2 : response_name psk2 ≡ Some (codes "alice")
 unfolding psk2 packet_of fault read_of
@@ -30,7 +31,8 @@ unnamed_by_psk1 = refl
 
 -- the same PSK-2 in Type 254 (RFC 3748 section 5.7)
 expanded_psk2 : List ℕ
-expanded_psk2 = 2 ∷ 7 ∷ 0 ∷ 66 ∷ 254 ∷ 0 ∷ 0 ∷ 0 ∷ 0 ∷ 0 ∷ 0 ∷ 47 ∷ 64 ∷ replicate 16 1 ++ replicate 16 2 ++ replicate 16 3 ++ codes "alice"
+expanded_psk2 = 2 ∷ 7 ∷ 0 ∷ 66 ∷ 254 ∷ 0 ∷ 0 ∷ 0 ∷ 0 ∷ 0 ∷ 0 ∷ 47 ∷ 64
+    ∷ replicate 16 1 ++ replicate 16 2 ++ replicate 16 3 ++ codes "alice"
 
 named_by_expanded_psk2 : response_name expanded_psk2 ≡ Some (codes "alice")
 unfolding expanded_psk2 packet_of fault spelled read_of
@@ -38,13 +40,26 @@ named_by_expanded_psk2 = refl
 
 -- a login of alice at srv by EAP-PSK, and one by EAP-GPSK
 report : ℕ → ℕ → Report
-report method suite = record { method = method; id_p = codes "alice"; id_s = codes "srv"; suite = suite; msk = []; emsk = [] }
+report method suite = record {
+  method = method;
+  id_p = codes "alice";
+  id_s = codes "srv";
+  suite = suite;
+  msk = [];
+  emsk = [];
+}
 
 by_psk : EndReport
-by_psk = record { report = report 47 0; nonces = record { peer = replicate 16 1; server = replicate 16 2 } }
+by_psk = record {
+  report = report 47 0;
+  nonces = record { peer = replicate 16 1; server = replicate 16 2 };
+}
 
 by_gpsk : EndReport
-by_gpsk = record { report = report 51 1; nonces = record { peer = replicate 32 1; server = replicate 32 2 } }
+by_gpsk = record {
+  report = report 51 1;
+  nonces = record { peer = replicate 32 1; server = replicate 32 2 };
+}
 
 psk_row : session_id_of_report zeros by_psk ≡ Some (0x2f ∷ replicate 16 1 ++ replicate 16 2)
 unfolding by_psk report
@@ -59,15 +74,18 @@ gpsk_row : session_id_of_report zeros by_gpsk ≡ Some (0x33 ∷ gkdf Cmac 16 (r
 unfolding by_gpsk report told
 gpsk_row = refl
 
-gpsk_row_wpa : session_id_of_report (front_of (Some (replicate 48 7))) by_gpsk ≡ Some (0x33 ∷ gkdf Cmac 16 (replicate 16 7) told)
+gpsk_row_wpa : session_id_of_report (front_of (Some (replicate 48 7))) by_gpsk
+    ≡ Some (0x33 ∷ gkdf Cmac 16 (replicate 16 7) told)
 unfolding by_gpsk report told
 gpsk_row_wpa = refl
 
 -- a GPSK-Fail for Authentication Failure, and one of an unknown code
 fail_row : sent_code (2 ∷ 9 ∷ 0 ∷ 10 ∷ 51 ∷ 5 ∷ 0 ∷ 0 ∷ 0 ∷ 2 ∷ []) ≡ 2
-unfolding packet_of fault gpsk.read_of gpsk.loose_of gpsk.fields_at gpsk.fail_at gpsk.code_at gpsk.exact_at gpsk.and_then
+unfolding packet_of fault gpsk.read_of gpsk.loose_of gpsk.fields_at gpsk.fail_at gpsk.code_at
+    gpsk.exact_at gpsk.and_then
 fail_row = refl
 
 unknown_row : sent_code (2 ∷ 9 ∷ 0 ∷ 10 ∷ 51 ∷ 5 ∷ 1 ∷ 0 ∷ 0 ∷ 2 ∷ []) ≡ 0
-unfolding packet_of fault gpsk.read_of gpsk.loose_of gpsk.fields_at gpsk.fail_at gpsk.code_at gpsk.exact_at gpsk.and_then
+unfolding packet_of fault gpsk.read_of gpsk.loose_of gpsk.fields_at gpsk.fail_at gpsk.code_at
+    gpsk.exact_at gpsk.and_then
 unknown_row = refl

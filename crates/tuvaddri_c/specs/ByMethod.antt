@@ -1,5 +1,6 @@
--- What each method has its own of: a view that has just begun, the peer's name and the Failure-Code in a Response, the
--- Failure-Code that a server sends, and the Session-Id of a login (RFC 5247 section 1.4).
+-- What each method has its own of: a view that has just begun, the peer's name and the Failure-Code
+-- in a Response, the Failure-Code that a server sends, and the Session-Id of a login (RFC 5247
+-- section 1.4).
 use Rattle.std.specs.Prelude.{ℕ, List, ◌==◌, if◌then◌else◌, Option, None}
 use Rattle.octet_lists.specs.Among.{psk_kind, gpsk_kind}
 use Rattle.octet_lists.specs.Suite.{suite_numbered}
@@ -22,11 +23,13 @@ use Rattle.tuvaddri_c.specs.Gpsk.{gpsk_name, repeated_code, suited_id}
 
 -- a peer's method that has just begun
 abbrev pub peer_fresh : ℕ → Credential → List ℕ → PeerShown
-peer_fresh kind cred nonce = if kind == psk_kind then peer.psk (psk_peer.fresh cred nonce) else peer.gpsk (gpsk_peer.fresh cred nonce)
+peer_fresh kind cred nonce = if kind == psk_kind then peer.psk (psk_peer.fresh cred nonce)
+    else peer.gpsk (gpsk_peer.fresh cred nonce)
 
 -- a server's method that has just begun
 abbrev pub server_fresh : ℕ → ServerSide → List ℕ → ServerShown
-server_fresh kind own nonce = if kind == psk_kind then server.psk (psk_server.begun own nonce) else server.gpsk (gpsk_server.begun own nonce)
+server_fresh kind own nonce = if kind == psk_kind then server.psk (psk_server.begun own nonce)
+    else server.gpsk (gpsk_server.begun own nonce)
 
 -- the peer's name in a Response
 abbrev pub name_by : ℕ → List ℕ → Option (List ℕ)
@@ -37,7 +40,8 @@ name_by kind body =
 
 -- the Failure-Code in a Response, by EAP-GPSK
 abbrev pub repeated_by : ℕ → List ℕ → ℕ
-repeated_by kind body = if kind == gpsk_kind then repeated_code (gpsk_reading.read_of None body) else 0
+repeated_by kind body =
+    if kind == gpsk_kind then repeated_code (gpsk_reading.read_of None body) else 0
 
 -- the Failure-Code that a server sends by EAP-GPSK; none by EAP-PSK
 abbrev pub code_by : ℕ → ℕ → ℕ

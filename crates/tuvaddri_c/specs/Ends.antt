@@ -6,11 +6,13 @@ use Rattle.eap_method.specs.Server.{ServerShown, server_report, server_kinds}
 use Rattle.eap_method.specs.Steps.{is_end}
 use Rattle.peer_machine.specs.PeerTable.{PeerValue, peer_reports, selected_shown}
 use Rattle.peer_machine.specs.PeerTable as peer
-use Rattle.server_machine.specs.ServerTable.{ServerValue, server_reports, current_view, is_ready, is_started, is_backend}
+use Rattle.server_machine.specs.ServerTable.{ServerValue, server_reports, current_view, is_ready}
+use Rattle.server_machine.specs.ServerTable.{is_started, is_backend}
 use Rattle.server_machine.specs.ServerTable as server
 use Rattle.pass_through.specs.PassTable as pass
 use Rattle.pass_through.specs.declared.variables.PassVariables.{PassVariables}
-use Rattle.end_objects.specs.Objects.{peer_object_shown, server_object_shown, peer_nonces, server_nonces}
+use Rattle.end_objects.specs.Objects.{peer_object_shown, server_object_shown, peer_nonces}
+use Rattle.end_objects.specs.Objects.{server_nonces}
 use Rattle.end_objects.specs.declared.objects.Nonces.{Nonces}
 use Rattle.end_objects.specs.declared.objects.PeerObject.{PeerObject}
 use Rattle.end_objects.specs.declared.objects.ServerObject.{ServerObject}
@@ -51,11 +53,17 @@ AsPass e P = elim e [ ends.Pass m ↦ P m | _ ↦ ⊥ ]
 
 -- whether octets may come: to a peer, to a backend, and to a server that has started
 abbrev pub receives_octets : End → Bool
-receives_octets e = elim e [ ends.Peer m ↦ true | ends.Server m ↦ is_ready m.vars | ends.Backend m ↦ true | _ ↦ false ]
+receives_octets e = elim e [
+  | ends.Peer m ↦ true
+  | ends.Server m ↦ is_ready m.vars
+  | ends.Backend m ↦ true
+  | _ ↦ false
+]
 
 -- whether Responses may come: to a backend, and to a server that has started
 abbrev pub receives_responses : End → Bool
-receives_responses e = elim e [ ends.Server m ↦ is_ready m.vars | ends.Backend m ↦ true | _ ↦ false ]
+receives_responses e =
+    elim e [ ends.Server m ↦ is_ready m.vars | ends.Backend m ↦ true | _ ↦ false ]
 
 -- whether the end is a peer
 abbrev pub is_peer : End → Bool
@@ -71,7 +79,8 @@ is_running_peer e = elim e [ ends.Peer m ↦ not (is_end m.vars.state) | _ ↦ f
 
 -- whether a server may start: it has not yet
 abbrev pub can_start : End → Bool
-can_start e = elim e [ ends.Server m ↦ not (is_started m.vars) && not (is_backend m.vars) | _ ↦ false ]
+can_start e =
+    elim e [ ends.Server m ↦ not (is_started m.vars) && not (is_backend m.vars) | _ ↦ false ]
 
 -- whether a server's retransmission timer runs
 abbrev pub has_timer : End → Bool
@@ -82,21 +91,32 @@ abbrev pub peer_has_objects : PeerValue PeerObject → Bool
 peer_has_objects m = have_each (peer_kinds (map peer_object_shown m.methods)) m.vars.setup.methods
 
 abbrev pub server_has_objects : ServerValue ServerObject → Bool
-server_has_objects m = have_each (server_kinds (map server_object_shown m.methods)) m.vars.setup.methods
+server_has_objects m =
+    have_each (server_kinds (map server_object_shown m.methods)) m.vars.setup.methods
 
--- whether an end may begin a new conversation: a peer, a stand-alone server, also before its start, or a backend
+-- whether an end may begin a new conversation: a peer, a stand-alone server, also before its start,
+-- or a backend
 abbrev pub can_restart : End → Bool
-can_restart e = elim e [ ends.Peer m ↦ peer_has_objects m | ends.Server m ↦ server_has_objects m | ends.Backend m ↦ server_has_objects m | _ ↦ false ]
+can_restart e = elim e [
+  | ends.Peer m ↦ peer_has_objects m
+  | ends.Server m ↦ server_has_objects m
+  | ends.Backend m ↦ server_has_objects m
+  | _ ↦ false
+]
 
 -- the same of a peer alone; of a server alone
 abbrev pub can_restart_peer : End → Bool
 can_restart_peer e = elim e [ ends.Peer m ↦ peer_has_objects m | _ ↦ false ]
 
 abbrev pub can_restart_server : End → Bool
-can_restart_server e = elim e [ ends.Server m ↦ server_has_objects m | ends.Backend m ↦ server_has_objects m | _ ↦ false ]
+can_restart_server e = elim e [
+  | ends.Server m ↦ server_has_objects m
+  | ends.Backend m ↦ server_has_objects m
+  | _ ↦ false
+]
 
--- whether the end is a pass-through; one that may start; one whose retransmission timer runs; one that waits for the
--- backend
+-- whether the end is a pass-through; one that may start; one whose retransmission timer runs; one
+-- that waits for the backend
 abbrev pub is_pass : End → Bool
 is_pass e = elim e [ ends.Pass m ↦ true | _ ↦ false ]
 

@@ -6,7 +6,8 @@ use Rattle.eap_packet.specs.declared.state.State.TheVariants as state
 use Rattle.eap_packet.specs.Packet.{PacketValue, response}
 use Rattle.eap_method.specs.Peer.{PeerShown}
 use Rattle.eap_method.specs.Server.{ServerShown, server_kind}
-use Rattle.end_objects.specs.Objects.{peer_object_shown, server_object_shown, peer_has_failed, is_unknown, server_has_failed}
+use Rattle.end_objects.specs.Objects.{peer_object_shown, server_object_shown, peer_has_failed}
+use Rattle.end_objects.specs.Objects.{is_unknown, server_has_failed}
 use Rattle.tuvaddri_c.specs.declared.failure.TuvFailure.{TuvFailure}
 use Rattle.tuvaddri_c.specs.declared.session.End.{End}
 use Rattle.tuvaddri_c.specs.declared.session.End.TheVariants as ends
@@ -18,8 +19,9 @@ use Rattle.tuvaddri_c.specs.PeerName.{plain_packet_of}
 abbrev pub failing : ℕ → ℕ → TuvFailure
 failing reason code = record { reason = reason; code = code }
 
--- the reasons: it has not failed; the server doesn't know the user; it has barred him, or the peer has said that it
--- fails; a peer was refused within the method; no method in common; a Request was never answered; it was ended
+-- the reasons: it has not failed; the server doesn't know the user; it has barred him, or the peer
+-- has said that it fails; a peer was refused within the method; no method in common; a Request was
+-- never answered; it was ended
 abbrev pub not_failed : TuvFailure
 not_failed = failing 0 0
 
@@ -53,7 +55,8 @@ sent_code octets = code_in (plain_packet_of octets)
 -- a peer: the server has refused it within the method; else this
 abbrev pub peer_failure : Option PeerShown → List ℕ → TuvFailure → TuvFailure
 peer_failure None sent other = other
-peer_failure (Some shown) sent other = if peer_has_failed shown then refusal (sent_code sent) else other
+peer_failure (Some shown) sent other =
+    if peer_has_failed shown then refusal (sent_code sent) else other
 
 -- a peer in FAILURE, without a method or with one
 abbrev pub with_method : Option PeerShown → TuvFailure
@@ -75,17 +78,26 @@ server_failure None other = other
 server_failure (Some shown) other = shown_failure shown other
 
 abbrev pub server_ended : State → TuvFailure
-server_ended s = elim s [ state.TimeoutFailure ↦ timed_out | state.Failure ↦ no_method | _ ↦ not_failed ]
+server_ended s =
+    elim s [ state.TimeoutFailure ↦ timed_out | state.Failure ↦ no_method | _ ↦ not_failed ]
 
 abbrev pub pass_ended : State → TuvFailure
-pass_ended s = elim s [ state.TimeoutFailure ↦ timed_out | state.TimeoutFailure2 ↦ timed_out | state.Failure2 ↦ other_end | _ ↦ not_failed ]
+pass_ended s = elim s [
+  | state.TimeoutFailure ↦ timed_out
+  | state.TimeoutFailure2 ↦ timed_out
+  | state.Failure2 ↦ other_end
+  | _ ↦ not_failed
+]
 
 -- why the login of an end, which has sent this packet last, has failed
 abbrev pub end_failure : End → List ℕ → TuvFailure
 end_failure ends.Closed sent = not_failed
-end_failure (ends.PeerMethod object key) sent = peer_failure (Some (peer_object_shown object)) sent not_failed
-end_failure (ends.ServerMethod object known) sent = shown_failure (server_object_shown object) not_failed
-end_failure (ends.Peer m) sent = peer_failure (selected_shown_of m) sent (peer_ended m.vars.state (selected_shown_of m))
+end_failure (ends.PeerMethod object key) sent =
+    peer_failure (Some (peer_object_shown object)) sent not_failed
+end_failure (ends.ServerMethod object known) sent =
+    shown_failure (server_object_shown object) not_failed
+end_failure (ends.Peer m) sent =
+    peer_failure (selected_shown_of m) sent (peer_ended m.vars.state (selected_shown_of m))
 end_failure (ends.Server m) sent = server_failure (current_shown_of m) (server_ended m.vars.state)
 end_failure (ends.Backend m) sent = server_failure (current_shown_of m) (server_ended m.vars.state)
 end_failure (ends.Pass m) sent = pass_ended m.state

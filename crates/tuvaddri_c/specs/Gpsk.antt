@@ -1,6 +1,7 @@
--- What is of EAP-GPSK alone: the peer's name and the Failure-Code in a Response, the shared key, and the Session-Id of a
--- login (RFC 5247 section 1.4).
-use Rattle.std.specs.Prelude.{ℕ, List, length, take, replicate, nat_lt, nat_le, if◌then◌else◌, Option, Some, None, option_map, Result, Ok}
+-- What is of EAP-GPSK alone: the peer's name and the Failure-Code in a Response, the shared key,
+-- and the Session-Id of a login (RFC 5247 section 1.4).
+use Rattle.std.specs.Prelude.{ℕ, List, length, take, replicate, nat_lt, nat_le, if◌then◌else◌}
+use Rattle.std.specs.Prelude.{Option, Some, None, option_map, Result, Ok}
 use Rattle.octet_lists.specs.Among.{gpsk_kind}
 use Rattle.octet_lists.specs.Suite.{ks_of}
 use Rattle.octet_lists.specs.declared.suite.Suite.{Suite}
@@ -44,7 +45,8 @@ end_key (ends.Pass m) name = None
 
 -- EAP-GPSK's Session-Id
 abbrev pub gpsk_session_id : Suite → List ℕ → EndReport → List ℕ
-gpsk_session_id suite key held = gpsk_id suite key (input_string held.nonces.peer held.report.id_p held.nonces.server held.report.id_s)
+gpsk_session_id suite key held = gpsk_id suite key
+    (input_string held.nonces.peer held.report.id_p held.nonces.server held.report.id_s)
 
 -- the key that the standard uses: KS octets of zero
 abbrev pub zeros : Suite → Option (List ℕ)
@@ -53,7 +55,8 @@ zeros suite = Some (replicate (ks_of suite) 0)
 -- the key that wpa_supplicant and hostapd 2.10 use: the first KS octets of the shared key
 abbrev pub front_of : Option (List ℕ) → Suite → Option (List ℕ)
 front_of None suite = None
-front_of (Some psk) suite = if nat_lt (length psk) (ks_of suite) then None else Some (take (ks_of suite) psk)
+front_of (Some psk) suite =
+    if nat_lt (length psk) (ks_of suite) then None else Some (take (ks_of suite) psk)
 
 -- the Session-Id, if there are a suite and a key
 abbrev pub keyed_id : Suite → EndReport → Option (List ℕ) → Option (List ℕ)

@@ -1,5 +1,6 @@
 -- The methods alone: which one a session has, and the result of a call of it, as numbers.
-use Rattle.std.specs.Prelude.{◌≡◌, ℕ, List, Bool, true, false, ⊤, ◌==◌, if◌then◌else◌, Option, Some, None, Result, Ok, Err}
+use Rattle.std.specs.Prelude.{◌≡◌, ℕ, List, Bool, true, false, ⊤, ◌==◌, if◌then◌else◌, Option, Some}
+use Rattle.std.specs.Prelude.{None, Result, Ok, Err}
 use Rattle.eap_packet.specs.Packet.{PacketValue, request, response, success, failure, spelled}
 use Rattle.eap_packet.specs.declared.cause.Cause.{Cause}
 use Rattle.eap_packet.specs.declared.cause.Cause.TheVariants as cause
@@ -61,15 +62,36 @@ decision_number decision.UncondSucc = 2
 
 -- a call that has no place
 abbrev pub no_method_turn : TuvMethodTurn
-no_method_turn = record { sends = false; discards = false; misplaced = true; cause = 0; state = 0; decision = 0 }
+no_method_turn = record {
+  sends = false;
+  discards = false;
+  misplaced = true;
+  cause = 0;
+  state = 0;
+  decision = 0;
+}
 
 -- what came is discarded
 abbrev pub discarding : Cause → TuvMethodTurn
-discarding c = record { sends = false; discards = true; misplaced = false; cause = cause_number c; state = 0; decision = 0 }
+discarding c = record {
+  sends = false;
+  discards = true;
+  misplaced = false;
+  cause = cause_number c;
+  state = 0;
+  decision = 0;
+}
 
 -- what came is taken, and a packet is sent or not, with this methodState and decision
 abbrev pub taking : Bool → ℕ → ℕ → TuvMethodTurn
-taking sends m d = record { sends = sends; discards = false; misplaced = false; cause = 0; state = m; decision = d }
+taking sends m d = record {
+  sends = sends;
+  discards = false;
+  misplaced = false;
+  cause = 0;
+  state = m;
+  decision = d;
+}
 
 -- a packet is sent, with this methodState and decision
 abbrev pub replying : ℕ → ℕ → TuvMethodTurn
@@ -85,7 +107,8 @@ pub record IsMisplaced (before : Session) (turn : TuvMethodTurn) (after : Sessio
   pub same : after ≡ session_after_silence before
 
 -- what came is discarded, and changes nothing
-pub record IsDiscarded (c : Cause) (before : Session) (turn : TuvMethodTurn) (after : Session) : Type 0 where
+pub record IsDiscarded (c : Cause) (before : Session) (turn : TuvMethodTurn)
+    (after : Session) : Type 0 where
   pub turn_is : turn ≡ discarding c
   pub same : after ≡ session_after_silence before
 
@@ -99,7 +122,8 @@ abbrev pub reply_of : PeerTurn → Option (List ℕ)
 reply_of (peer_turn.Discard c) = None
 reply_of (peer_turn.Reply packet m d tags) = Some packet
 
--- the result of a server's turn: methodState CONT (2) or DONE (4), and decision FAIL (0) or UNCOND_SUCC (2)
+-- the result of a server's turn: methodState CONT (2) or DONE (4), and decision FAIL (0) or
+-- UNCOND_SUCC (2)
 abbrev pub server_result : ServerTurn → TuvMethodTurn
 server_result (server_turn.Discard c) = discarding c
 server_result (server_turn.Request packet tags) = replying 2 0
@@ -123,12 +147,14 @@ server_brief (server_answer.Done true) = method_done 2
 server_brief (server_answer.Done false) = method_done 0
 
 -- the call does what the method's definition says
-pub record PeerTurns (out : PeerOutcome PeerShown) (before : Sent) (turn : TuvMethodTurn) (sent : Sent) (after : PeerObject) : Type 0 where
+pub record PeerTurns (out : PeerOutcome PeerShown) (before : Sent) (turn : TuvMethodTurn)
+    (sent : Sent) (after : PeerObject) : Type 0 where
   pub turn_is : turn ≡ peer_result out.turn
   pub sent_is : sent ≡ after_turn (reply_of out.turn) before
   pub object : out.after ≡ peer_object_shown after
 
-pub record ServerTurns (out : ServerOutcome ServerShown) (before : Sent) (turn : TuvMethodTurn) (sent : Sent) (after : ServerObject) : Type 0 where
+pub record ServerTurns (out : ServerOutcome ServerShown) (before : Sent) (turn : TuvMethodTurn)
+    (sent : Sent) (after : ServerObject) : Type 0 where
   pub turn_is : turn ≡ server_result out.turn
   pub sent_is : sent ≡ after_turn (request_of out.turn) before
   pub object : out.after ≡ server_object_shown after
@@ -136,7 +162,8 @@ pub record ServerTurns (out : ServerOutcome ServerShown) (before : Sent) (turn :
 -- the octets of the Request of this Type with which octets begin, or why they are discarded
 abbrev pub request_in : ℕ → Result PacketValue Cause → Result (List ℕ) Cause
 request_in kind (Err c) = Err c
-request_in kind (Ok (request id other body)) = if other == kind then Ok (spelled (request id other body)) else Err cause.OtherMethod
+request_in kind (Ok (request id other body)) =
+    if other == kind then Ok (spelled (request id other body)) else Err cause.OtherMethod
 request_in kind (Ok (response id other body)) = Err cause.WrongRole
 request_in kind (Ok (success id)) = Err cause.WrongRole
 request_in kind (Ok (failure id)) = Err cause.WrongRole
@@ -145,7 +172,8 @@ request_in kind (Ok (failure id)) = Err cause.WrongRole
 abbrev pub response_in : ℕ → Result PacketValue Cause → Result (List ℕ) Cause
 response_in kind (Err c) = Err c
 response_in kind (Ok (request id other body)) = Err cause.WrongRole
-response_in kind (Ok (response id other body)) = if other == kind then Ok (spelled (response id other body)) else Err cause.WrongMethod
+response_in kind (Ok (response id other body)) =
+    if other == kind then Ok (spelled (response id other body)) else Err cause.WrongMethod
 response_in kind (Ok (success id)) = Err cause.WrongRole
 response_in kind (Ok (failure id)) = Err cause.WrongRole
 

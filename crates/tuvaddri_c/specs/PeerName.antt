@@ -8,7 +8,10 @@ use Rattle.tuvaddri_c.specs.ByMethod.{name_by}
 
 -- the packet that octets begin with, in its plain form (RFC 3748 section 5.7)
 abbrev pub plain_packet_of : List ℕ → Result PacketValue Cause
-plain_packet_of octets = elim (packet_of octets) [ Ok packet ↦ packet_of (plain_octets octets packet) | Err cause ↦ Err cause ]
+plain_packet_of octets = elim (packet_of octets) [
+  | Ok packet ↦ packet_of (plain_octets octets packet)
+  | Err cause ↦ Err cause
+]
 
 -- the name that a packet of the peer gives
 abbrev pub name_in : Result PacketValue Cause → Option (List ℕ)

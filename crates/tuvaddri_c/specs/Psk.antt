@@ -1,5 +1,6 @@
 -- What is of EAP-PSK alone: the peer's name in a Response, and the Session-Id of a login.
-use Rattle.std.specs.Prelude.{ℕ, List, length, nat_le, if◌then◌else◌, Option, Some, None, Result, Ok}
+use Rattle.std.specs.Prelude.{ℕ, List, length, nat_le, if◌then◌else◌, Option, Some, None, Result}
+use Rattle.std.specs.Prelude.{Ok}
 use Rattle.eap_packet.specs.declared.cause.Cause.{Cause}
 use Rattle.psk_messages.specs.Message.{Message, psk2}
 use Rattle.login_keys.specs.SessionId.{psk_id}

@@ -3,7 +3,8 @@ use Rattle.std.specs.Prelude.{◌≡◌, ◌++◌, ℕ, length, drop, Option, So
 use Rattle.eap_method.specs.Peer.{PeerShown, peer_report}
 use Rattle.eap_method.specs.Server.{ServerShown, server_report}
 use Rattle.eap_method.specs.declared.values.Report.{Report}
-use Rattle.end_objects.specs.Objects.{peer_object_shown, server_object_shown, peer_nonces, server_nonces}
+use Rattle.end_objects.specs.Objects.{peer_object_shown, server_object_shown, peer_nonces}
+use Rattle.end_objects.specs.Objects.{server_nonces}
 use Rattle.end_objects.specs.declared.objects.Nonces.{Nonces}
 use Rattle.tuvaddri_c.specs.Ends.{end_reports, end_nonces, is_at_peer}
 use Rattle.tuvaddri_c.specs.declared.held.Object.{Object}
@@ -70,5 +71,7 @@ pub record IsReport (held : EndReport) (before : TuvReport) (told : TuvReport) :
   pub msk : told.msk ≡ held.report.msk
   pub emsk : told.emsk ≡ held.report.emsk
   pub rand_length : told.rand_length ≡ length held.nonces.peer
-  pub peer_rand : told.peer_rand ≡ held.nonces.peer ++ drop (length held.nonces.peer) before.peer_rand
-  pub server_rand : told.server_rand ≡ held.nonces.server ++ drop (length held.nonces.server) before.server_rand
+  pub peer_rand : told.peer_rand
+      ≡ held.nonces.peer ++ drop (length held.nonces.peer) before.peer_rand
+  pub server_rand : told.server_rand
+      ≡ held.nonces.server ++ drop (length held.nonces.server) before.server_rand

@@ -14,4 +14,5 @@ abbrev pub session_id : End → Option (List ℕ)
 session_id e = if_stored (end_stored e) (session_id_of_report zeros)
 
 abbrev pub session_id_wpa : End → Option (List ℕ)
-session_id_wpa e = if_stored (end_stored e) (λ held. session_id_of_report (front_of (end_key e held.report.id_p)) held)
+session_id_wpa e = if_stored (end_stored e)
+    (λ held. session_id_of_report (front_of (end_key e held.report.id_p)) held)

@@ -1,4 +1,5 @@
--- The states in which an end stands between two calls (RFC 4137 sections 4 to 7): all others it passes through within one.
+-- The states in which an end stands between two calls (RFC 4137 sections 4 to 7): all others it
+-- passes through within one.
 use Rattle.std.specs.Prelude.{Bool, true, false}
 use Rattle.eap_packet.specs.declared.state.State.{State}
 use Rattle.eap_packet.specs.declared.state.State.TheVariants as state
@@ -7,7 +8,8 @@ use Rattle.tuvaddri_c.specs.declared.session.End.TheVariants as ends
 
 -- a peer waits for a packet, or has ended
 abbrev pub peer_settled : State → Bool
-peer_settled s = elim s [ state.Idle ↦ true | state.Success ↦ true | state.Failure ↦ true | _ ↦ false ]
+peer_settled s =
+    elim s [ state.Idle ↦ true | state.Success ↦ true | state.Failure ↦ true | _ ↦ false ]
 
 -- a server has not started, waits for a Response, or has ended
 abbrev pub server_settled : State → Bool

@@ -111,31 +111,48 @@ pub record IsMisplaced (before : Session) (turn : TuvTurn) (after : Session) : T
 -- the result of a step, as the machine says it
 abbrev pub turn_of : brief.Step → State → TuvTurn
 turn_of step s =
-    record { sends = step.sends; discards = is_some step.cause; misplaced = false; cause = number_of_cause step.cause; state = state_number s }
+    record {
+      sends = step.sends;
+      discards = is_some step.cause;
+      misplaced = false;
+      cause = number_of_cause step.cause;
+      state = state_number s;
+    }
 
 -- the result of a step of a table
 abbrev pub turn_of_table : Step → State → TuvTurn
 turn_of_table step s =
-    record { sends = is_some step.sent; discards = is_some step.cause; misplaced = false; cause = number_of_cause step.cause; state = state_number s }
+    record {
+      sends = is_some step.sent;
+      discards = is_some step.cause;
+      misplaced = false;
+      cause = number_of_cause step.cause;
+      state = state_number s;
+    }
 
--- the call answers what the peer's table says, sends the packet that it says, and leaves the machine after it
-pub record PeerDoes (row : PeerAnswer) (before : Sent) (turn : TuvTurn) (sent : Sent) (after : PeerValue PeerObject) : Type 0 where
+-- the call answers what the peer's table says, sends the packet that it says, and leaves the
+-- machine after it
+pub record PeerDoes (row : PeerAnswer) (before : Sent) (turn : TuvTurn) (sent : Sent)
+    (after : PeerValue PeerObject) : Type 0 where
   pub turn_is : turn ≡ turn_of_table row.step row.after.vars.state
   pub sent_is : sent ≡ after_turn row.step.sent before
   pub machine : row.after ≡ peer.now_of peer_object_shown after
 
 -- the same of a server's
-pub record ServerDoes (row : ServerAnswer) (before : Sent) (turn : TuvTurn) (sent : Sent) (after : ServerValue ServerObject) : Type 0 where
+pub record ServerDoes (row : ServerAnswer) (before : Sent) (turn : TuvTurn) (sent : Sent)
+    (after : ServerValue ServerObject) : Type 0 where
   pub turn_is : turn ≡ turn_of_table row.step row.after.vars.state
   pub sent_is : sent ≡ after_turn row.step.sent before
   pub machine : row.after ≡ server.now_of server_object_shown after
 
 -- the result of a step of the pass-through, whichever side it sends to
 abbrev pub pass_result : PassStep → State → TuvTurn
-pass_result step s = turn_of_table (record { path = step.path; cause = step.cause; sent = step.sent; tags = no_tags }) s
+pass_result step s = turn_of_table
+    (record { path = step.path; cause = step.cause; sent = step.sent; tags = no_tags }) s
 
 -- the same of a pass-through's
-pub record PassDoes (row : PassAnswer) (before : Sent) (turn : TuvTurn) (sent : Sent) (after : PassVariables) : Type 0 where
+pub record PassDoes (row : PassAnswer) (before : Sent) (turn : TuvTurn) (sent : Sent)
+    (after : PassVariables) : Type 0 where
   pub turn_is : turn ≡ pass_result row.step row.after.state
   pub sent_is : sent ≡ after_turn row.step.sent before
   pub machine : row.after ≡ after

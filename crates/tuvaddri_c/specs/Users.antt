@@ -19,6 +19,8 @@ abbrev pub has_key_for : SettingsValue → ServerObject → Bool
 has_key_for told object = is_among (keyed_kinds told) (server_kind (server_object_shown object))
 
 -- a server's method accepts the user, if there is a key for it
-pub record AcceptsUser (told : SettingsValue) (object : ServerObject) (answer : ℕ) (after : End) : Type 0 where
+pub record AcceptsUser (told : SettingsValue) (object : ServerObject) (answer : ℕ)
+    (after : End) : Type 0 where
   pub answer_is : answer ≡ (if has_key_for told object then begun else bad_key)
-  pub taken : has_key_for told object ≡ true → AsServerMethod after (λ n known. (n ≡ object) × (known.users ≡ users_of told))
+  pub taken : has_key_for told object ≡ true
+      → AsServerMethod after (λ n known. (n ≡ object) × (known.users ≡ users_of told))

@@ -55,7 +55,8 @@ pub fn code_by(kind: u8, code: u8) -> u8
 pub fn add_users<M: HasUsers>(machine: &mut M, settings: &Settings)
     requires none { (M.seen machine.old).vars.setup.users ≡ [] }
     requires other { IsSoundOther (settings_of settings.now) }
-    ensures { M.seen machine.new ≡ with_users (M.seen machine.old) (users_of (settings_of settings.now)) }
+    ensures { M.seen machine.new
+        ≡ with_users (M.seen machine.old) (users_of (settings_of settings.now)) }
 {
     match (settings.other, settings.gpsk_key, settings.psk_key) {
         ([], _, _) => {}
@@ -71,7 +72,8 @@ pub fn add_users<M: HasUsers>(machine: &mut M, settings: &Settings)
 
 /// As the standard defines it: EAP-GPSK's key is KS octets of zero.
 pub fn standard_id(held: &Report, nonces: &Nonces) -> Option<SessionId>
-    ensures { result ≡ session_id_of_report zeros (record { report = held.now; nonces = nonces.now }) }
+    ensures { result
+        ≡ session_id_of_report zeros (record { report = held.now; nonces = nonces.now }) }
 {
     if held.method == PSK_KIND {
         psk_id(nonces)
@@ -85,7 +87,8 @@ pub fn standard_id(held: &Report, nonces: &Nonces) -> Option<SessionId>
 
 /// As wpa_supplicant and hostapd derive it: EAP-GPSK's key is the first KS octets of the shared key.
 pub fn keyed_id(held: &Report, nonces: &Nonces, key: &Option<Secret>) -> Option<SessionId>
-    ensures { result ≡ session_id_of_report (front_of key.now) (record { report = held.now; nonces = nonces.now }) }
+    ensures { result ≡ session_id_of_report (front_of
+        key.now) (record { report = held.now; nonces = nonces.now }) }
 {
     if held.method == PSK_KIND {
         psk_id(nonces)

@@ -8,7 +8,8 @@ ghost use Rattle.server_machine.specs.Expanded.{server_receives};
 ghost use Rattle.server_machine.specs.ServerTable.{is_ready};
 ghost use Rattle.server_machine.specs.ServerTable as server;
 ghost use Rattle.end_objects.specs.Objects.{peer_object_shown, server_object_shown};
-ghost use Rattle.tuvaddri_c.specs.Ends.{IfPeer, AsPeer, IfServer, AsServer, IfBackend, AsBackend, is_peer, receives_responses, receives_octets, can_restart};
+ghost use Rattle.tuvaddri_c.specs.Ends.{IfPeer, AsPeer, IfServer, AsServer, IfBackend, AsBackend};
+ghost use Rattle.tuvaddri_c.specs.Ends.{is_peer, receives_responses, receives_octets, can_restart};
 ghost use Rattle.tuvaddri_c.specs.Settled.{is_settled};
 ghost use Rattle.tuvaddri_c.specs.Turns.{PeerDoes, ServerDoes, IsMisplaced};
 
@@ -23,8 +24,10 @@ use octet_lists::Packet;
 #[inline(never)]
 fn deliver_to_peer(session: &mut Session, octets: &[u8]) -> TuvTurn
     ensures peer { IfPeer session.old.end (λ m. AsPeer session.new.end (λ n.
-        PeerDoes (peer_receives (peer.now_of peer_object_shown m) octets.now) session.old.sent result session.new.sent n)) }
-    ensures misplaced { is_peer session.old.end ≡ false → IsMisplaced session.old result session.new }
+        PeerDoes (peer_receives (peer.now_of peer_object_shown m) octets.now)
+        session.old.sent result session.new.sent n)) }
+    ensures misplaced { is_peer session.old.end ≡ false
+        → IsMisplaced session.old result session.new }
     ensures objects { can_restart session.old.end ≡ true → can_restart session.new.end ≡ true }
     ensures settled { is_settled session.old.end ≡ true → is_settled session.new.end ≡ true }
 {
@@ -43,11 +46,15 @@ fn deliver_to_peer(session: &mut Session, octets: &[u8]) -> TuvTurn
 #[tactic(auto, using(crate::proofs::Does::server_does, crate::proofs::TwoRecords::server_preserved))]
 #[inline(never)]
 fn deliver_to_server(session: &mut Session, octets: &[u8]) -> TuvTurn
-    ensures server { IfServer session.old.end (λ m. is_ready m.vars ≡ true → AsServer session.new.end (λ n.
-        ServerDoes (server_receives (server.now_of server_object_shown m) octets.now) session.old.sent result session.new.sent n)) }
+    ensures server { IfServer session.old.end
+        (λ m. is_ready m.vars ≡ true → AsServer session.new.end (λ n.
+        ServerDoes (server_receives (server.now_of server_object_shown m) octets.now)
+        session.old.sent result session.new.sent n)) }
     ensures backend { IfBackend session.old.end (λ m. AsBackend session.new.end (λ n.
-        ServerDoes (server_receives (server.now_of server_object_shown m) octets.now) session.old.sent result session.new.sent n)) }
-    ensures misplaced { receives_responses session.old.end ≡ false → IsMisplaced session.old result session.new }
+        ServerDoes (server_receives (server.now_of server_object_shown m) octets.now)
+        session.old.sent result session.new.sent n)) }
+    ensures misplaced { receives_responses session.old.end ≡ false
+        → IsMisplaced session.old result session.new }
     ensures objects { can_restart session.old.end ≡ true → can_restart session.new.end ≡ true }
     ensures settled { is_settled session.old.end ≡ true → is_settled session.new.end ≡ true }
 {
@@ -70,8 +77,10 @@ fn deliver_to_server(session: &mut Session, octets: &[u8]) -> TuvTurn
 #[unsafe(no_mangle)]
 pub extern "C" fn tuv_peer_deliver(end: &mut TuvEnd, octets: &[u8]) -> TuvTurn
     ensures peer { IfPeer end.old.value.end (λ m. AsPeer end.new.value.end (λ n.
-        PeerDoes (peer_receives (peer.now_of peer_object_shown m) octets.now) end.old.value.sent result end.new.value.sent n)) }
-    ensures misplaced { is_peer end.old.value.end ≡ false → IsMisplaced end.old.value result end.new.value }
+        PeerDoes (peer_receives (peer.now_of peer_object_shown m) octets.now)
+        end.old.value.sent result end.new.value.sent n)) }
+    ensures misplaced { is_peer end.old.value.end ≡ false
+        → IsMisplaced end.old.value result end.new.value }
     ensures objects { can_restart end.old.value.end ≡ true → can_restart end.new.value.end ≡ true }
     ensures settled { is_settled end.old.value.end ≡ true → is_settled end.new.value.end ≡ true }
 {
@@ -81,11 +90,15 @@ pub extern "C" fn tuv_peer_deliver(end: &mut TuvEnd, octets: &[u8]) -> TuvTurn
 /// Octets arrive at a stand-alone server that has started, or a backend.
 #[unsafe(no_mangle)]
 pub extern "C" fn tuv_server_deliver(end: &mut TuvEnd, octets: &[u8]) -> TuvTurn
-    ensures server { IfServer end.old.value.end (λ m. is_ready m.vars ≡ true → AsServer end.new.value.end (λ n.
-        ServerDoes (server_receives (server.now_of server_object_shown m) octets.now) end.old.value.sent result end.new.value.sent n)) }
+    ensures server { IfServer end.old.value.end
+        (λ m. is_ready m.vars ≡ true → AsServer end.new.value.end (λ n.
+        ServerDoes (server_receives (server.now_of server_object_shown m) octets.now)
+        end.old.value.sent result end.new.value.sent n)) }
     ensures backend { IfBackend end.old.value.end (λ m. AsBackend end.new.value.end (λ n.
-        ServerDoes (server_receives (server.now_of server_object_shown m) octets.now) end.old.value.sent result end.new.value.sent n)) }
-    ensures misplaced { receives_responses end.old.value.end ≡ false → IsMisplaced end.old.value result end.new.value }
+        ServerDoes (server_receives (server.now_of server_object_shown m) octets.now)
+        end.old.value.sent result end.new.value.sent n)) }
+    ensures misplaced { receives_responses end.old.value.end ≡ false
+        → IsMisplaced end.old.value result end.new.value }
     ensures objects { can_restart end.old.value.end ≡ true → can_restart end.new.value.end ≡ true }
     ensures settled { is_settled end.old.value.end ≡ true → is_settled end.new.value.end ≡ true }
 {
@@ -96,12 +109,17 @@ pub extern "C" fn tuv_server_deliver(end: &mut TuvEnd, octets: &[u8]) -> TuvTurn
 #[unsafe(no_mangle)]
 pub extern "C" fn tuv_end_deliver(end: &mut TuvEnd, octets: &[u8]) -> TuvTurn
     ensures peer { IfPeer end.old.value.end (λ m. AsPeer end.new.value.end (λ n.
-        PeerDoes (peer_receives (peer.now_of peer_object_shown m) octets.now) end.old.value.sent result end.new.value.sent n)) }
-    ensures server { IfServer end.old.value.end (λ m. is_ready m.vars ≡ true → AsServer end.new.value.end (λ n.
-        ServerDoes (server_receives (server.now_of server_object_shown m) octets.now) end.old.value.sent result end.new.value.sent n)) }
+        PeerDoes (peer_receives (peer.now_of peer_object_shown m) octets.now)
+        end.old.value.sent result end.new.value.sent n)) }
+    ensures server { IfServer end.old.value.end
+        (λ m. is_ready m.vars ≡ true → AsServer end.new.value.end (λ n.
+        ServerDoes (server_receives (server.now_of server_object_shown m) octets.now)
+        end.old.value.sent result end.new.value.sent n)) }
     ensures backend { IfBackend end.old.value.end (λ m. AsBackend end.new.value.end (λ n.
-        ServerDoes (server_receives (server.now_of server_object_shown m) octets.now) end.old.value.sent result end.new.value.sent n)) }
-    ensures misplaced { receives_octets end.old.value.end ≡ false → IsMisplaced end.old.value result end.new.value }
+        ServerDoes (server_receives (server.now_of server_object_shown m) octets.now)
+        end.old.value.sent result end.new.value.sent n)) }
+    ensures misplaced { receives_octets end.old.value.end ≡ false
+        → IsMisplaced end.old.value result end.new.value }
     ensures objects { can_restart end.old.value.end ≡ true → can_restart end.new.value.end ≡ true }
     ensures settled { is_settled end.old.value.end ≡ true → is_settled end.new.value.end ≡ true }
 {

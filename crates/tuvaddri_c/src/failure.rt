@@ -3,7 +3,9 @@
 ghost use Rattle.std.specs.Prelude.{◌≡◌, option_map};
 ghost use Rattle.eap_packet.specs.Fault.{packet_of};
 ghost use Rattle.end_objects.specs.Objects.{peer_object_shown, server_object_shown};
-ghost use Rattle.tuvaddri_c.specs.Failures.{failing, code_in, sent_code, peer_failure, peer_ended, shown_failure, server_failure, server_ended, pass_ended, end_failure};
+ghost use Rattle.tuvaddri_c.specs.Failures.{failing, code_in, sent_code, peer_failure, peer_ended};
+ghost use Rattle.tuvaddri_c.specs.Failures.{shown_failure, server_failure, server_ended};
+ghost use Rattle.tuvaddri_c.specs.Failures.{pass_ended, end_failure};
 
 use crate::by_method::{code_by, repeated_by};
 use crate::handle::TuvEnd;
@@ -64,7 +66,8 @@ fn sent_code(octets: &[u8]) -> u8
 
 /// A peer with this object of its method: the server has refused it, else this.
 fn peer_failure(object: Option<&PeerObject>, sent: &[u8], other: TuvFailure) -> TuvFailure
-    ensures { result ≡ peer_failure (option_map (λ o. peer_object_shown o.now) object.entry) sent.now other }
+    ensures { result
+        ≡ peer_failure (option_map (λ o. peer_object_shown o.now) object.entry) sent.now other }
 {
     match object {
         None => other,
@@ -115,7 +118,8 @@ fn shown_failure(object: &ServerObject, other: TuvFailure) -> TuvFailure
 
 /// A server with this object of its current method.
 fn server_failure(object: Option<&ServerObject>, other: TuvFailure) -> TuvFailure
-    ensures { result ≡ server_failure (option_map (λ o. server_object_shown o.now) object.entry) other }
+    ensures { result
+        ≡ server_failure (option_map (λ o. server_object_shown o.now) object.entry) other }
 {
     match object {
         None => other,

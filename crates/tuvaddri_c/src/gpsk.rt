@@ -5,7 +5,8 @@ ghost use Rattle.std.specs.Prelude.{◌≡◌, ◌≤◌, length, Some, None, If
 ghost use Rattle.octet_lists.specs.Sizes.{max_name};
 ghost use Rattle.octet_lists.specs.Suite.{ks_of};
 ghost use Rattle.gpsk_messages.specs.Reading.{read_of};
-ghost use Rattle.tuvaddri_c.specs.Gpsk.{gpsk_name, known_code, repeated_code, key_in, end_key, front_of, gpsk_session_id, keyed_id};
+ghost use Rattle.tuvaddri_c.specs.Gpsk.{gpsk_name, known_code, repeated_code, key_in, end_key};
+ghost use Rattle.tuvaddri_c.specs.Gpsk.{front_of, gpsk_session_id, keyed_id};
 
 use crate::session::End;
 use crate::session_id::SessionId;
@@ -79,7 +80,8 @@ pub fn key_of(end: &End, name: &[u8]) -> Option<Secret>
 /// The Session-Id (RFC 5433 section 4): the Type and the Method-ID.
 pub fn gpsk_id(suite: Suite, key: &[u8], held: &Report, nonces: &Nonces) -> SessionId
     requires { length key.now ≡ ks_of suite }
-    ensures { result ≡ gpsk_session_id suite key.now (record { report = held.now; nonces = nonces.now }) }
+    ensures { result
+        ≡ gpsk_session_id suite key.now (record { report = held.now; nonces = nonces.now }) }
 {
     let selected = suite.octets();
     let method_id = gkdf(
@@ -103,7 +105,8 @@ pub fn gpsk_id(suite: Suite, key: &[u8], held: &Report, nonces: &Nonces) -> Sess
 
 /// The same by the first KS octets of a shared key.
 pub fn front_id(suite: Suite, psk: &[u8], held: &Report, nonces: &Nonces) -> Option<SessionId>
-    ensures { result ≡ keyed_id suite (record { report = held.now; nonces = nonces.now }) (front_of (Some psk.now) suite) }
+    ensures { result ≡ keyed_id suite (record { report = held.now; nonces = nonces.now }) (front_of
+        (Some psk.now) suite) }
 {
     if psk.len() < suite.ks() {
         None

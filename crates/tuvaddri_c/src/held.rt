@@ -2,7 +2,8 @@
 
 ghost use Rattle.std.specs.Prelude.{◌≡◌, option_map};
 ghost use Rattle.end_objects.specs.Objects.{peer_object_shown, server_object_shown};
-ghost use Rattle.tuvaddri_c.specs.Reports.{peer_stored, server_stored, end_stored, stored_at_peer, stored_at_server, object_stored};
+ghost use Rattle.tuvaddri_c.specs.Reports.{peer_stored, server_stored, end_stored, stored_at_peer};
+ghost use Rattle.tuvaddri_c.specs.Reports.{stored_at_server, object_stored};
 
 use crate::session::End;
 use eap_method::{PeerMethod, Report, ServerMethod};
@@ -45,7 +46,8 @@ impl Object<'_> {
 
 /// The object of a peer's selected method.
 fn of_peer<'a>(selected: Option<&'a PeerObject>) -> Object<'a>
-    ensures { object_stored result ≡ peer_stored (option_map (λ o. peer_object_shown o.now) selected.entry) }
+    ensures { object_stored result
+        ≡ peer_stored (option_map (λ o. peer_object_shown o.now) selected.entry) }
 {
     match selected {
         None => Object::None,
@@ -55,7 +57,8 @@ fn of_peer<'a>(selected: Option<&'a PeerObject>) -> Object<'a>
 
 /// The object of a server's current method.
 fn of_server<'a>(current: Option<&'a ServerObject>) -> Object<'a>
-    ensures { object_stored result ≡ server_stored (option_map (λ o. server_object_shown o.now) current.entry) }
+    ensures { object_stored result
+        ≡ server_stored (option_map (λ o. server_object_shown o.now) current.entry) }
 {
     match current {
         None => Object::None,
@@ -80,7 +83,8 @@ pub fn object_of<'a>(end: &'a End) -> Object<'a>
 
 /// The object that an end on the peer's side has.
 pub fn peer_object_of<'a>(end: &'a End) -> Option<&'a PeerObject>
-    ensures { peer_stored (option_map (λ o. peer_object_shown o.now) result) ≡ stored_at_peer end.now }
+    ensures { peer_stored (option_map (λ o. peer_object_shown o.now) result)
+        ≡ stored_at_peer end.now }
 {
     match end {
         End::PeerMethod(object, _) => Some(object),
@@ -91,7 +95,8 @@ pub fn peer_object_of<'a>(end: &'a End) -> Option<&'a PeerObject>
 
 /// The object that an end on the server's side has.
 pub fn server_object_of<'a>(end: &'a End) -> Option<&'a ServerObject>
-    ensures { server_stored (option_map (λ o. server_object_shown o.now) result) ≡ stored_at_server end.now }
+    ensures { server_stored (option_map (λ o. server_object_shown o.now) result)
+        ≡ stored_at_server end.now }
 {
     match end {
         End::ServerMethod(object, _) => Some(object),

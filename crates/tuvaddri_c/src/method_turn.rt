@@ -2,7 +2,8 @@
 
 ghost use Rattle.std.specs.Prelude.{◌≡◌};
 ghost use Rattle.tuvaddri_c.specs.Sent.{after_silence};
-ghost use Rattle.tuvaddri_c.specs.Methods.{no_method_turn, discarding, taking, peer_brief, server_brief, method_number, decision_number};
+ghost use Rattle.tuvaddri_c.specs.Methods.{no_method_turn, discarding, taking, peer_brief};
+ghost use Rattle.tuvaddri_c.specs.Methods.{server_brief, method_number, decision_number};
 
 use crate::session::Sent;
 use crate::turn::number_of_cause;

@@ -6,12 +6,16 @@ ghost use Rattle.eap_method.specs.Peer.{peer_kind, peer_step, IsRequest};
 ghost use Rattle.eap_method.specs.Server.{server_kind, server_step, server_first_step, IsResponse};
 ghost use Rattle.end_objects.specs.Objects.{peer_object_shown, server_object_shown};
 ghost use Rattle.end_objects.specs.Refusals.{IsSoundOther, peer_refusal, server_refusal};
-ghost use Rattle.end_objects.specs.Settings.{settings_of, first_kind, users_of, credential_of, side_of};
+ghost use Rattle.end_objects.specs.Settings.{settings_of, first_kind, users_of, credential_of};
+ghost use Rattle.end_objects.specs.Settings.{side_of};
 ghost use Rattle.tuvaddri_c.specs.Answers.{begun, refusal_number};
 ghost use Rattle.tuvaddri_c.specs.ByMethod.{peer_fresh, server_fresh};
 ghost use Rattle.tuvaddri_c.specs.Sent.{none_sent};
 ghost use Rattle.tuvaddri_c.specs.declared.session.End.TheVariants as ends;
-ghost use Rattle.tuvaddri_c.specs.Methods.{IfPeerMethod, AsPeerMethod, IfServerMethod, AsServerMethod, PeerTurns, ServerTurns, request_in, response_in, is_peer_method, is_server_method, IsMisplaced, IsDiscarded};
+ghost use Rattle.tuvaddri_c.specs.Methods.{IfPeerMethod, AsPeerMethod, IfServerMethod};
+ghost use Rattle.tuvaddri_c.specs.Methods.{AsServerMethod, PeerTurns, ServerTurns, request_in};
+ghost use Rattle.tuvaddri_c.specs.Methods.{response_in, is_peer_method, is_server_method};
+ghost use Rattle.tuvaddri_c.specs.Methods.{IsMisplaced, IsDiscarded};
 
 use crate::answers::{STARTED, number_of_refusal};
 use crate::handle::TuvEnd;
@@ -39,10 +43,13 @@ fn store_peer(end: &mut End, object: PeerObject, key: Secret)
 #[unsafe(no_mangle)]
 #[tactic(auto, using(crate::proofs::Fresh::peer_is_fresh))]
 pub extern "C" fn tuv_peer_method_begin(end: &mut TuvEnd, settings: &Settings, nonce: &Nonce) -> u8
-    ensures refused { IfSome (peer_refusal (settings_of settings.now)) (λ reason. result ≡ refusal_number reason) }
+    ensures refused { IfSome (peer_refusal (settings_of settings.now))
+        (λ reason. result ≡ refusal_number reason) }
     ensures started { peer_refusal (settings_of settings.now) ≡ None → result ≡ begun }
-    ensures initial { result ≡ begun → AsPeerMethod end.new.value.end (λ n key. (key ≡ (credential_of (settings_of settings.now)).psk)
-        × (peer_object_shown n ≡ peer_fresh (first_kind (settings_of settings.now)) (credential_of (settings_of settings.now)) nonce.now)) }
+    ensures initial { result ≡ begun → AsPeerMethod end.new.value.end (λ n key.
+        (key ≡ (credential_of (settings_of settings.now)).psk)
+        × (peer_object_shown n ≡ peer_fresh (first_kind (settings_of settings.now)) (credential_of
+        (settings_of settings.now)) nonce.now)) }
     ensures sent { result ≡ begun → end.new.value.sent ≡ none_sent }
     ensures unchanged { (result ≡ begun → ⊥) → end.new.value ≡ end.old.value }
 {
@@ -80,12 +87,16 @@ fn request_of<'a>(octets: &'a [u8], kind: u8) -> Result<&'a [u8], Cause>
 #[unsafe(no_mangle)]
 #[tactic(auto, using(crate::proofs::Does::peer_turns))]
 pub extern "C" fn tuv_peer_method_handle(end: &mut TuvEnd, octets: &[u8]) -> TuvMethodTurn
-    ensures turn { IfPeerMethod end.old.value.end (λ o key. IfOk (request_in (peer_kind (peer_object_shown o)) (packet_of octets.now)) (λ whole.
+    ensures turn { IfPeerMethod end.old.value.end (λ o key.
+        IfOk (request_in (peer_kind (peer_object_shown o)) (packet_of octets.now)) (λ whole.
         AsPeerMethod end.new.value.end (λ n after. (after ≡ key)
-        × PeerTurns (peer_step (peer_object_shown o) whole) end.old.value.sent result end.new.value.sent n))) }
-    ensures discarded { IfPeerMethod end.old.value.end (λ o key. IfErr (request_in (peer_kind (peer_object_shown o)) (packet_of octets.now)) (λ cause.
+        × PeerTurns (peer_step (peer_object_shown o) whole)
+        end.old.value.sent result end.new.value.sent n))) }
+    ensures discarded { IfPeerMethod end.old.value.end (λ o key.
+        IfErr (request_in (peer_kind (peer_object_shown o)) (packet_of octets.now)) (λ cause.
         IsDiscarded cause end.old.value result end.new.value)) }
-    ensures misplaced { is_peer_method end.old.value.end ≡ false → IsMisplaced end.old.value result end.new.value }
+    ensures misplaced { is_peer_method end.old.value.end ≡ false
+        → IsMisplaced end.old.value result end.new.value }
 {
     let session = end.session();
     match &mut session.end {
@@ -110,7 +121,8 @@ pub extern "C" fn tuv_peer_method_handle(end: &mut TuvEnd, octets: &[u8]) -> Tuv
 /// Makes the end this server's method. (By itself, since the compiler then builds it where it stays.)
 fn store_server(end: &mut End, object: ServerObject, settings: &Settings)
     requires { IsSoundOther (settings_of settings.now) }
-    ensures { AsServerMethod end.new (λ n known. (n ≡ object) × (known.users ≡ users_of (settings_of settings.now))) }
+    ensures { AsServerMethod end.new
+        (λ n known. (n ≡ object) × (known.users ≡ users_of (settings_of settings.now))) }
 {
     let users = UserList::new();
     *end = End::ServerMethod(object, CheckedUsers { users });
@@ -130,10 +142,13 @@ pub extern "C" fn tuv_server_method_begin(
     nonce: &Nonce,
     id: u8,
 ) -> u8
-    ensures refused { IfSome (server_refusal (settings_of settings.now)) (λ reason. result ≡ refusal_number reason) }
+    ensures refused { IfSome (server_refusal (settings_of settings.now))
+        (λ reason. result ≡ refusal_number reason) }
     ensures started { server_refusal (settings_of settings.now) ≡ None → result ≡ begun }
-    ensures initial { result ≡ begun → AsServerMethod end.new.value.end (λ n known. (known.users ≡ users_of (settings_of settings.now))
-        × (server_first_step (server_fresh (first_kind (settings_of settings.now)) (side_of (settings_of settings.now)) nonce.now) id
+    ensures initial { result ≡ begun → AsServerMethod end.new.value.end (λ n known.
+        (known.users ≡ users_of (settings_of settings.now))
+        × (server_first_step (server_fresh (first_kind (settings_of settings.now))
+        (side_of (settings_of settings.now)) nonce.now) id
         ≡ record { packet = end.new.value.sent.packet; after = server_object_shown n })) }
     ensures sent { result ≡ begun → end.new.value.sent.fresh ≡ true }
     ensures unchanged { (result ≡ begun → ⊥) → end.new.value ≡ end.old.value }
@@ -177,12 +192,16 @@ pub extern "C" fn tuv_server_method_handle(
     octets: &[u8],
     next_id: u8,
 ) -> TuvMethodTurn
-    ensures turn { IfServerMethod end.old.value.end (λ o known. IfOk (response_in (server_kind (server_object_shown o)) (packet_of octets.now)) (λ whole.
+    ensures turn { IfServerMethod end.old.value.end (λ o known.
+        IfOk (response_in (server_kind (server_object_shown o)) (packet_of octets.now)) (λ whole.
         AsServerMethod end.new.value.end (λ n after. (after.users ≡ known.users)
-        × ServerTurns (server_step known.users next_id (server_object_shown o) whole) end.old.value.sent result end.new.value.sent n))) }
-    ensures discarded { IfServerMethod end.old.value.end (λ o known. IfErr (response_in (server_kind (server_object_shown o)) (packet_of octets.now)) (λ cause.
+        × ServerTurns (server_step known.users next_id (server_object_shown o) whole)
+        end.old.value.sent result end.new.value.sent n))) }
+    ensures discarded { IfServerMethod end.old.value.end (λ o known.
+        IfErr (response_in (server_kind (server_object_shown o)) (packet_of octets.now)) (λ cause.
         IsDiscarded cause end.old.value result end.new.value)) }
-    ensures misplaced { is_server_method end.old.value.end ≡ false → IsMisplaced end.old.value result end.new.value }
+    ensures misplaced { is_server_method end.old.value.end ≡ false
+        → IsMisplaced end.old.value result end.new.value }
 {
     let session = end.session();
     match &mut session.end {

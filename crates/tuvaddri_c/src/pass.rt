@@ -1,10 +1,14 @@
 //! The pass-through of RFC 4137 section 7.
 
 ghost use Rattle.std.specs.Prelude.{◌≡◌, true, false, None, IfSome};
-ghost use Rattle.pass_through.specs.PassTable.{initial_pass, pass_start, pass_restart, pass_from_peer, pass_from_backend, pass_timeout, pass_aaa_timeout, pass_aaa_noreq, is_started, has_timer, is_aaa_idle};
+ghost use Rattle.pass_through.specs.PassTable.{initial_pass, pass_start, pass_restart};
+ghost use Rattle.pass_through.specs.PassTable.{pass_from_peer, pass_from_backend, pass_timeout};
+ghost use Rattle.pass_through.specs.PassTable.{pass_aaa_timeout, pass_aaa_noreq, is_started};
+ghost use Rattle.pass_through.specs.PassTable.{has_timer, is_aaa_idle};
 ghost use Rattle.end_objects.specs.Refusals.{retry_refusal};
 ghost use Rattle.tuvaddri_c.specs.Answers.{begun, refusal_number};
-ghost use Rattle.tuvaddri_c.specs.Ends.{IfPass, AsPass, is_pass, can_start_pass, has_timer_pass, waits_for_backend};
+ghost use Rattle.tuvaddri_c.specs.Ends.{IfPass, AsPass, is_pass, can_start_pass, has_timer_pass};
+ghost use Rattle.tuvaddri_c.specs.Ends.{waits_for_backend};
 ghost use Rattle.tuvaddri_c.specs.Sent.{none_sent};
 ghost use Rattle.tuvaddri_c.specs.Settled.{is_settled};
 ghost use Rattle.tuvaddri_c.specs.Turns.{PassDoes, IsMisplaced};
@@ -22,9 +26,11 @@ use pass_through::PassThrough;
 /// it was.
 #[unsafe(no_mangle)]
 pub extern "C" fn tuv_pass_begin(end: &mut TuvEnd, first_id: u8, max_retrans: u8) -> u8
-    ensures refused { IfSome (retry_refusal max_retrans) (λ reason. result ≡ refusal_number reason) }
+    ensures refused { IfSome (retry_refusal max_retrans)
+        (λ reason. result ≡ refusal_number reason) }
     ensures started { retry_refusal max_retrans ≡ None → result ≡ begun }
-    ensures initial { result ≡ begun → AsPass end.new.value.end (λ n. n ≡ initial_pass first_id max_retrans) }
+    ensures initial { result ≡ begun
+        → AsPass end.new.value.end (λ n. n ≡ initial_pass first_id max_retrans) }
     ensures settled { result ≡ begun → is_settled end.new.value.end ≡ true }
     ensures sent { result ≡ begun → end.new.value.sent ≡ none_sent }
     ensures unchanged { (result ≡ begun → ⊥) → end.new.value ≡ end.old.value }
@@ -42,9 +48,11 @@ pub extern "C" fn tuv_pass_begin(end: &mut TuvEnd, first_id: u8, max_retrans: u8
 #[unsafe(no_mangle)]
 #[tactic(auto, using(crate::proofs::Does::pass_does))]
 pub extern "C" fn tuv_pass_start(end: &mut TuvEnd) -> TuvTurn
-    ensures pass { IfPass end.old.value.end (λ m. is_started m.state ≡ false → AsPass end.new.value.end (λ n.
+    ensures pass { IfPass end.old.value.end
+        (λ m. is_started m.state ≡ false → AsPass end.new.value.end (λ n.
         PassDoes (pass_start m) end.old.value.sent result end.new.value.sent n)) }
-    ensures misplaced { can_start_pass end.old.value.end ≡ false → IsMisplaced end.old.value result end.new.value }
+    ensures misplaced { can_start_pass end.old.value.end ≡ false
+        → IsMisplaced end.old.value result end.new.value }
     ensures settled { is_settled end.old.value.end ≡ true → is_settled end.new.value.end ≡ true }
 {
     let session = end.session();
@@ -65,7 +73,8 @@ pub extern "C" fn tuv_pass_start(end: &mut TuvEnd) -> TuvTurn
 pub extern "C" fn tuv_pass_restart(end: &mut TuvEnd) -> TuvTurn
     ensures pass { IfPass end.old.value.end (λ m. AsPass end.new.value.end (λ n.
         PassDoes (pass_restart m) none_sent result end.new.value.sent n)) }
-    ensures misplaced { is_pass end.old.value.end ≡ false → IsMisplaced end.old.value result end.new.value }
+    ensures misplaced { is_pass end.old.value.end ≡ false
+        → IsMisplaced end.old.value result end.new.value }
     ensures settled { is_settled end.old.value.end ≡ true → is_settled end.new.value.end ≡ true }
 {
     let session = end.session();
@@ -86,7 +95,8 @@ pub extern "C" fn tuv_pass_restart(end: &mut TuvEnd) -> TuvTurn
 pub extern "C" fn tuv_pass_from_peer(end: &mut TuvEnd, octets: &[u8]) -> TuvTurn
     ensures pass { IfPass end.old.value.end (λ m. AsPass end.new.value.end (λ n.
         PassDoes (pass_from_peer m octets.now) end.old.value.sent result end.new.value.sent n)) }
-    ensures misplaced { is_pass end.old.value.end ≡ false → IsMisplaced end.old.value result end.new.value }
+    ensures misplaced { is_pass end.old.value.end ≡ false
+        → IsMisplaced end.old.value result end.new.value }
     ensures settled { is_settled end.old.value.end ≡ true → is_settled end.new.value.end ≡ true }
 {
     let session = end.session();
@@ -106,7 +116,8 @@ pub extern "C" fn tuv_pass_from_peer(end: &mut TuvEnd, octets: &[u8]) -> TuvTurn
 pub extern "C" fn tuv_pass_from_backend(end: &mut TuvEnd, octets: &[u8]) -> TuvTurn
     ensures pass { IfPass end.old.value.end (λ m. AsPass end.new.value.end (λ n.
         PassDoes (pass_from_backend m octets.now) end.old.value.sent result end.new.value.sent n)) }
-    ensures misplaced { is_pass end.old.value.end ≡ false → IsMisplaced end.old.value result end.new.value }
+    ensures misplaced { is_pass end.old.value.end ≡ false
+        → IsMisplaced end.old.value result end.new.value }
     ensures settled { is_settled end.old.value.end ≡ true → is_settled end.new.value.end ≡ true }
 {
     let session = end.session();
@@ -124,9 +135,11 @@ pub extern "C" fn tuv_pass_from_backend(end: &mut TuvEnd, octets: &[u8]) -> TuvT
 #[unsafe(no_mangle)]
 #[tactic(auto, using(crate::proofs::Does::pass_does))]
 pub extern "C" fn tuv_pass_timeout(end: &mut TuvEnd) -> TuvTurn
-    ensures pass { IfPass end.old.value.end (λ m. has_timer m.state ≡ true → AsPass end.new.value.end (λ n.
+    ensures pass { IfPass end.old.value.end
+        (λ m. has_timer m.state ≡ true → AsPass end.new.value.end (λ n.
         PassDoes (pass_timeout m) end.old.value.sent result end.new.value.sent n)) }
-    ensures misplaced { has_timer_pass end.old.value.end ≡ false → IsMisplaced end.old.value result end.new.value }
+    ensures misplaced { has_timer_pass end.old.value.end ≡ false
+        → IsMisplaced end.old.value result end.new.value }
     ensures settled { is_settled end.old.value.end ≡ true → is_settled end.new.value.end ≡ true }
 {
     let session = end.session();
@@ -144,9 +157,11 @@ pub extern "C" fn tuv_pass_timeout(end: &mut TuvEnd) -> TuvTurn
 #[unsafe(no_mangle)]
 #[tactic(auto, using(crate::proofs::Does::pass_does))]
 pub extern "C" fn tuv_pass_aaa_timeout(end: &mut TuvEnd) -> TuvTurn
-    ensures pass { IfPass end.old.value.end (λ m. is_aaa_idle m.state ≡ true → AsPass end.new.value.end (λ n.
+    ensures pass { IfPass end.old.value.end
+        (λ m. is_aaa_idle m.state ≡ true → AsPass end.new.value.end (λ n.
         PassDoes (pass_aaa_timeout m) end.old.value.sent result end.new.value.sent n)) }
-    ensures misplaced { waits_for_backend end.old.value.end ≡ false → IsMisplaced end.old.value result end.new.value }
+    ensures misplaced { waits_for_backend end.old.value.end ≡ false
+        → IsMisplaced end.old.value result end.new.value }
     ensures settled { is_settled end.old.value.end ≡ true → is_settled end.new.value.end ≡ true }
 {
     let session = end.session();
@@ -163,9 +178,11 @@ pub extern "C" fn tuv_pass_aaa_timeout(end: &mut TuvEnd) -> TuvTurn
 #[unsafe(no_mangle)]
 #[tactic(auto, using(crate::proofs::Does::pass_does))]
 pub extern "C" fn tuv_pass_aaa_noreq(end: &mut TuvEnd) -> TuvTurn
-    ensures pass { IfPass end.old.value.end (λ m. is_aaa_idle m.state ≡ true → AsPass end.new.value.end (λ n.
+    ensures pass { IfPass end.old.value.end
+        (λ m. is_aaa_idle m.state ≡ true → AsPass end.new.value.end (λ n.
         PassDoes (pass_aaa_noreq m) end.old.value.sent result end.new.value.sent n)) }
-    ensures misplaced { waits_for_backend end.old.value.end ≡ false → IsMisplaced end.old.value result end.new.value }
+    ensures misplaced { waits_for_backend end.old.value.end ≡ false
+        → IsMisplaced end.old.value result end.new.value }
     ensures settled { is_settled end.old.value.end ≡ true → is_settled end.new.value.end ≡ true }
 {
     let session = end.session();

@@ -3,7 +3,8 @@
 ghost use Rattle.std.specs.Prelude.{◌≡◌, true, false, None, IfSome};
 ghost use Rattle.eap_method.specs.BothPeers.{both_of};
 ghost use Rattle.eap_method.specs.Steps.{is_end};
-ghost use Rattle.peer_machine.specs.PeerTable.{peer_idle, peer_alt_accept, peer_alt_reject, initial_peer};
+ghost use Rattle.peer_machine.specs.PeerTable.{peer_idle, peer_alt_accept, peer_alt_reject};
+ghost use Rattle.peer_machine.specs.PeerTable.{initial_peer};
 ghost use Rattle.peer_machine.specs.PeerTable as peer;
 ghost use Rattle.end_objects.specs.Objects.{peer_object_shown};
 ghost use Rattle.end_objects.specs.Refusals.{peer_refusal};
@@ -41,10 +42,13 @@ pub extern "C" fn tuv_peer_begin(
     settings: &Settings,
     nonce: &Nonce,
 ) -> u8
-    ensures refused { IfSome (peer_refusal (settings_of settings.now)) (λ reason. result ≡ refusal_number reason) }
-    ensures started { peer_refusal (settings_of settings.now) ≡ None → (result ≡ no_memory → ⊥) → result ≡ begun }
+    ensures refused { IfSome (peer_refusal (settings_of settings.now))
+        (λ reason. result ≡ refusal_number reason) }
+    ensures started { peer_refusal (settings_of settings.now) ≡ None → (result ≡ no_memory → ⊥)
+        → result ≡ begun }
     ensures initial { result ≡ begun → AsPeer end.new.value.end (λ n.
-        peer.now_of peer_object_shown n ≡ initial_peer (peer_setup_of (settings_of settings.now) nonce.now)
+        peer.now_of peer_object_shown n
+        ≡ initial_peer (peer_setup_of (settings_of settings.now) nonce.now)
         (both_of (kinds_of (settings_of settings.now)))) }
     ensures objects { result ≡ begun → can_restart end.new.value.end ≡ true }
     ensures settled { result ≡ begun → is_settled end.new.value.end ≡ true }
@@ -69,9 +73,12 @@ pub extern "C" fn tuv_peer_begin(
 #[unsafe(no_mangle)]
 #[tactic(auto, using(crate::proofs::Does::peer_does, crate::proofs::TwoRecords::peer_preserved))]
 pub extern "C" fn tuv_peer_idle(end: &mut TuvEnd) -> TuvTurn
-    ensures peer { IfPeer end.old.value.end (λ m. is_end m.vars.state ≡ false → AsPeer end.new.value.end (λ n.
-        PeerDoes (peer_idle (peer.now_of peer_object_shown m)) end.old.value.sent result end.new.value.sent n)) }
-    ensures misplaced { is_running_peer end.old.value.end ≡ false → IsMisplaced end.old.value result end.new.value }
+    ensures peer { IfPeer end.old.value.end
+        (λ m. is_end m.vars.state ≡ false → AsPeer end.new.value.end (λ n.
+        PeerDoes (peer_idle (peer.now_of peer_object_shown m))
+        end.old.value.sent result end.new.value.sent n)) }
+    ensures misplaced { is_running_peer end.old.value.end ≡ false
+        → IsMisplaced end.old.value result end.new.value }
     ensures objects { can_restart end.old.value.end ≡ true → can_restart end.new.value.end ≡ true }
     ensures settled { is_settled end.old.value.end ≡ true → is_settled end.new.value.end ≡ true }
 {
@@ -89,9 +96,12 @@ pub extern "C" fn tuv_peer_idle(end: &mut TuvEnd) -> TuvTurn
 #[unsafe(no_mangle)]
 #[tactic(auto, using(crate::proofs::Does::peer_does, crate::proofs::TwoRecords::peer_preserved))]
 pub extern "C" fn tuv_peer_alt_accept(end: &mut TuvEnd) -> TuvTurn
-    ensures peer { IfPeer end.old.value.end (λ m. is_end m.vars.state ≡ false → AsPeer end.new.value.end (λ n.
-        PeerDoes (peer_alt_accept (peer.now_of peer_object_shown m)) end.old.value.sent result end.new.value.sent n)) }
-    ensures misplaced { is_running_peer end.old.value.end ≡ false → IsMisplaced end.old.value result end.new.value }
+    ensures peer { IfPeer end.old.value.end
+        (λ m. is_end m.vars.state ≡ false → AsPeer end.new.value.end (λ n.
+        PeerDoes (peer_alt_accept (peer.now_of peer_object_shown m))
+        end.old.value.sent result end.new.value.sent n)) }
+    ensures misplaced { is_running_peer end.old.value.end ≡ false
+        → IsMisplaced end.old.value result end.new.value }
     ensures objects { can_restart end.old.value.end ≡ true → can_restart end.new.value.end ≡ true }
     ensures settled { is_settled end.old.value.end ≡ true → is_settled end.new.value.end ≡ true }
 {
@@ -109,9 +119,12 @@ pub extern "C" fn tuv_peer_alt_accept(end: &mut TuvEnd) -> TuvTurn
 #[unsafe(no_mangle)]
 #[tactic(auto, using(crate::proofs::Does::peer_does, crate::proofs::TwoRecords::peer_preserved))]
 pub extern "C" fn tuv_peer_alt_reject(end: &mut TuvEnd) -> TuvTurn
-    ensures peer { IfPeer end.old.value.end (λ m. is_end m.vars.state ≡ false → AsPeer end.new.value.end (λ n.
-        PeerDoes (peer_alt_reject (peer.now_of peer_object_shown m)) end.old.value.sent result end.new.value.sent n)) }
-    ensures misplaced { is_running_peer end.old.value.end ≡ false → IsMisplaced end.old.value result end.new.value }
+    ensures peer { IfPeer end.old.value.end
+        (λ m. is_end m.vars.state ≡ false → AsPeer end.new.value.end (λ n.
+        PeerDoes (peer_alt_reject (peer.now_of peer_object_shown m))
+        end.old.value.sent result end.new.value.sent n)) }
+    ensures misplaced { is_running_peer end.old.value.end ≡ false
+        → IsMisplaced end.old.value result end.new.value }
     ensures objects { can_restart end.old.value.end ≡ true → can_restart end.new.value.end ≡ true }
     ensures settled { is_settled end.old.value.end ≡ true → is_settled end.new.value.end ≡ true }
 {

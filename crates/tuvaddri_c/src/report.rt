@@ -1,7 +1,8 @@
 //! What is reported of a method that succeeded.
 
 ghost use Rattle.std.specs.Prelude.{◌≡◌, ◌==◌, IsTrue, None, IfSome};
-ghost use Rattle.tuvaddri_c.specs.Reports.{report_size, both, end_stored, stored_at_peer, stored_at_server, IsReport};
+ghost use Rattle.tuvaddri_c.specs.Reports.{report_size, both, end_stored, stored_at_peer};
+ghost use Rattle.tuvaddri_c.specs.Reports.{stored_at_server, IsReport};
 
 use crate::handle::TuvEnd;
 use crate::held::{peer_object_of, server_object_of};
@@ -46,9 +47,12 @@ pub struct TuvReport {
 #[unsafe(no_mangle)]
 pub extern "C" fn tuv_end_report(end: &mut TuvEnd, report: &mut TuvReport) -> bool
     ensures same { end.new.value ≡ end.old.value }
-    ensures stored { report.old.size ≡ report_size → IfSome (end_stored end.old.value.end) (λ held. IsTrue result × IsReport held report.old report.new) }
-    ensures none { end_stored end.old.value.end ≡ None → (IsTrue result → ⊥) × (report.new ≡ report.old) }
-    ensures other_size { (report.old.size ≡ report_size → ⊥) → (IsTrue result → ⊥) × (report.new ≡ report.old) }
+    ensures stored { report.old.size ≡ report_size → IfSome (end_stored end.old.value.end) (λ held.
+        IsTrue result × IsReport held report.old report.new) }
+    ensures none { end_stored end.old.value.end ≡ None → (IsTrue result → ⊥)
+        × (report.new ≡ report.old) }
+    ensures other_size { (report.old.size ≡ report_size → ⊥) → (IsTrue result → ⊥)
+        × (report.new ≡ report.old) }
 {
     if !is_known(report) {
         return false;
@@ -65,9 +69,12 @@ pub extern "C" fn tuv_end_report(end: &mut TuvEnd, report: &mut TuvReport) -> bo
 #[unsafe(no_mangle)]
 pub extern "C" fn tuv_peer_report(end: &mut TuvEnd, report: &mut TuvReport) -> bool
     ensures same { end.new.value ≡ end.old.value }
-    ensures stored { report.old.size ≡ report_size → IfSome (stored_at_peer end.old.value.end) (λ held. IsTrue result × IsReport held report.old report.new) }
-    ensures none { stored_at_peer end.old.value.end ≡ None → (IsTrue result → ⊥) × (report.new ≡ report.old) }
-    ensures other_size { (report.old.size ≡ report_size → ⊥) → (IsTrue result → ⊥) × (report.new ≡ report.old) }
+    ensures stored { report.old.size ≡ report_size → IfSome (stored_at_peer
+        end.old.value.end) (λ held. IsTrue result × IsReport held report.old report.new) }
+    ensures none { stored_at_peer end.old.value.end ≡ None → (IsTrue result → ⊥)
+        × (report.new ≡ report.old) }
+    ensures other_size { (report.old.size ≡ report_size → ⊥) → (IsTrue result → ⊥)
+        × (report.new ≡ report.old) }
 {
     is_known(report) && report_peer(&end.session().end, report)
 }
@@ -76,9 +83,12 @@ pub extern "C" fn tuv_peer_report(end: &mut TuvEnd, report: &mut TuvReport) -> b
 #[unsafe(no_mangle)]
 pub extern "C" fn tuv_server_report(end: &mut TuvEnd, report: &mut TuvReport) -> bool
     ensures same { end.new.value ≡ end.old.value }
-    ensures stored { report.old.size ≡ report_size → IfSome (stored_at_server end.old.value.end) (λ held. IsTrue result × IsReport held report.old report.new) }
-    ensures none { stored_at_server end.old.value.end ≡ None → (IsTrue result → ⊥) × (report.new ≡ report.old) }
-    ensures other_size { (report.old.size ≡ report_size → ⊥) → (IsTrue result → ⊥) × (report.new ≡ report.old) }
+    ensures stored { report.old.size ≡ report_size → IfSome (stored_at_server
+        end.old.value.end) (λ held. IsTrue result × IsReport held report.old report.new) }
+    ensures none { stored_at_server end.old.value.end ≡ None → (IsTrue result → ⊥)
+        × (report.new ≡ report.old) }
+    ensures other_size { (report.old.size ≡ report_size → ⊥) → (IsTrue result → ⊥)
+        × (report.new ≡ report.old) }
 {
     is_known(report) && report_server(&end.session().end, report)
 }
@@ -92,7 +102,8 @@ fn is_known(report: &TuvReport) -> bool
 
 /// Writes what a peer or its method has.
 fn report_peer(end: &End, report: &mut TuvReport) -> bool
-    ensures stored { IfSome (stored_at_peer end.now) (λ held. IsTrue result × IsReport held report.old report.new) }
+    ensures stored { IfSome (stored_at_peer end.now)
+        (λ held. IsTrue result × IsReport held report.old report.new) }
     ensures none { stored_at_peer end.now ≡ None → (IsTrue result → ⊥) × (report.new ≡ report.old) }
 {
     match peer_object_of(end) {
@@ -103,8 +114,10 @@ fn report_peer(end: &End, report: &mut TuvReport) -> bool
 
 /// Writes what a server or its method has.
 fn report_server(end: &End, report: &mut TuvReport) -> bool
-    ensures stored { IfSome (stored_at_server end.now) (λ held. IsTrue result × IsReport held report.old report.new) }
-    ensures none { stored_at_server end.now ≡ None → (IsTrue result → ⊥) × (report.new ≡ report.old) }
+    ensures stored { IfSome (stored_at_server end.now)
+        (λ held. IsTrue result × IsReport held report.old report.new) }
+    ensures none { stored_at_server end.now ≡ None → (IsTrue result → ⊥)
+        × (report.new ≡ report.old) }
 {
     match server_object_of(end) {
         None => false,
@@ -113,8 +126,10 @@ fn report_server(end: &End, report: &mut TuvReport) -> bool
 }
 
 fn write_end_report(held: &Option<Report>, nonces: &Option<Nonces>, report: &mut TuvReport) -> bool
-    ensures stored { IfSome (both held.now nonces.now) (λ held. IsTrue result × IsReport held report.old report.new) }
-    ensures none { both held.now nonces.now ≡ None → (IsTrue result → ⊥) × (report.new ≡ report.old) }
+    ensures stored { IfSome (both held.now nonces.now)
+        (λ held. IsTrue result × IsReport held report.old report.new) }
+    ensures none { both held.now nonces.now ≡ None → (IsTrue result → ⊥)
+        × (report.new ≡ report.old) }
 {
     match held {
         None => false,

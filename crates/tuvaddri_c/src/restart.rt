@@ -6,7 +6,9 @@ ghost use Rattle.peer_machine.specs.PeerTable as peer;
 ghost use Rattle.server_machine.specs.ServerTable.{server_restart};
 ghost use Rattle.server_machine.specs.ServerTable as server;
 ghost use Rattle.end_objects.specs.Objects.{peer_object_shown, server_object_shown};
-ghost use Rattle.tuvaddri_c.specs.Ends.{IfPeer, AsPeer, IfServer, AsServer, IfBackend, AsBackend, peer_has_objects, server_has_objects, is_peer, can_restart_peer, can_restart_server, can_restart};
+ghost use Rattle.tuvaddri_c.specs.Ends.{IfPeer, AsPeer, IfServer, AsServer, IfBackend, AsBackend};
+ghost use Rattle.tuvaddri_c.specs.Ends.{peer_has_objects, server_has_objects, is_peer};
+ghost use Rattle.tuvaddri_c.specs.Ends.{can_restart_peer, can_restart_server, can_restart};
 ghost use Rattle.tuvaddri_c.specs.Sent.{none_sent};
 ghost use Rattle.tuvaddri_c.specs.Settled.{is_settled};
 ghost use Rattle.tuvaddri_c.specs.Turns.{PeerDoes, ServerDoes, IsMisplaced};
@@ -19,9 +21,12 @@ use octet_lists::{Nonce, Packet};
 /// A peer begins a new conversation.
 #[tactic(auto, using(crate::proofs::Does::peer_does, crate::proofs::TwoRecords::peer_preserved))]
 fn restart_peer(session: &mut Session, nonce: &Nonce) -> TuvTurn
-    ensures peer { IfPeer session.old.end (λ m. peer_has_objects m ≡ true → AsPeer session.new.end (λ n.
-        PeerDoes (peer_restart (peer.now_of peer_object_shown m) nonce.now) none_sent result session.new.sent n)) }
-    ensures misplaced { can_restart_peer session.old.end ≡ false → IsMisplaced session.old result session.new }
+    ensures peer { IfPeer session.old.end
+        (λ m. peer_has_objects m ≡ true → AsPeer session.new.end (λ n.
+        PeerDoes (peer_restart (peer.now_of peer_object_shown m) nonce.now)
+        none_sent result session.new.sent n)) }
+    ensures misplaced { can_restart_peer session.old.end ≡ false
+        → IsMisplaced session.old result session.new }
     ensures objects { can_restart session.old.end ≡ true → can_restart session.new.end ≡ true }
     ensures settled { is_settled session.old.end ≡ true → is_settled session.new.end ≡ true }
 {
@@ -38,11 +43,16 @@ fn restart_peer(session: &mut Session, nonce: &Nonce) -> TuvTurn
 /// A stand-alone server or a backend begins a new conversation.
 #[tactic(auto, using(crate::proofs::Does::server_does, crate::proofs::TwoRecords::server_preserved))]
 fn restart_server(session: &mut Session, nonce: &Nonce) -> TuvTurn
-    ensures server { IfServer session.old.end (λ m. server_has_objects m ≡ true → AsServer session.new.end (λ n.
-        ServerDoes (server_restart (server.now_of server_object_shown m) nonce.now) none_sent result session.new.sent n)) }
-    ensures backend { IfBackend session.old.end (λ m. server_has_objects m ≡ true → AsBackend session.new.end (λ n.
-        ServerDoes (server_restart (server.now_of server_object_shown m) nonce.now) none_sent result session.new.sent n)) }
-    ensures misplaced { can_restart_server session.old.end ≡ false → IsMisplaced session.old result session.new }
+    ensures server { IfServer session.old.end
+        (λ m. server_has_objects m ≡ true → AsServer session.new.end (λ n.
+        ServerDoes (server_restart (server.now_of server_object_shown m) nonce.now)
+        none_sent result session.new.sent n)) }
+    ensures backend { IfBackend session.old.end
+        (λ m. server_has_objects m ≡ true → AsBackend session.new.end (λ n.
+        ServerDoes (server_restart (server.now_of server_object_shown m) nonce.now)
+        none_sent result session.new.sent n)) }
+    ensures misplaced { can_restart_server session.old.end ≡ false
+        → IsMisplaced session.old result session.new }
     ensures objects { can_restart session.old.end ≡ true → can_restart session.new.end ≡ true }
     ensures settled { is_settled session.old.end ≡ true → is_settled session.new.end ≡ true }
 {
@@ -65,9 +75,12 @@ fn restart_server(session: &mut Session, nonce: &Nonce) -> TuvTurn
 /// `tuv_end_restart` of a peer.
 #[unsafe(no_mangle)]
 pub extern "C" fn tuv_peer_restart(end: &mut TuvEnd, nonce: &Nonce) -> TuvTurn
-    ensures peer { IfPeer end.old.value.end (λ m. peer_has_objects m ≡ true → AsPeer end.new.value.end (λ n.
-        PeerDoes (peer_restart (peer.now_of peer_object_shown m) nonce.now) none_sent result end.new.value.sent n)) }
-    ensures misplaced { can_restart_peer end.old.value.end ≡ false → IsMisplaced end.old.value result end.new.value }
+    ensures peer { IfPeer end.old.value.end
+        (λ m. peer_has_objects m ≡ true → AsPeer end.new.value.end (λ n.
+        PeerDoes (peer_restart (peer.now_of peer_object_shown m) nonce.now)
+        none_sent result end.new.value.sent n)) }
+    ensures misplaced { can_restart_peer end.old.value.end ≡ false
+        → IsMisplaced end.old.value result end.new.value }
     ensures objects { can_restart end.old.value.end ≡ true → can_restart end.new.value.end ≡ true }
     ensures settled { is_settled end.old.value.end ≡ true → is_settled end.new.value.end ≡ true }
 {
@@ -77,11 +90,16 @@ pub extern "C" fn tuv_peer_restart(end: &mut TuvEnd, nonce: &Nonce) -> TuvTurn
 /// `tuv_end_restart` of a stand-alone server or a backend.
 #[unsafe(no_mangle)]
 pub extern "C" fn tuv_server_restart(end: &mut TuvEnd, nonce: &Nonce) -> TuvTurn
-    ensures server { IfServer end.old.value.end (λ m. server_has_objects m ≡ true → AsServer end.new.value.end (λ n.
-        ServerDoes (server_restart (server.now_of server_object_shown m) nonce.now) none_sent result end.new.value.sent n)) }
-    ensures backend { IfBackend end.old.value.end (λ m. server_has_objects m ≡ true → AsBackend end.new.value.end (λ n.
-        ServerDoes (server_restart (server.now_of server_object_shown m) nonce.now) none_sent result end.new.value.sent n)) }
-    ensures misplaced { can_restart_server end.old.value.end ≡ false → IsMisplaced end.old.value result end.new.value }
+    ensures server { IfServer end.old.value.end
+        (λ m. server_has_objects m ≡ true → AsServer end.new.value.end (λ n.
+        ServerDoes (server_restart (server.now_of server_object_shown m) nonce.now)
+        none_sent result end.new.value.sent n)) }
+    ensures backend { IfBackend end.old.value.end
+        (λ m. server_has_objects m ≡ true → AsBackend end.new.value.end (λ n.
+        ServerDoes (server_restart (server.now_of server_object_shown m) nonce.now)
+        none_sent result end.new.value.sent n)) }
+    ensures misplaced { can_restart_server end.old.value.end ≡ false
+        → IsMisplaced end.old.value result end.new.value }
     ensures objects { can_restart end.old.value.end ≡ true → can_restart end.new.value.end ≡ true }
     ensures settled { is_settled end.old.value.end ≡ true → is_settled end.new.value.end ≡ true }
 {
@@ -94,13 +112,20 @@ pub extern "C" fn tuv_server_restart(end: &mut TuvEnd, nonce: &Nonce) -> TuvTurn
 /// a backend send nothing. No packet from before is there any more.
 #[unsafe(no_mangle)]
 pub extern "C" fn tuv_end_restart(end: &mut TuvEnd, nonce: &Nonce) -> TuvTurn
-    ensures peer { IfPeer end.old.value.end (λ m. peer_has_objects m ≡ true → AsPeer end.new.value.end (λ n.
-        PeerDoes (peer_restart (peer.now_of peer_object_shown m) nonce.now) none_sent result end.new.value.sent n)) }
-    ensures server { IfServer end.old.value.end (λ m. server_has_objects m ≡ true → AsServer end.new.value.end (λ n.
-        ServerDoes (server_restart (server.now_of server_object_shown m) nonce.now) none_sent result end.new.value.sent n)) }
-    ensures backend { IfBackend end.old.value.end (λ m. server_has_objects m ≡ true → AsBackend end.new.value.end (λ n.
-        ServerDoes (server_restart (server.now_of server_object_shown m) nonce.now) none_sent result end.new.value.sent n)) }
-    ensures misplaced { can_restart end.old.value.end ≡ false → IsMisplaced end.old.value result end.new.value }
+    ensures peer { IfPeer end.old.value.end
+        (λ m. peer_has_objects m ≡ true → AsPeer end.new.value.end (λ n.
+        PeerDoes (peer_restart (peer.now_of peer_object_shown m) nonce.now)
+        none_sent result end.new.value.sent n)) }
+    ensures server { IfServer end.old.value.end
+        (λ m. server_has_objects m ≡ true → AsServer end.new.value.end (λ n.
+        ServerDoes (server_restart (server.now_of server_object_shown m) nonce.now)
+        none_sent result end.new.value.sent n)) }
+    ensures backend { IfBackend end.old.value.end
+        (λ m. server_has_objects m ≡ true → AsBackend end.new.value.end (λ n.
+        ServerDoes (server_restart (server.now_of server_object_shown m) nonce.now)
+        none_sent result end.new.value.sent n)) }
+    ensures misplaced { can_restart end.old.value.end ≡ false
+        → IsMisplaced end.old.value result end.new.value }
     ensures objects { can_restart end.old.value.end ≡ true → can_restart end.new.value.end ≡ true }
     ensures settled { is_settled end.old.value.end ≡ true → is_settled end.new.value.end ≡ true }
 {

@@ -4,7 +4,9 @@ ghost use Rattle.std.specs.Prelude.{◌≡◌, ◌≤◌, true, false, map, None
 ghost use Rattle.eap_method.specs.BothServers.{both_of};
 ghost use Rattle.eap_method.specs.Peer.{have_each};
 ghost use Rattle.eap_method.specs.Server.{server_kinds};
-ghost use Rattle.server_machine.specs.ServerTable.{server_start, server_timeout, initial_server, initial_backend, is_started, is_backend, has_timer};
+ghost use Rattle.server_machine.specs.ServerTable.{server_start, server_timeout, initial_server};
+ghost use Rattle.server_machine.specs.ServerTable.{initial_backend, is_started, is_backend};
+ghost use Rattle.server_machine.specs.ServerTable.{has_timer};
 ghost use Rattle.server_machine.specs.ServerTable as server;
 ghost use Rattle.server_machine.specs.declared.variables.Role.TheVariants.{StandAlone};
 ghost use Rattle.end_objects.specs.Objects.{server_object_shown};
@@ -43,7 +45,8 @@ fn store_machine(
     requires accepted { server_refusal (settings_of settings.now) ≡ None }
     requires other { IsSoundOther (settings_of settings.now) }
     requires few { max_retrans ≤ 10 }
-    requires objects { have_each (server_kinds (map server_object_shown methods.items)) (kinds_of (settings_of settings.now)) ≡ true }
+    requires objects { have_each (server_kinds (map server_object_shown methods.items)) (kinds_of
+        (settings_of settings.now)) ≡ true }
     ensures initial { AsServer end.new (λ n. server.now_of server_object_shown n
         ≡ initial_server StandAlone (server_setup_of (settings_of settings.now) nonce.now)
         (both_of (kinds_of (settings_of settings.now))) first_id max_retrans) }
@@ -78,9 +81,12 @@ pub extern "C" fn tuv_server_begin(
     first_id: u8,
     max_retrans: u8,
 ) -> u8
-    ensures refused { IfSome (stand_alone_refusal (settings_of settings.now) max_retrans) (λ reason. result ≡ refusal_number reason) }
-    ensures started { stand_alone_refusal (settings_of settings.now) max_retrans ≡ None → (result ≡ no_memory → ⊥) → result ≡ begun }
-    ensures initial { result ≡ begun → AsServer end.new.value.end (λ n. server.now_of server_object_shown n
+    ensures refused { IfSome (stand_alone_refusal (settings_of settings.now) max_retrans)
+        (λ reason. result ≡ refusal_number reason) }
+    ensures started { stand_alone_refusal (settings_of settings.now) max_retrans ≡ None
+        → (result ≡ no_memory → ⊥) → result ≡ begun }
+    ensures initial { result ≡ begun
+        → AsServer end.new.value.end (λ n. server.now_of server_object_shown n
         ≡ initial_server StandAlone (server_setup_of (settings_of settings.now) nonce.now)
         (both_of (kinds_of (settings_of settings.now))) first_id max_retrans) }
     ensures objects { result ≡ begun → can_restart end.new.value.end ≡ true }
@@ -107,9 +113,11 @@ pub extern "C" fn tuv_server_begin(
 fn store_backend(end: &mut End, settings: &Settings, nonce: &Nonce, methods: Vec<ServerObject>)
     requires accepted { server_refusal (settings_of settings.now) ≡ None }
     requires other { IsSoundOther (settings_of settings.now) }
-    requires objects { have_each (server_kinds (map server_object_shown methods.items)) (kinds_of (settings_of settings.now)) ≡ true }
+    requires objects { have_each (server_kinds (map server_object_shown methods.items)) (kinds_of
+        (settings_of settings.now)) ≡ true }
     ensures initial { AsBackend end.new (λ n. server.now_of server_object_shown n
-        ≡ initial_backend (server_setup_of (settings_of settings.now) nonce.now) (both_of (kinds_of (settings_of settings.now)))) }
+        ≡ initial_backend (server_setup_of (settings_of settings.now) nonce.now)
+        (both_of (kinds_of (settings_of settings.now)))) }
     ensures objects { can_restart end.new ≡ true }
     ensures settled { is_settled end.new ≡ true }
 {
@@ -131,10 +139,14 @@ pub extern "C" fn tuv_backend_begin(
     settings: &Settings,
     nonce: &Nonce,
 ) -> u8
-    ensures refused { IfSome (server_refusal (settings_of settings.now)) (λ reason. result ≡ refusal_number reason) }
-    ensures started { server_refusal (settings_of settings.now) ≡ None → (result ≡ no_memory → ⊥) → result ≡ begun }
-    ensures initial { result ≡ begun → AsBackend end.new.value.end (λ n. server.now_of server_object_shown n
-        ≡ initial_backend (server_setup_of (settings_of settings.now) nonce.now) (both_of (kinds_of (settings_of settings.now)))) }
+    ensures refused { IfSome (server_refusal (settings_of settings.now))
+        (λ reason. result ≡ refusal_number reason) }
+    ensures started { server_refusal (settings_of settings.now) ≡ None → (result ≡ no_memory → ⊥)
+        → result ≡ begun }
+    ensures initial { result ≡ begun
+        → AsBackend end.new.value.end (λ n. server.now_of server_object_shown n
+        ≡ initial_backend (server_setup_of (settings_of settings.now) nonce.now)
+        (both_of (kinds_of (settings_of settings.now)))) }
     ensures objects { result ≡ begun → can_restart end.new.value.end ≡ true }
     ensures settled { result ≡ begun → is_settled end.new.value.end ≡ true }
     ensures sent { result ≡ begun → end.new.value.sent ≡ none_sent }
@@ -157,9 +169,12 @@ pub extern "C" fn tuv_backend_begin(
 #[unsafe(no_mangle)]
 #[tactic(auto, using(crate::proofs::Does::server_does, crate::proofs::TwoRecords::server_preserved))]
 pub extern "C" fn tuv_server_start(end: &mut TuvEnd) -> TuvTurn
-    ensures server { IfServer end.old.value.end (λ m. is_started m.vars ≡ false → is_backend m.vars ≡ false → AsServer end.new.value.end (λ n.
-        ServerDoes (server_start (server.now_of server_object_shown m)) end.old.value.sent result end.new.value.sent n)) }
-    ensures misplaced { ends.can_start end.old.value.end ≡ false → IsMisplaced end.old.value result end.new.value }
+    ensures server { IfServer end.old.value.end (λ m. is_started m.vars ≡ false
+        → is_backend m.vars ≡ false → AsServer end.new.value.end (λ n.
+        ServerDoes (server_start (server.now_of server_object_shown m))
+        end.old.value.sent result end.new.value.sent n)) }
+    ensures misplaced { ends.can_start end.old.value.end ≡ false
+        → IsMisplaced end.old.value result end.new.value }
     ensures objects { can_restart end.old.value.end ≡ true → can_restart end.new.value.end ≡ true }
     ensures settled { is_settled end.old.value.end ≡ true → is_settled end.new.value.end ≡ true }
 {
@@ -178,9 +193,12 @@ pub extern "C" fn tuv_server_start(end: &mut TuvEnd) -> TuvTurn
 #[unsafe(no_mangle)]
 #[tactic(auto, using(crate::proofs::Does::server_does, crate::proofs::TwoRecords::server_preserved))]
 pub extern "C" fn tuv_server_timeout(end: &mut TuvEnd) -> TuvTurn
-    ensures server { IfServer end.old.value.end (λ m. has_timer m.vars ≡ true → AsServer end.new.value.end (λ n.
-        ServerDoes (server_timeout (server.now_of server_object_shown m)) end.old.value.sent result end.new.value.sent n)) }
-    ensures misplaced { ends.has_timer end.old.value.end ≡ false → IsMisplaced end.old.value result end.new.value }
+    ensures server { IfServer end.old.value.end
+        (λ m. has_timer m.vars ≡ true → AsServer end.new.value.end (λ n.
+        ServerDoes (server_timeout (server.now_of server_object_shown m))
+        end.old.value.sent result end.new.value.sent n)) }
+    ensures misplaced { ends.has_timer end.old.value.end ≡ false
+        → IsMisplaced end.old.value result end.new.value }
     ensures objects { can_restart end.old.value.end ≡ true → can_restart end.new.value.end ≡ true }
     ensures settled { is_settled end.old.value.end ≡ true → is_settled end.new.value.end ≡ true }
 {

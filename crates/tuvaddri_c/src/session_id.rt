@@ -38,7 +38,8 @@ fn id_of(held: &Option<Report>, nonces: &Option<Nonces>) -> Option<SessionId>
 
 /// The same, as wpa_supplicant and hostapd derive it.
 fn id_of_wpa(end: &End, held: &Option<Report>, nonces: &Option<Nonces>) -> Option<SessionId>
-    ensures { result ≡ if_stored (both held.now nonces.now) (λ held. session_id_of_report (front_of (end_key end.now held.report.id_p)) held) }
+    ensures { result ≡ if_stored (both held.now nonces.now) (λ held. session_id_of_report
+        (front_of (end_key end.now held.report.id_p)) held) }
 {
     match held {
         None => None,

@@ -45,7 +45,8 @@ impl TuvTurn {
     pub fn of(step: &Step, octets: &[u8], state: State, sent: &mut Sent) -> TuvTurn
         requires { length octets.now ≤ max_packet }
         ensures turn { result ≡ turn_of step.now state }
-        ensures sent { sent.new ≡ after_turn (if step.now.sends then Some octets.now else None) sent.old }
+        ensures sent { sent.new
+            ≡ after_turn (if step.now.sends then Some octets.now else None) sent.old }
     {
         sent.set(step.sends, octets);
         match step.cause {

@@ -35,7 +35,8 @@ pub trait HasUsers {
         requires capacity { HasCapacity max_others (seen self.old).vars.setup.users user }
         requires kind { is_kind user.kind ≡ true }
         requires key { is_valid_for user.kind user.psk ≡ true }
-        ensures { seen self.new ≡ with_users (seen self.old) ((seen self.old).vars.setup.users ++ user ∷ []) };
+        ensures { seen self.new
+            ≡ with_users (seen self.old) ((seen self.old).vars.setup.users ++ user ∷ []) };
 
     /// It knows no user.
     fn clear(&mut self)
@@ -71,7 +72,8 @@ impl HasUsers for Backend {
 /// The user of the settings takes the place of those before. (They are added where they stay.)
 fn change_users<M: HasUsers>(machine: &mut M, settings: &Settings)
     requires { IsSoundOther (settings_of settings.now) }
-    ensures { M.seen machine.new ≡ with_users (M.seen machine.old) (users_of (settings_of settings.now)) }
+    ensures { M.seen machine.new
+        ≡ with_users (M.seen machine.old) (users_of (settings_of settings.now)) }
 {
     machine.clear();
     add_users(machine, settings);
@@ -82,11 +84,15 @@ fn change_users<M: HasUsers>(machine: &mut M, settings: &Settings)
 /// and nothing is changed.
 #[unsafe(no_mangle)]
 pub extern "C" fn tuv_server_user(end: &mut TuvEnd, settings: &Settings) -> u8
-    ensures refused { IfSome (user_refusal (settings_of settings.now)) (λ reason. result ≡ refusal_number reason) }
-    ensures accepted { user_refusal (settings_of settings.now) ≡ None → result ≡ (if has_users end.old.value.end then begun else no_place) }
-    ensures server { result ≡ begun → IfServer end.old.value.end (λ m. AsServer end.new.value.end (λ n.
+    ensures refused { IfSome (user_refusal (settings_of settings.now))
+        (λ reason. result ≡ refusal_number reason) }
+    ensures accepted { user_refusal (settings_of settings.now) ≡ None
+        → result ≡ (if has_users end.old.value.end then begun else no_place) }
+    ensures server { result ≡ begun
+        → IfServer end.old.value.end (λ m. AsServer end.new.value.end (λ n.
         n ≡ with_users m (users_of (settings_of settings.now)))) }
-    ensures backend { result ≡ begun → IfBackend end.old.value.end (λ m. AsBackend end.new.value.end (λ n.
+    ensures backend { result ≡ begun
+        → IfBackend end.old.value.end (λ m. AsBackend end.new.value.end (λ n.
         n ≡ with_users m (users_of (settings_of settings.now)))) }
     ensures objects { can_restart end.old.value.end ≡ true → can_restart end.new.value.end ≡ true }
     ensures settled { is_settled end.old.value.end ≡ true → is_settled end.new.value.end ≡ true }
@@ -122,10 +128,13 @@ pub fn put(known: &mut CheckedUsers, settings: &Settings)
 /// answers 6; at another end 9.
 #[unsafe(no_mangle)]
 pub extern "C" fn tuv_server_method_user(end: &mut TuvEnd, settings: &Settings) -> u8
-    ensures refused { IfSome (user_refusal (settings_of settings.now)) (λ reason. result ≡ refusal_number reason) }
-    ensures method { user_refusal (settings_of settings.now) ≡ None → IfServerMethod end.old.value.end (λ o before.
+    ensures refused { IfSome (user_refusal (settings_of settings.now))
+        (λ reason. result ≡ refusal_number reason) }
+    ensures method { user_refusal (settings_of settings.now) ≡ None
+        → IfServerMethod end.old.value.end (λ o before.
         AcceptsUser (settings_of settings.now) o result end.new.value.end) }
-    ensures misplaced { user_refusal (settings_of settings.now) ≡ None → is_server_method end.old.value.end ≡ false → result ≡ no_place }
+    ensures misplaced { user_refusal (settings_of settings.now) ≡ None
+        → is_server_method end.old.value.end ≡ false → result ≡ no_place }
     ensures sent { end.new.value.sent ≡ end.old.value.sent }
     ensures unchanged { (result ≡ begun → ⊥) → end.new.value ≡ end.old.value }
 {

@@ -7,7 +7,8 @@ use Rattle.command_driver.proofs.Quiet.{IsQuiet}
 use Rattle.world_commands.specs.Bulk.{bulk_text, bulk_answer}
 use Rattle.world_commands.specs.declared.bulk.Bulk.{Bulk}
 
-summary_quiet : (number count : ℕ) (s : Summary) → plain starts_result true (bulk_text number count s) ≡ true
+summary_quiet : (number count : ℕ) (s : Summary)
+    → plain starts_result true (bulk_text number count s) ≡ true
 unfolding bulk_text
 summary_quiet number count s =
     through starts_result (decimal number) _ (decimal_within number)

@@ -1,5 +1,6 @@
 -- The command replay: a scenario is read line by line, and each event is run as it comes.
-use Rattle.std.specs.Prelude.{◌≡◌, ℕ, List, [], Bool, true, false, nat_le, if◌then◌else◌, Option, Some, None, Result, Ok, Err, codes, map, option_map, IfSome, IsTrue}
+use Rattle.std.specs.Prelude.{◌≡◌, ℕ, List, [], Bool, true, false, nat_le, if◌then◌else◌, Option}
+use Rattle.std.specs.Prelude.{Some, None, Result, Ok, Err, codes, map, option_map, IfSome, IsTrue}
 use Rattle.login_setup.specs.declared.event.Event.{Event}
 use Rattle.login_setup.specs.Setup.{are_kinds}
 use Rattle.login_setup.specs.declared.setup.Setup.{Setup}
@@ -24,8 +25,8 @@ use Rattle.world_laws.specs.Runs.{initial_world}
 abbrev pub max_events : ℕ
 max_events = 10000
 
--- what of the command decides its lines: whether octets and key names are written, what has been read, and
--- the world from the line `events` on
+-- what of the command decides its lines: whether octets and key names are written, what has been
+-- read, and the world from the line `events` on
 pub record ReplayNow : Type 0 where
   pub names : Bool
   pub reader : Reading
@@ -33,17 +34,25 @@ pub record ReplayNow : Type 0 where
 
 module _ {P S : Type 0} (peer_shown : P → PeerShown) (server_shown : S → ServerShown) where
   abbrev pub seen_of : Replay P S → ReplayNow
-  seen_of c = record { names = c.names; reader = c.reader; world = option_map (now_of peer_shown server_shown) c.world }
+  seen_of c = record {
+    names = c.names;
+    reader = c.reader;
+    world = option_map (now_of peer_shown server_shown) c.world;
+  }
 
   -- each end has an object of each method that settings can name
   pub record HasEach (methods : Methods P S) : Type 0 where
-    pub peer : (kinds : List ℕ) → IsTrue (are_kinds kinds) → have_each (peer_kinds (map peer_shown methods.peer.items)) kinds ≡ true
-    pub server : (kinds : List ℕ) → IsTrue (are_kinds kinds) → have_each (server_kinds (map server_shown methods.server.items)) kinds ≡ true
+    pub peer : (kinds : List ℕ) → IsTrue (are_kinds kinds)
+        → have_each (peer_kinds (map peer_shown methods.peer.items)) kinds ≡ true
+    pub server : (kinds : List ℕ) → IsTrue (are_kinds kinds)
+        → have_each (server_kinds (map server_shown methods.server.items)) kinds ≡ true
 
   -- and none of another method than EAP-PSK and EAP-GPSK
   pub record HasBoth (methods : Methods P S) : Type 0 where
-    pub peer : (kinds : List ℕ) → IsTrue (are_kinds kinds) → have_each (peer_kinds (map peer_shown methods.peer.items)) kinds ≡ true
-    pub server : (kinds : List ℕ) → IsTrue (are_kinds kinds) → have_each (server_kinds (map server_shown methods.server.items)) kinds ≡ true
+    pub peer : (kinds : List ℕ) → IsTrue (are_kinds kinds)
+        → have_each (peer_kinds (map peer_shown methods.peer.items)) kinds ≡ true
+    pub server : (kinds : List ℕ) → IsTrue (are_kinds kinds)
+        → have_each (server_kinds (map server_shown methods.server.items)) kinds ≡ true
     pub both_peers : both_peers.are_both (map peer_shown methods.peer.items) ≡ true
     pub both_servers : both_servers.are_both (map server_shown methods.server.items) ≡ true
 
@@ -51,7 +60,8 @@ module _ {P S : Type 0} (peer_shown : P → PeerShown) (server_shown : S → Ser
   AreThere None = ⊥
   AreThere (Some methods) = HasBoth methods
 
-  -- before the world begins the methods are there; a world has started, and each method of an end's settings has an object
+  -- before the world begins the methods are there; a world has started, and each method of an end's
+  -- settings has an object
   pub record IsReady (c : Replay P S) (lines : ℕ) : Type 0 where
     pub objects : c.world ≡ None → AreThere c.methods
     pub started : IfSome c.world (λ w. w.started ≡ true)
@@ -70,7 +80,8 @@ proceeds_with c text w = record { text = text; ruling = goes; after = record c {
 
 -- the line `events`: the world starts
 abbrev pub starts_in : ReplayNow → Option WorldNow → Setup → LineResult ReplayNow
-starts_in c None setup = proceeds_with c (start_line_text c.names (world_start (initial_world setup))) (world_start (initial_world setup)).after
+starts_in c None setup = proceeds_with c (start_line_text c.names
+    (world_start (initial_world setup))) (world_start (initial_world setup)).after
 starts_in c (Some w) setup = proceeds_silently c
 
 abbrev pub starts : ReplayNow → Setup → LineResult ReplayNow

@@ -1,5 +1,6 @@
 -- A scenario, as all its lines make it, and what replaying it answers: the trace of its run.
-use Rattle.std.specs.Prelude.{is_some, ℕ, ◌+◌, List, [], ◌∷◌, Bool, true, false, nat_le, ◌&&◌, if◌then◌else◌, Option, Some, None, Result, Ok, Err, codes}
+use Rattle.std.specs.Prelude.{is_some, ℕ, ◌+◌, List, [], ◌∷◌, Bool, true, false, nat_le, ◌&&◌}
+use Rattle.std.specs.Prelude.{if◌then◌else◌, Option, Some, None, Result, Ok, Err, codes}
 use Rattle.std.specs.List.{flat_map}
 use Rattle.octet_io.specs.Lines.{Lines, ended, too_long, too_much, line, lines}
 use Rattle.login_setup.specs.declared.event.Event.{Event}
@@ -68,7 +69,8 @@ events_after k (Err fault) = k
 -- the scenario from a line on, whose number is given and before which k events have come
 abbrev pub with_line : ℕ → ℕ → Result ReadLine LineFault → Scenario → Scenario
 with_line number k (Err fault) s = stops (refused number (fault_word fault) status.Refused)
-with_line number k (Ok x) s = if is_event x.item && nat_le max_events k then stops (too_much_at number) else adds x.item s
+with_line number k (Ok x) s =
+    if is_event x.item && nat_le max_events k then stops (too_much_at number) else adds x.item s
 
 -- the scenario that the lines make, if n lines and k events have come before them
 unfoldable pub scenario_from : ℕ → ℕ → Reading → Lines → Scenario
@@ -76,11 +78,13 @@ scenario_from n k r ended = stops (finish_outcome (n + 1) (finish_of r))
 scenario_from n k r too_long = stops (too_much_at (n + 1))
 scenario_from n k r too_much = stops (too_much_at (n + 1))
 scenario_from n k r (line l rest) =
-    with_line (n + 1) k (read_line r l) (scenario_from (n + 1) (events_after k (read_line r l)) (read_after r (read_line r l)) rest)
+    with_line (n + 1) k (read_line r l)
+    (scenario_from (n + 1) (events_after k (read_line r l)) (read_after r (read_line r l)) rest)
 
 -- the scenario that an input is
 abbrev pub scenario_of : List ℕ → Scenario
-scenario_of octets = scenario_from 0 0 (record { phase = phase.Unread; settings = no_settings }) (lines octets)
+scenario_of octets =
+    scenario_from 0 0 (record { phase = phase.Unread; settings = no_settings }) (lines octets)
 
 -- the lines of the results of events; with names also the octets of packets and the names of keys
 abbrev pub events_text : Bool → WorldNow → List Event → List ℕ
@@ -93,7 +97,8 @@ outcome_answer w (refused number word s) = refusal number word s
 
 -- the answer from a world on
 abbrev pub run_answer : Bool → WorldNow → List Event → Outcome → Answer
-run_answer names w events outcome = after_text (events_text names w events) (outcome_answer (run_after w events) outcome)
+run_answer names w events outcome =
+    after_text (events_text names w events) (outcome_answer (run_after w events) outcome)
 
 -- without a setup nothing is run
 abbrev pub unset_answer : Outcome → Answer
@@ -103,7 +108,8 @@ unset_answer (refused number word s) = refusal number word s
 abbrev pub setup_answer : Bool → Option Setup → List Event → Outcome → Answer
 setup_answer names None events outcome = unset_answer outcome
 setup_answer names (Some setup) events outcome =
-    after_text (start_line_text names (world_start (initial_world setup))) (run_answer names (world_start (initial_world setup)).after events outcome)
+    after_text (start_line_text names (world_start (initial_world setup)))
+    (run_answer names (world_start (initial_world setup)).after events outcome)
 
 abbrev pub scenario_answer : Bool → Scenario → Answer
 scenario_answer names s = setup_answer names s.setup s.events s.outcome

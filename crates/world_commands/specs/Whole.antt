@@ -1,4 +1,5 @@
--- The scenario that an input is, by its octets alone: within the limits its lines are those of a scenario.
+-- The scenario that an input is, by its octets alone: within the limits its lines are those of a
+-- scenario.
 use Rattle.std.specs.Prelude.{◌≡◌, ℕ, ◌≤◌, List, [], ◌∷◌, length, true, Some}
 use Rattle.octet_io.specs.Lines.{without_cr}
 use Rattle.octet_io.specs.Cutting.{pieces, is_within}
@@ -8,8 +9,8 @@ use Rattle.scenario_text.specs.Whole.{IsScenario}
 use Rattle.world_commands.specs.Replay.{max_events}
 use Rattle.world_commands.specs.Scenario.{whole, scenario_of}
 
--- a line for each piece that an LF ends, without the CR directly before the LF; the last piece as it is, if it
--- isn't empty
+-- a line for each piece that an LF ends, without the CR directly before the LF; the last piece as
+-- it is, if it isn't empty
 abbrev pub lines_of : List (List ℕ) → List (List ℕ)
 lines_of [] = []
 lines_of ([] ∷ []) = []
@@ -30,6 +31,7 @@ pub record IsReadWhole (octets : List ℕ) : Type 0 where
 
 -- an input is read as whole exactly if it is a scenario, and then with its setup and its events
 pub record InputsAreScenarios : Type 0 where
-  pub taken : (octets : List ℕ) (setup : Setup) (events : List Event) → IsInputOf octets setup events →
+  pub taken : (octets : List ℕ) (setup : Setup) (events : List Event)
+      → IsInputOf octets setup events →
       scenario_of octets ≡ record { setup = Some setup; events = events; outcome = whole }
   pub only : (octets : List ℕ) → (scenario_of octets).outcome ≡ whole → IsReadWhole octets

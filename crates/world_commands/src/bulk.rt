@@ -1,7 +1,8 @@
 //! The command `bulk N K`: many conversations from one number. It reads no input.
 
 ghost use Rattle.std.specs.Prelude.{◌≡◌, ◌≤◌, map, string_bytes, IfSome};
-ghost use Rattle.world_commands.specs.Bulk.{max_count, bulk_of, bulk_encoded, bulk_text, bulk_answer};
+ghost use Rattle.world_commands.specs.Bulk.{max_count, bulk_of, bulk_encoded, bulk_text};
+ghost use Rattle.world_commands.specs.Bulk.{bulk_answer};
 ghost use Rattle.world_commands.specs.Replay.{HasBoth};
 ghost use Rattle.command_driver.specs.Responding.{IsAnswered, at_any};
 ghost use Rattle.answer_text.specs.Writes.{Appends};

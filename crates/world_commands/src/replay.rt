@@ -71,7 +71,8 @@ impl<P: PeerMethod, S: ServerMethod> Replay<P, S> {
         ensures ready_after { IfOk result (λ next. IsReady P.peer_shown S.server_shown self.new 0) }
         ensures answers { (setup : Setup) → setup_of self.old.reader.settings ≡ Ok setup
             → AnswersLine W.shown result sink.old sink.new
-            (starts (seen_of P.peer_shown S.server_shown self.old) setup) true (seen_of P.peer_shown S.server_shown self.new) }
+            (starts (seen_of P.peer_shown S.server_shown self.old) setup) true
+            (seen_of P.peer_shown S.server_shown self.new) }
     {
         if self.world.is_some() {
             return Ok(Next::Proceed);
@@ -97,7 +98,10 @@ impl<P: PeerMethod, S: ServerMethod> Replay<P, S> {
     #[tactic(auto, unfolding(answer_text::specs::Writes::Appends))]
     fn end<W: Sink>(&self, sink: &mut W) -> Result<Close, Failed>
         ensures { AnswersEnd W.shown result sink.old sink.new
-            (record { text = end_of (seen_of P.peer_shown S.server_shown self.now).world; closed = ends Status.Done }) }
+            (record {
+              text = end_of (seen_of P.peer_shown S.server_shown self.now).world;
+              closed = ends Status.Done;
+            }) }
     {
         if let Some(world) = &self.world {
             write_end(sink, world)?;
@@ -111,7 +115,8 @@ impl<P: PeerMethod, S: ServerMethod> Replay<P, S> {
         requires ready { IsReady P.peer_shown S.server_shown self.old 0 }
         ensures ready_after { IfOk result (λ next. IsReady P.peer_shown S.server_shown self.new 0) }
         ensures answers { AnswersLine W.shown result sink.old sink.new
-            (steps (seen_of P.peer_shown S.server_shown self.old) event.now) true (seen_of P.peer_shown S.server_shown self.new) }
+            (steps (seen_of P.peer_shown S.server_shown self.old) event.now) true
+            (seen_of P.peer_shown S.server_shown self.new) }
     {
         let names = self.names;
         let Some(world) = &mut self.world else {
@@ -129,7 +134,8 @@ impl<P: PeerMethod, S: ServerMethod> Replay<P, S> {
 }
 
 impl<P: PeerMethod, S: ServerMethod> Command for Replay<P, S> {
-    ghost use Rattle.world_commands.specs.Replay.{ReplayNow, replay_step, replay_closing, replay_lacks};
+    ghost use Rattle.world_commands.specs.Replay.{ReplayNow, replay_step, replay_closing};
+    ghost use Rattle.world_commands.specs.Replay.{replay_lacks};
 
     ghost Seen = { ReplayNow };
 

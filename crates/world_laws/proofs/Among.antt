@@ -13,8 +13,10 @@ among_two tag a b (here rest) = inl refl
 among_two tag a b (later other rest h) = inr (among_one tag b h)
 
 -- the first record of a list
-pub first_is : (one tag : TagRecord) (rest more : List TagRecord) → one ∷ rest ≡ tag ∷ more → tag ≡ one
+pub first_is : (one tag : TagRecord) (rest more : List TagRecord)
+    → one ∷ rest ≡ tag ∷ more → tag ≡ one
 first_is one tag rest more e = cc
 
-pub no_tag : {A : Type 0} (tag : TagRecord) (more : List TagRecord) → ◌≡◌ {A = List TagRecord} [] (tag ∷ more) → A
+pub no_tag : {A : Type 0} (tag : TagRecord) (more : List TagRecord)
+    → ◌≡◌ {A = List TagRecord} [] (tag ∷ more) → A
 no_tag tag more e = absurd cc

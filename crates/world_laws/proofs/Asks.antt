@@ -8,15 +8,18 @@ use Rattle.world_laws.specs.TagOwners.{OnlyByPeer, OnlyByServer, NotByServer}
 pub some_is : (x y : List ℕ) → Some x ≡ Some y → x ≡ y
 some_is x y e = cc
 
--- a server that holds a nonce of the peer has accepted a tag that only a conversation of that nonce, which holds the server's, can have made
-pub record AsksPeer (setup : ServerSetup) (nonce foreign : List ℕ) (accepted : List TagRecord) : Type 0 where
+-- a server that holds a nonce of the peer has accepted a tag that only a conversation of that
+-- nonce, which holds the server's, can have made
+pub record AsksPeer (setup : ServerSetup) (nonce foreign : List ℕ)
+    (accepted : List TagRecord) : Type 0 where
   pub tag : TagRecord
   pub rest : List TagRecord
   pub first : accepted ≡ tag ∷ rest
   pub made : OnlyByPeer tag foreign (front nonce)
   pub alien : NotByServer setup tag
 
--- a peer that has succeeded has accepted a tag that only a server which holds the peer's nonce can have made
+-- a peer that has succeeded has accepted a tag that only a server which holds the peer's nonce can
+-- have made
 pub record AsksServer (nonce : List ℕ) (accepted : List TagRecord) : Type 0 where
   pub tag : TagRecord
   pub rest : List TagRecord

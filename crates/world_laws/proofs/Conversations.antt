@@ -1,5 +1,6 @@
 -- The conversations of every run match, and the success of one end tells of the other.
-use Rattle.std.proofs.Common.{◌≡◌, ℕ, Some, true, List, [], ◌∷◌, length, None, refl, sym, ap, subst, ◌∙◌}
+use Rattle.std.proofs.Common.{◌≡◌, ℕ, Some, true, List, [], ◌∷◌, length, None, refl, sym, ap, subst}
+use Rattle.std.proofs.Common.{◌∙◌}
 use Rattle.login_setup.specs.declared.event.Event.{Event}
 use Rattle.octet_lists.specs.Among.{psk_kind}
 use Rattle.login_setup.specs.declared.setup.PeerSetup.{PeerSetup}
@@ -12,15 +13,20 @@ use Rattle.server_machine.specs.ServerTable.{ServerNow, server_reports}
 use Rattle.world_laws.specs.Agreement.{IsWhole}
 use Rattle.world_laws.specs.Alone.{ImpliedByOne, OneEndImplies}
 use Rattle.world_laws.specs.ByMethod.{peer_login}
-use Rattle.world_laws.specs.EachConversation.{IsOneOf, OfPeer, OfServer, nonces_of, peer_at, peer_conversations, peer_nonce, server_at, server_conversations, server_nonce}
-use Rattle.world_laws.specs.Matching.{AreAll, ConversationsAreAll, ConversationsMatch, Match, RestsOn}
+use Rattle.world_laws.specs.EachConversation.{IsOneOf, OfPeer, OfServer, nonces_of, peer_at}
+use Rattle.world_laws.specs.EachConversation.{peer_conversations, peer_nonce, server_at}
+use Rattle.world_laws.specs.EachConversation.{server_conversations, server_nonce}
+use Rattle.world_laws.specs.Matching.{AreAll, ConversationsAreAll, ConversationsMatch, Match}
+use Rattle.world_laws.specs.Matching.{RestsOn}
 use Rattle.world_laws.specs.PeerInvariant.{PeerInvariant}
 use Rattle.world_laws.specs.Records.{tags_by}
 use Rattle.world_laws.specs.ServerInvariant.{ServerInvariant}
 use Rattle.world_laws.proofs.Alone.{knows, peer_tells, server_tells}
 use Rattle.world_laws.proofs.Conversing.{BothConverse, start_converses, starts_so}
 use Rattle.world_laws.proofs.EachOf.{Told, walk}
-use Rattle.world_laws.proofs.EachTurn.{PeerWell, ServerWell, converses_on, grow, peer_nonce_of, peer_turns, peer_used, server_nonce_of, server_turns, server_used}
+use Rattle.world_laws.proofs.EachTurn.{PeerWell, ServerWell, converses_on, grow, peer_nonce_of}
+use Rattle.world_laws.proofs.EachTurn.{peer_turns, peer_used, server_nonce_of, server_turns}
+use Rattle.world_laws.proofs.EachTurn.{server_used}
 use Rattle.world_laws.proofs.EndInvariants.{every_run_so_far, invariant_first}
 use Rattle.world_laws.proofs.HonestOfEither.{none_if_honest}
 use Rattle.world_laws.proofs.HonestOther.{honest_other}
@@ -40,15 +46,20 @@ use Rattle.tag_book.specs.declared.book.TagsVerdict.TheVariants.{Honest}
 use Rattle.tag_book.specs.declared.book.Use.TheVariants.{Accepted, Made}
 use Rattle.world_laws.specs.Runs.{initial_world, run_of}
 
-module _ (setup : Setup) (last : WorldNow) (ps : List OfPeer) (ss : List OfServer) (all : AllKnown setup last ps ss) where
-  peers_agree : tags_verdict last.book ≡ Honest → last.conversations.fresh ≡ true → (s : OfServer) → IsOneOf s ss → is_success s.now.vars.state ≡ true
-      → (p : OfPeer) → IsOneOf p ps → RestsOn s.accepted p.made → peer_login p.now.vars.selected p.now.views ≡ server_reports s.now
+module _ (setup : Setup) (last : WorldNow) (ps : List OfPeer) (ss : List OfServer)
+    (all : AllKnown setup last ps ss) where
+  peers_agree : tags_verdict last.book ≡ Honest → last.conversations.fresh ≡ true → (s : OfServer)
+      → IsOneOf s ss → is_success s.now.vars.state ≡ true
+      → (p : OfPeer) → IsOneOf p ps → RestsOn s.accepted p.made
+      → peer_login p.now.vars.selected p.now.views ≡ server_reports s.now
   peers_agree honest fresh s s_is s_in p p_is rests =
       let known = all.peers p p_is in
       let s_known = all.servers s s_is in
-      same_report (peers.setup_with_nonce setup.peer (peer_nonce p)) (servers.setup_with_nonce setup.server (server_nonce s)) known.size s_known.size
-      p.now.vars.selected p.now.views p.accepted p.made known.stands.tags s.now _ _ (matching.server_won setup s s_known s_in) rests
-      (λ by_psk. psk.psk_servers_back setup last ps ss all honest fresh s s_is s_in by_psk p p_is rests)
+      same_report (peers.setup_with_nonce setup.peer (peer_nonce p))
+      (servers.setup_with_nonce setup.server (server_nonce s)) known.size s_known.size
+      p.now.vars.selected p.now.views p.accepted p.made known.stands.tags s.now _ _
+      (matching.server_won setup s s_known s_in) rests (λ by_psk.
+      psk.psk_servers_back setup last ps ss all honest fresh s s_is s_in by_psk p p_is rests)
 
   they_match : Match last ps ss
   they_match = record {
@@ -60,27 +71,32 @@ module _ (setup : Setup) (last : WorldNow) (ps : List OfPeer) (ss : List OfServe
     psk_peers_match = psk.psk_peers_match setup last ps ss all;
     psk_servers_back = psk.psk_servers_back setup last ps ss all;
     psk_servers_confirm = λ honest fresh s s_is s_in by_psk p p_is rests.
-        (psk.psk_servers_confirm setup last ps ss all honest fresh s s_is s_in by_psk p p_is rests ∙ peers_agree honest fresh s s_is s_in p p_is rests);
+        (psk.psk_servers_confirm setup last ps ss all honest fresh s s_is s_in by_psk p p_is rests
+        ∙ peers_agree honest fresh s s_is s_in p p_is rests);
     peers_agree = peers_agree;
     servers_agree = matching.servers_agree setup last ps ss all;
     same_keys = matching.same_keys setup last ps ss all;
     both_agree = matching.agree_both setup last ps ss all;
   }
 
-peer_is_known : (setup : PeerSetup) (p : OfPeer) → PeerWell setup p.now p.accepted p.made → PeerKnown setup p
+peer_is_known : (setup : PeerSetup) (p : OfPeer) → PeerWell setup p.now p.accepted p.made
+    → PeerKnown setup p
 peer_is_known setup p well =
     let same : peer_nonce p ≡ well.nonce = ap (λ (s : PeerSetup). s.nonce) well.stands.own in
     record {
       size = ap length same ∙ well.size;
-      stands = subst (λ (n : List ℕ). PeerInvariant (peers.setup_with_nonce setup n) p.now p.accepted p.made) (sym same) well.stands;
+      stands = subst (λ (n : List ℕ). PeerInvariant (peers.setup_with_nonce setup n)
+          p.now p.accepted p.made) (sym same) well.stands;
     }
 
-server_is_known : (setup : ServerSetup) (s : OfServer) → ServerWell setup s.now s.accepted s.made → ServerKnown setup s
+server_is_known : (setup : ServerSetup) (s : OfServer) → ServerWell setup s.now s.accepted s.made
+    → ServerKnown setup s
 server_is_known setup s well =
     let same : server_nonce s ≡ well.nonce = ap (λ (x : ServerSetup). x.nonce) well.stands.own in
     record {
       size = ap length same ∙ well.size;
-      stands = subst (λ (n : List ℕ). ServerInvariant (servers.setup_with_nonce setup n) s.now s.accepted s.made) (sym same) well.stands;
+      stands = subst (λ (n : List ℕ). ServerInvariant (servers.setup_with_nonce setup n)
+          s.now s.accepted s.made) (sym same) well.stands;
     }
 
 -- ---- every run
@@ -99,40 +115,59 @@ module _ (setup : Setup) (events : List Event) (whole : IsWhole setup) where
   unfolding world_start
   book_started = (starts_so setup.mode setup).book
 
-  started_peer : PeerWell setup.peer (peer_at begun) (tags_by end.Peer Accepted []) (tags_by end.Peer Made [])
+  started_peer : PeerWell setup.peer (peer_at begun) (tags_by end.Peer Accepted [])
+      (tags_by end.Peer Made [])
   unfolding world_start tags_by
-  started_peer = record { nonce = setup.peer.nonce; size = whole.peer_nonce; stands = (starts_so setup.mode setup).peer.stands }
+  started_peer = record {
+    nonce = setup.peer.nonce;
+    size = whole.peer_nonce;
+    stands = (starts_so setup.mode setup).peer.stands;
+  }
 
-  started_server : ServerWell setup.server (server_at begun) (tags_by end.Server Accepted []) (tags_by end.Server Made [])
+  started_server : ServerWell setup.server (server_at begun) (tags_by end.Server Accepted [])
+      (tags_by end.Server Made [])
   unfolding world_start tags_by
-  started_server = record { nonce = setup.server.nonce; size = whole.server_nonce; stands = (starts_so setup.mode setup).server.stands }
+  started_server = record {
+    nonce = setup.server.nonce;
+    size = whole.server_nonce;
+    stands = (starts_so setup.mode setup).server.stands;
+  }
 
   peer_first : nonces_of end.Peer begun.conversations.begun ≡ peer_nonce_of (peer_at begun) ∷ []
   unfolding world_start nonces_of
-  peer_first = ap (λ (s : PeerSetup). s.nonce ∷ []) (sym (starts_so setup.mode setup).peer.stands.own)
+  peer_first =
+      ap (λ (s : PeerSetup). s.nonce ∷ []) (sym (starts_so setup.mode setup).peer.stands.own)
 
-  server_first : nonces_of end.Server begun.conversations.begun ≡ server_nonce_of (server_at begun) ∷ []
+  server_first : nonces_of end.Server begun.conversations.begun
+      ≡ server_nonce_of (server_at begun) ∷ []
   unfolding world_start nonces_of
-  server_first = ap (λ (s : ServerSetup). s.nonce ∷ []) (sym (starts_so setup.mode setup).server.stands.own)
+  server_first =
+      ap (λ (s : ServerSetup). s.nonce ∷ []) (sym (starts_so setup.mode setup).server.stands.own)
 
-  peers_reported : Told peer_at end.Peer peer_nonce_of (PeerWell setup.peer) begun [] last (peer_conversations setup events)
+  peers_reported : Told peer_at end.Peer peer_nonce_of (PeerWell setup.peer) begun [] last
+      (peer_conversations setup events)
   peers_reported =
-      walk peer_at end.Peer peer_nonce_of (PeerWell setup.peer) (BothConverse setup) (peer_turns setup) grow (converses_on setup) (peer_used setup)
+      walk peer_at end.Peer peer_nonce_of (PeerWell setup.peer) (BothConverse setup)
+      (peer_turns setup) grow (converses_on setup) (peer_used setup)
       begun events 0 [] begun.book good refl refl
-      (subst (λ (l : List Entry). PeerWell setup.peer (peer_at begun) (tags_by end.Peer Accepted l) (tags_by end.Peer Made l)) (sym book_started) started_peer)
+      (subst (λ (l : List Entry). PeerWell setup.peer (peer_at begun) (tags_by end.Peer Accepted l)
+      (tags_by end.Peer Made l)) (sym book_started) started_peer)
 
-  servers_reported : Told server_at end.Server server_nonce_of (ServerWell setup.server) begun [] last (server_conversations setup events)
+  servers_reported : Told server_at end.Server server_nonce_of (ServerWell setup.server)
+      begun [] last (server_conversations setup events)
   servers_reported =
-      walk server_at end.Server server_nonce_of (ServerWell setup.server) (BothConverse setup) (server_turns setup) grow (converses_on setup)
-      (server_used setup)
+      walk server_at end.Server server_nonce_of (ServerWell setup.server) (BothConverse setup)
+      (server_turns setup) grow (converses_on setup) (server_used setup)
       begun events 0 [] begun.book good refl refl
-      (subst (λ (l : List Entry). ServerWell setup.server (server_at begun) (tags_by end.Server Accepted l) (tags_by end.Server Made l)) (sym book_started)
+      (subst (λ (l : List Entry). ServerWell setup.server (server_at begun)
+      (tags_by end.Server Accepted l) (tags_by end.Server Made l)) (sym book_started)
       started_server)
 
   peers_known : (p : OfPeer) → IsOneOf p (peer_conversations setup events) → PeerKnown setup.peer p
   peers_known p is_one = peer_is_known setup.peer p (peers_reported.stand p is_one)
 
-  servers_known : (s : OfServer) → IsOneOf s (server_conversations setup events) → ServerKnown setup.server s
+  servers_known : (s : OfServer) → IsOneOf s (server_conversations setup events)
+      → ServerKnown setup.server s
   servers_known s is_one = server_is_known setup.server s (servers_reported.stand s is_one)
 
   all_are : AreAll setup last (peer_conversations setup events) (server_conversations setup events)
@@ -143,7 +178,8 @@ module _ (setup : Setup) (events : List Event) (whole : IsWhole setup) where
     server_last = servers_reported.ends None;
     peer_accepted = ap (tags_by end.Peer Accepted) peers_reported.book ∙ peers_reported.accepted;
     initial_peer = ap (tags_by end.Peer Made) peers_reported.book ∙ peers_reported.made;
-    server_accepted = ap (tags_by end.Server Accepted) servers_reported.book ∙ servers_reported.accepted;
+    server_accepted =
+        ap (tags_by end.Server Accepted) servers_reported.book ∙ servers_reported.accepted;
     initial_server = ap (tags_by end.Server Made) servers_reported.book ∙ servers_reported.made;
     peer_invariant = λ p is_one. (peers_known p is_one).stands;
     server_invariant = λ s is_one. (servers_known s is_one).stands;
@@ -151,7 +187,8 @@ module _ (setup : Setup) (events : List Event) (whole : IsWhole setup) where
     server_few = λ s is_one. server_few _ s.now s.accepted s.made (servers_known s is_one).stands;
   }
 
-  pub run_known : AllKnown setup last (peer_conversations setup events) (server_conversations setup events)
+  pub run_known : AllKnown setup last (peer_conversations setup events)
+      (server_conversations setup events)
   run_known = record {
     peers = peers_known;
     servers = servers_known;
@@ -161,7 +198,8 @@ module _ (setup : Setup) (events : List Event) (whole : IsWhole setup) where
   }
 
   run_matches : Match last (peer_conversations setup events) (server_conversations setup events)
-  run_matches = they_match setup last (peer_conversations setup events) (server_conversations setup events) run_known
+  run_matches = they_match setup last (peer_conversations setup events)
+      (server_conversations setup events) run_known
 
 pub conversations_match : ConversationsMatch
 conversations_match = run_matches
@@ -179,15 +217,19 @@ module _ (setup : Setup) (events : List Event) (whole : IsWhole setup) where
   abbrev IsSuccessOfServer : ServerNow → Type 0
   IsSuccessOfServer s = is_success s.vars.state ≡ true
 
-  implied : ImpliedByOne setup now (peer_conversations setup events) (server_conversations setup events)
+  implied : ImpliedByOne setup now (peer_conversations setup events)
+      (server_conversations setup events)
   implied =
       let all = run_known setup events whole in
       record {
         by_peer = λ honest fresh p_in.
-            peer_tells setup now _ _ all IsSuccessOfPeer (λ p is its again. matching.peers_match setup now _ _ all honest fresh p is its) p_in p_in;
-        by_psk_peer = λ honest fresh. peer_tells setup now _ _ all (λ (p : PeerNow). p.vars.selected ≡ Some psk_kind) (psk.psk_peers_match setup now _ _ all honest fresh);
+            peer_tells setup now _ _ all IsSuccessOfPeer (λ p is its again.
+            matching.peers_match setup now _ _ all honest fresh p is its) p_in p_in;
+        by_psk_peer = λ honest fresh. peer_tells setup now _ _ all (λ (p : PeerNow). p.vars.selected
+            ≡ Some psk_kind) (psk.psk_peers_match setup now _ _ all honest fresh);
         by_server = λ honest s_in.
-            server_tells setup now _ _ all IsSuccessOfServer (λ s is its again. matching.servers_rest setup now _ _ all honest s is its) s_in s_in;
+            server_tells setup now _ _ all IsSuccessOfServer
+            (λ s is its again. matching.servers_rest setup now _ _ all honest s is its) s_in s_in;
         by_server_once = λ honest two s_in.
             (let none = none_if_honest (first_broken Other [] now.book) honest in
             knows setup whole now (invariant_first setup now (every_run_so_far setup events) two)

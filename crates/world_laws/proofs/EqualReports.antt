@@ -23,6 +23,8 @@ report_is_same report =
     (and_from _ _ (same_octets report.msk) (same_octets report.emsk)))))
 
 pub reports_agree : (peer : PeerSetup) (server : ServerSetup) (one other : Report) → one ≡ other
-    → peer_agrees peer one ≡ true → server_agrees server one ≡ true → agree peer server one other ≡ true
+    → peer_agrees peer one ≡ true → server_agrees server one ≡ true
+    → agree peer server one other ≡ true
 reports_agree peer server one other same by_peer by_server =
-    and_from _ _ (subst (λ (report : Report). same_report one report ≡ true) same (report_is_same one)) (and_from _ _ by_peer by_server)
+    and_from _ _ (subst (λ (report : Report). same_report one report ≡ true) same
+    (report_is_same one)) (and_from _ _ by_peer by_server)

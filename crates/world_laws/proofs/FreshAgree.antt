@@ -1,4 +1,5 @@
--- Over an honest book and fresh nonces two ends that both stand in SUCCESS agree, and hold each other's present nonces.
+-- Over an honest book and fresh nonces two ends that both stand in SUCCESS agree, and hold each
+-- other's present nonces.
 use Rattle.std.proofs.Common.{◌≡◌, Bool, true, List, [], Some, refl, sym, ap, subst, ◌∙◌}
 use Rattle.std.specs.Prelude.{◌&&◌, if◌then◌else◌}
 use Rattle.login_setup.specs.declared.event.Event.{Event}
@@ -20,7 +21,9 @@ use Rattle.world_laws.proofs.OneLogin.{first_is_in, in_one}
 use Rattle.world_laws.proofs.PastConversations.{accepted_now}
 use Rattle.world_laws.proofs.Resting.{AreOne}
 use Rattle.world_laws.proofs.Resting as resting
-use Rattle.world_laws.proofs.SucceedingEnds.{FirstIn, PeerSucceeds, ServerSucceeds, both_agree, both_succeed, first_in, own_theirs, peer_succeeds, server_knows_nonce, server_succeeds}
+use Rattle.world_laws.proofs.SucceedingEnds.{FirstIn, PeerSucceeds, ServerSucceeds, both_agree}
+use Rattle.world_laws.proofs.SucceedingEnds.{both_succeed, first_in, own_theirs, peer_succeeds}
+use Rattle.world_laws.proofs.SucceedingEnds.{server_knows_nonce, server_succeeds}
 use Rattle.tag_book.specs.Book.{first_broken, tags_verdict}
 use Rattle.eap_world.specs.Conversations.{front}
 use Rattle.eap_world.specs.Judgement.{is_success, verdict_of}
@@ -34,30 +37,41 @@ use Rattle.eap_world.specs.declared.verdict.Verdict.TheVariants.{Agree, Apart, U
 use Rattle.world_laws.specs.Runs.{run_of}
 
 pub agree_if : (one other same : Bool) → one ≡ true → other ≡ true → same ≡ true
-    → (let verdict : Verdict = if one && other then (if same then Agree else Apart) else Unfinished in verdict) ≡ Agree
+    → (let verdict : Verdict = if one && other then (if same then Agree else Apart)
+    else Unfinished in verdict) ≡ Agree
 agree_if one other same a b c = rw (a, b, c) refl
 
 -- a peer that stands in SUCCESS has succeeded
-pub peer_won : (setup : Setup) (w : WorldNow) (h : BothConverse setup w) → is_success w.parties.peer.vars.state ≡ true
-    → PeerSucceeds (peers.setup_with_nonce setup.peer h.peer_nonce) w.parties.peer h.peer.accepted h.peer.made
+pub peer_won : (setup : Setup) (w : WorldNow) (h : BothConverse setup w)
+    → is_success w.parties.peer.vars.state ≡ true
+    → PeerSucceeds (peers.setup_with_nonce setup.peer h.peer_nonce)
+    w.parties.peer h.peer.accepted h.peer.made
 peer_won setup w h p_in =
     let stands = h.peer.now.stands in
-    peer_succeeds (peers.setup_with_nonce setup.peer h.peer_nonce) w.parties.peer h.peer.accepted h.peer.made stands.tags (stands.decided (stands.sure p_in))
+    peer_succeeds (peers.setup_with_nonce setup.peer h.peer_nonce)
+    w.parties.peer h.peer.accepted h.peer.made stands.tags (stands.decided (stands.sure p_in))
 
 -- a server that stands in SUCCESS has succeeded
-pub server_won : (setup : Setup) (w : WorldNow) (h : BothConverse setup w) → is_success w.parties.server.vars.state ≡ true
-    → ServerSucceeds (servers.setup_with_nonce setup.server h.server_nonce) w.parties.server h.server.accepted h.server.made
+pub server_won : (setup : Setup) (w : WorldNow) (h : BothConverse setup w)
+    → is_success w.parties.server.vars.state ≡ true
+    → ServerSucceeds (servers.setup_with_nonce setup.server h.server_nonce)
+    w.parties.server h.server.accepted h.server.made
 server_won setup w h s_in =
     let stands = h.server.now.stands in
-    server_succeeds (servers.setup_with_nonce setup.server h.server_nonce) w.parties.server h.server.accepted h.server.made stands.tags (stands.sure s_in)
+    server_succeeds (servers.setup_with_nonce setup.server h.server_nonce)
+    w.parties.server h.server.accepted h.server.made stands.tags (stands.sure s_in)
 
--- both ends agree, where the server's tag that the peer asks is the server's, and those that the server's present conversation asks, and its
--- past ones under the same key, are the peer's
-pub agree_anew : (setup : Setup) (w : WorldNow) (h : BothConverse setup w) → w.conversations.fresh ≡ true
+-- both ends agree, where the server's tag that the peer asks is the server's, and those that the
+-- server's present conversation asks, and its past ones under the same key, are the peer's
+pub agree_anew : (setup : Setup) (w : WorldNow) (h : BothConverse setup w)
+    → w.conversations.fresh ≡ true
     → is_success w.parties.peer.vars.state ≡ true → is_success w.parties.server.vars.state ≡ true
-    → (p_asks : AsksServer h.peer_nonce h.peer.accepted) → IsIn p_asks.tag (tags_by end.Server Made w.book)
-    → ((t : TagRecord) → IsIn t h.server.accepted → IsIn t (tags_by end.Server Accepted w.book) → NotByServer setup.server t → IsIn t (tags_by end.Peer Made w.book))
-    → ((t : TagRecord) → IsIn t (tags_by end.Server Accepted w.book) → t.psk ≡ p_asks.tag.psk → NotByServer setup.server t
+    → (p_asks : AsksServer h.peer_nonce h.peer.accepted)
+    → IsIn p_asks.tag (tags_by end.Server Made w.book)
+    → ((t : TagRecord) → IsIn t h.server.accepted → IsIn t (tags_by end.Server Accepted w.book)
+    → NotByServer setup.server t → IsIn t (tags_by end.Peer Made w.book))
+    → ((t : TagRecord) → IsIn t (tags_by end.Server Accepted w.book) → t.psk ≡ p_asks.tag.psk
+    → NotByServer setup.server t
     → IsIn t (tags_by end.Peer Made w.book))
     → AgreeAnew setup w
 unfolding verdict_of
@@ -72,24 +86,34 @@ agree_anew setup w h fresh p_in s_in p_asks p_made present_honest server_honest 
     let s_won = server_won setup w h s_in in
     let holds = server_knows_nonce server_setup s _ _ s_won in
     let s_held : h.server.held ≡ Some holds.foreign = sym h.server.now.held_is ∙ holds.is in
-    let s_asks = server_asks setup.server h.server_nonce holds.foreign h.server.size h.server.held h.server.accepted h.server.made h.server.told s_held in
+    let s_asks = server_asks setup.server h.server_nonce holds.foreign h.server.size h.server.held
+    h.server.accepted h.server.made h.server.told s_held in
     let s_is = first_is_in s_asks.tag s_asks.rest h.server.accepted s_asks.first in
-    let s_made = present_honest s_asks.tag s_is (accepted_now (ServerTagOwner setup.server) _ _ _ _ h.server s_asks.tag s_is) s_asks.alien in
-    let one = in_one setup.peer setup.server _ _ _ _ _ _ _ _ h.peer h.server refl refl refl refl fresh fresh
+    let s_made = present_honest s_asks.tag s_is
+    (accepted_now (ServerTagOwner setup.server) _ _ _ _ h.server s_asks.tag s_is) s_asks.alien in
+    let one =
+    in_one setup.peer setup.server _ _ _ _ _ _ _ _ h.peer h.server refl refl refl refl fresh fresh
     p_asks.tag.psk server_honest holds.foreign s_held s_asks s_made p_asks refl p_made in
-    let of_peer : FirstIn h.peer.accepted h.server.made = first_in h.peer.accepted h.server.made p_asks.tag p_asks.rest p_asks.first one.peer_tag in
-    let succeed = both_succeed peer_setup server_setup p s h.peer.size h.server.size _ _ _ _ p_won s_won (λ _. of_peer)
+    let of_peer : FirstIn h.peer.accepted h.server.made =
+    first_in h.peer.accepted h.server.made p_asks.tag p_asks.rest p_asks.first one.peer_tag in
+    let succeed = both_succeed peer_setup server_setup p s h.peer.size h.server.size _ _ _ _ p_won
+    s_won (λ _. of_peer)
     (first_in h.server.accepted h.peer.made s_asks.tag s_asks.rest s_asks.first one.server_tag) in
     let same = both_agree peer_setup server_setup p s h.peer.size h.server.size succeed in
-    let are = resting.server_on setup.peer setup.server h.peer_nonce h.server_nonce h.peer.size h.server.size p.vars.selected p.views s.vars.current s.views
+    let are = resting.server_on setup.peer setup.server h.peer_nonce h.server_nonce h.peer.size
+    h.server.size p.vars.selected p.views s.vars.current s.views
     _ _ s_stands.tags _ _ p_stands.tags s_asks.tag s_asks.rest s_asks.first one.server_tag in
-    let are_own = subst (λ (x : PeerSetup). AreOne p.vars.selected p.views x.nonce s.vars.current s.views s.vars.setup.nonce) (sym p_stands.own)
-    (subst (λ (x : ServerSetup). AreOne p.vars.selected p.views h.peer_nonce s.vars.current s.views x.nonce) (sym s_stands.own) are) in
+    let are_own = subst (λ (x : PeerSetup). AreOne p.vars.selected p.views x.nonce s.vars.current
+    s.views s.vars.setup.nonce) (sym p_stands.own) (subst (λ (x : ServerSetup). AreOne
+    p.vars.selected p.views h.peer_nonce s.vars.current s.views x.nonce) (sym s_stands.own) are) in
     record {
-      agree = agree_if (is_success p.vars.state) (is_success s.vars.state) _ p_in s_in (rw (p_stands.own, s_stands.own) same);
+      agree = agree_if (is_success p.vars.state) (is_success s.vars.state) _ p_in s_in
+          (rw (p_stands.own, s_stands.own) same);
       hold = record {
-        rand_s = h.peer.now.held_is ∙ (one.peer_knows_nonce ∙ ap (λ (x : ServerSetup). Some (front x.nonce)) (sym s_stands.own));
-        rand_p = h.server.now.held_is ∙ (one.server_knows_nonce ∙ ap (λ (x : PeerSetup). Some (front x.nonce)) (sym p_stands.own));
+        rand_s = h.peer.now.held_is ∙ (one.peer_knows_nonce
+            ∙ ap (λ (x : ServerSetup). Some (front x.nonce)) (sym s_stands.own));
+        rand_p = h.server.now.held_is ∙ (one.server_knows_nonce
+            ∙ ap (λ (x : PeerSetup). Some (front x.nonce)) (sym p_stands.own));
         whole = are_own.whole;
       };
       theirs = own_theirs setup w h.peer_nonce h.server_nonce succeed;
@@ -98,14 +122,18 @@ agree_anew setup w h fresh p_in s_in p_asks p_made present_honest server_honest 
 -- every run of a whole setup
 pub fresh_ends_agree : (setup : Setup) (events : List Event) → IsWhole setup
     → (let w = run_of setup events in
-    tags_verdict w.book ≡ Honest → w.conversations.fresh ≡ true → is_success w.parties.peer.vars.state ≡ true
+    tags_verdict w.book ≡ Honest → w.conversations.fresh ≡ true
+    → is_success w.parties.peer.vars.state ≡ true
     → is_success w.parties.server.vars.state ≡ true → AgreeAnew setup w)
 fresh_ends_agree setup events whole honest fresh p_in s_in =
     let w = run_of setup events in
     let h = run_converses setup events whole in
     let none = none_if_honest (first_broken Other [] w.book) honest in
-    let p_asks = peer_asks setup.peer h.peer_nonce w.parties.peer h.peer.accepted h.peer.made h.peer.size (peer_won setup w h p_in) in
+    let p_asks = peer_asks setup.peer h.peer_nonce w.parties.peer h.peer.accepted h.peer.made
+    h.peer.size (peer_won setup w h p_in) in
     agree_anew setup w h fresh p_in s_in p_asks
     (honest_other end.Peer w.book none p_asks.tag
-    (accepted_now (PeerTagOwner setup.peer) _ _ _ _ h.peer p_asks.tag (first_is_in p_asks.tag p_asks.rest h.peer.accepted p_asks.first)))
-    (λ t now is alien. honest_other end.Server w.book none t is) (λ t is same alien. honest_other end.Server w.book none t is)
+    (accepted_now (PeerTagOwner setup.peer) _ _ _ _ h.peer p_asks.tag
+    (first_is_in p_asks.tag p_asks.rest h.peer.accepted p_asks.first)))
+    (λ t now is alien. honest_other end.Server w.book none t is)
+    (λ t is same alien. honest_other end.Server w.book none t is)

@@ -1,5 +1,6 @@
 -- Two ends that have succeeded by EAP-GPSK agree, and what they report is their own.
-use Rattle.std.proofs.Common.{◌≡◌, ℕ, true, false, List, [], ◌∷◌, ◌++◌, length, Some, refl, sym, ap, subst, ◌∙◌, length-append, arith, inl, inr, Option, None}
+use Rattle.std.proofs.Common.{◌≡◌, ℕ, true, false, List, [], ◌∷◌, ◌++◌, length, Some, refl, sym, ap}
+use Rattle.std.proofs.Common.{subst, ◌∙◌, length-append, arith, inl, inr, Option, None}
 use Rattle.std.proofs.lemmas.Option.{same_Some}
 use Rattle.std.proofs.lemmas.Bool.{and_from, not_from_false}
 use Rattle.login_setup.specs.declared.setup.PeerSetup.{PeerSetup}
@@ -35,7 +36,8 @@ use Rattle.world_laws.proofs.EqualReports.{reports_agree}
 use Rattle.world_laws.proofs.Fields.{fronts, sized_fronts, suite_fronts}
 use Rattle.world_laws.proofs.Results.{own_key, own_name}
 use Rattle.eap_method.specs.BothPeers.{gpsk_in, gpsk_of, gpsk_shown}
-use Rattle.eap_method.specs.Peer.{Method, by_psk, by_gpsk, by_other, View, report, PeerShown, peer_report, reported}
+use Rattle.eap_method.specs.Peer.{Method, by_psk, by_gpsk, by_other, View, report, PeerShown}
+use Rattle.eap_method.specs.Peer.{peer_report, reported}
 
 -- both ends speak of the same login
 pub record IsSame (p : peer.Login) (list : List ℕ) (s : server.Login) : Type 0 where
@@ -48,8 +50,10 @@ pub record IsSame (p : peer.Login) (list : List ℕ) (s : server.Login) : Type 0
   pub offered : list ≡ suite_list s.own.suites
 
 -- equal octets before the MACs of two GPSK-2
-pub covers_same : (p : peer.Login) (s : server.Login) (list pd : List ℕ) → length p.nonce ≡ 32 → length s.rand_p ≡ 32 → length p.rand_s ≡ 32 → length s.nonce ≡ 32
-    → p.cred.psk ≡ s.psk → covered_of (gpsk2_of_login s pd) ≡ covered_of (peer.gpsk2_of p list) → IsSame p list s
+pub covers_same : (p : peer.Login) (s : server.Login) (list pd : List ℕ) → length p.nonce ≡ 32
+    → length s.rand_p ≡ 32 → length p.rand_s ≡ 32 → length s.nonce ≡ 32
+    → p.cred.psk ≡ s.psk → covered_of (gpsk2_of_login s pd) ≡ covered_of (peer.gpsk2_of p list)
+    → IsSame p list s
 unfolding covered_of
 covers_same p s list pd size_1 size_2 size_3 size_4 psk e =
     let t0 = sized_fronts p.cred.id_p _ s.id_p _ (sym e) in
@@ -57,31 +61,49 @@ covers_same p s list pd size_1 size_2 size_3 size_4 psk e =
     let t2 = fronts 32 p.nonce _ s.rand_p _ size_1 size_2 t1.1 in
     let t3 = fronts 32 p.rand_s _ s.nonce _ size_3 size_4 t2.1 in
     let t4 = sized_fronts list _ (suite_list s.own.suites) _ t3.1 in
-    record { psk = psk; id_p = t0.0; id_s = t1.0; rand_p = t2.0; rand_s = t3.0; suite = suite_fronts p.suite s.suite _ _ t4.1; offered = t4.0 }
+    record {
+      psk = psk;
+      id_p = t0.0;
+      id_s = t1.0;
+      rand_p = t2.0;
+      rand_s = t3.0;
+      suite = suite_fronts p.suite s.suite _ _ t4.1;
+      offered = t4.0;
+    }
 
 -- what the MAC of GPSK-4 covers is shorter than what that of GPSK-2 covers
 longer : (first second rest : List ℕ) → [] ≡ first ++ (field_with_length second ++ rest) → ⊥
 longer first second rest e =
-    let sizes : length {A = ℕ} [] ≡ length (first ++ (field_with_length second ++ rest)) = ap length e in
+    let sizes : length {A = ℕ} [] ≡ length (first ++ (field_with_length second ++ rest)) =
+    ap length e in
     absurd (omega (arith, length-append first (field_with_length second ++ rest)))
 
-not_gpsk4 : (p : peer.Login) (s : server.Login) (pd : List ℕ) → covered_of (gpsk2_of_login s pd) ≡ covered_of (peer.gpsk4_of p) → ⊥
+not_gpsk4 : (p : peer.Login) (s : server.Login) (pd : List ℕ) → covered_of (gpsk2_of_login s pd)
+    ≡ covered_of (peer.gpsk4_of p) → ⊥
 unfolding covered_of
 not_gpsk4 p s pd e =
-    let rest : s.id_p ++ (field_with_length s.own.id_s ++ (s.rand_p ++ (s.nonce ++ (field_with_length (suite_list s.own.suites) ++ (suite_octets s.suite ++ field_with_length pd))))) ≡ [] = cc in
+    let rest :
+    s.id_p ++ (field_with_length s.own.id_s ++ (s.rand_p ++ (s.nonce ++ (field_with_length
+    (suite_list s.own.suites) ++ (suite_octets s.suite ++ field_with_length pd))))) ≡ [] = cc in
     longer s.id_p s.own.id_s _ (sym rest)
 
--- what the MAC of GPSK-3 covers is shorter than what that of GPSK-2 with the same names, nonces and suite covers, by
--- ID_Peer with its length, CSuite_List with its length, and the PD block
+-- what the MAC of GPSK-3 covers is shorter than what that of GPSK-2 with the same names, nonces and
+-- suite covers, by ID_Peer with its length, CSuite_List with its length, and the PD block
 covers_more : (id_p id_s rand_p rand_s list suite pd : List ℕ)
-    → field_with_length id_p ++ (field_with_length id_s ++ (rand_p ++ (rand_s ++ (field_with_length list ++ (suite ++ field_with_length pd))))) ≡ rand_p ++ (rand_s ++ (field_with_length id_s ++ (suite ++ field_with_length []))) → ⊥
+    → field_with_length id_p ++ (field_with_length id_s
+    ++ (rand_p ++ (rand_s ++ (field_with_length list ++ (suite ++ field_with_length pd)))))
+    ≡ rand_p ++ (rand_s ++ (field_with_length id_s ++ (suite ++ field_with_length []))) → ⊥
 covers_more id_p id_s rand_p rand_s list suite pd e =
-    let sizes : length (field_with_length id_p ++ (field_with_length id_s ++ (rand_p ++ (rand_s ++ (field_with_length list ++ (suite ++ field_with_length pd))))))
-    ≡ length (rand_p ++ (rand_s ++ (field_with_length id_s ++ (suite ++ field_with_length [])))) = ap length e in
+    let sizes : length (field_with_length id_p ++ (field_with_length id_s
+    ++ (rand_p ++ (rand_s ++ (field_with_length list ++ (suite ++ field_with_length pd))))))
+    ≡ length (rand_p ++ (rand_s ++ (field_with_length id_s ++ (suite ++ field_with_length [])))) =
+    ap length e in
     absurd (omega (
       arith,
-      length-append id_p (field_with_length id_s ++ (rand_p ++ (rand_s ++ (field_with_length list ++ (suite ++ field_with_length pd))))),
-      length-append id_s (rand_p ++ (rand_s ++ (field_with_length list ++ (suite ++ field_with_length pd)))),
+      length-append id_p (field_with_length id_s
+          ++ (rand_p ++ (rand_s ++ (field_with_length list ++ (suite ++ field_with_length pd))))),
+      length-append id_s
+          (rand_p ++ (rand_s ++ (field_with_length list ++ (suite ++ field_with_length pd)))),
       length-append rand_p (rand_s ++ (field_with_length list ++ (suite ++ field_with_length pd))),
       length-append rand_s (field_with_length list ++ (suite ++ field_with_length pd)),
       length-append list (suite ++ field_with_length pd),
@@ -93,42 +115,53 @@ covers_more id_p id_s rand_p rand_s list suite pd e =
     ))
 
 -- the GPSK-2 that the server accepted isn't the GPSK-3 that it made itself
-pub not_own : (s : server.Login) (pd : List ℕ) → IsIn (sk_record s.psk (gpsk2_of_login s pd)) (sk_record s.psk (server.gpsk3_of s) ∷ []) → ⊥
+pub not_own : (s : server.Login) (pd : List ℕ)
+    → IsIn (sk_record s.psk (gpsk2_of_login s pd)) (sk_record s.psk (server.gpsk3_of s) ∷ []) → ⊥
 unfolding covered_of
 not_own s pd is_in =
-    covers_more s.id_p s.own.id_s s.rand_p s.nonce (suite_list s.own.suites) (suite_octets s.suite) pd
-    (ap (λ (tag : TagRecord). tag.octets) (among_one _ _ is_in))
+    covers_more s.id_p s.own.id_s s.rand_p s.nonce (suite_list s.own.suites)
+    (suite_octets s.suite) pd (ap (λ (tag : TagRecord). tag.octets) (among_one _ _ is_in))
 
-pub same_reports : (p : peer.Login) (list : List ℕ) (s : server.Login) → IsSame p list s → peer.report_of p ≡ server.report_of s
+pub same_reports : (p : peer.Login) (list : List ℕ) (s : server.Login) → IsSame p list s
+    → peer.report_of p ≡ server.report_of s
 unfolding peer.report_of server.report_of peer.keys_of server.keys_of
-same_reports p list s same = rw (same.psk, same.id_p, same.id_s, same.rand_p, same.rand_s, same.suite) refl
+same_reports p list s same =
+    rw (same.psk, same.id_p, same.id_s, same.rand_p, same.rand_s, same.suite) refl
 
-gpsk_method_reported : (m : Method) (view : View m) (login : peer.Login) → gpsk_of m view ≡ peer.over login true → report m view ≡ Some (peer.report_of login)
+gpsk_method_reported : (m : Method) (view : View m) (login : peer.Login)
+    → gpsk_of m view ≡ peer.over login true → report m view ≡ Some (peer.report_of login)
 gpsk_method_reported by_psk view login in_view = absurd cc
 gpsk_method_reported by_gpsk view login in_view = ap peer.report in_view
 gpsk_method_reported (by_other custom) view login in_view = absurd cc
 
-gpsk_reported : (found : Option PeerShown) (login : peer.Login) → gpsk_shown found ≡ peer.over login true → reported found ≡ Some (peer.report_of login)
+gpsk_reported : (found : Option PeerShown) (login : peer.Login)
+    → gpsk_shown found ≡ peer.over login true → reported found ≡ Some (peer.report_of login)
 unfolding peer_report
 gpsk_reported None login in_view = absurd cc
 gpsk_reported (Some s) login in_view = gpsk_method_reported s.method s.view login in_view
 
-module _ (setup : PeerSetup) (login : peer.Login) (list : List ℕ) (facts : GpskStarted setup login list) where
+module _ (setup : PeerSetup) (login : peer.Login) (list : List ℕ)
+    (facts : GpskStarted setup login list) where
   by_peer : peer_agrees setup (peer.report_of login) ≡ true
   unfolding peer.report_of
-  by_peer = and_from _ _ facts.allowed (and_from _ _ facts.accepted (picked_is_allowed setup.suites list login.suite facts.picked))
+  by_peer = and_from _ _ facts.allowed
+      (and_from _ _ facts.accepted (picked_is_allowed setup.suites list login.suite facts.picked))
 
-  pub peer_reported : (now : PeerNow) → now.vars.selected ≡ Some gpsk_kind → gpsk_in now.views ≡ peer.over login true → peer_reports now ≡ Some (peer.report_of login)
+  pub peer_reported : (now : PeerNow) → now.vars.selected ≡ Some gpsk_kind
+      → gpsk_in now.views ≡ peer.over login true → peer_reports now ≡ Some (peer.report_of login)
   unfolding peer_report_of
-  peer_reported now is_selected in_view = ap (selected_report now.views) is_selected ∙ gpsk_reported (now.views gpsk_kind) login in_view
+  peer_reported now is_selected in_view =
+      ap (selected_report now.views) is_selected ∙ gpsk_reported (now.views gpsk_kind) login in_view
 
-server_method_reported : (m : servers.Method) (view : servers.View m) (login : server.Login) → at_server.gpsk_of m view ≡ Some (server.over login true)
+server_method_reported : (m : servers.Method) (view : servers.View m) (login : server.Login)
+    → at_server.gpsk_of m view ≡ Some (server.over login true)
     → servers.report m view ≡ Some (server.report_of login)
 server_method_reported servers.by_psk view login in_view = absurd cc
 server_method_reported servers.by_gpsk view login in_view = ap server.report (same_Some _ _ in_view)
 server_method_reported (servers.by_other custom) view login in_view = absurd cc
 
-server_gpsk_reported : (found : Option servers.ServerShown) (login : server.Login) → at_server.gpsk_shown found ≡ Some (server.over login true)
+server_gpsk_reported : (found : Option servers.ServerShown) (login : server.Login)
+    → at_server.gpsk_shown found ≡ Some (server.over login true)
     → servers.reported found ≡ Some (server.report_of login)
 unfolding servers.server_report
 server_gpsk_reported None login in_view = absurd cc
@@ -137,38 +170,52 @@ server_gpsk_reported (Some s) login in_view = server_method_reported s.method s.
 module _ (setup : ServerSetup) (login : server.Login) (facts : GpskChecked setup login false) where
   by_server : server_agrees setup (server.report_of login) ≡ true
   unfolding server.report_of
-  by_server = and_from _ _ facts.ordered (and_from _ _ facts.offered (ap is_welcome facts.known ∙ not_from_false _ facts.standing))
+  by_server = and_from _ _ facts.ordered
+      (and_from _ _ facts.offered (ap is_welcome facts.known ∙ not_from_false _ facts.standing))
 
-  pub server_reported : (now : ServerNow) → now.vars.current ≡ Some gpsk_kind → gpsk_at now.views ≡ Some (server.over login true) → server_reports now ≡ Some (server.report_of login)
+  pub server_reported : (now : ServerNow) → now.vars.current ≡ Some gpsk_kind → gpsk_at now.views
+      ≡ Some (server.over login true) → server_reports now ≡ Some (server.report_of login)
   unfolding server_report_of
-  server_reported now is_current in_view = ap (current_report now.views) is_current ∙ server_gpsk_reported (now.views gpsk_kind) login in_view
+  server_reported now is_current in_view = ap (current_report now.views) is_current
+      ∙ server_gpsk_reported (now.views gpsk_kind) login in_view
 
-module _ (peer_setup : PeerSetup) (server_setup : ServerSetup) (p : peer.Login) (list : List ℕ) (begun : GpskStarted peer_setup p list)
-    (s : server.Login) (pd : List ℕ) (checked : GpskChecked server_setup s false)
-    (peer_nonce : length peer_setup.nonce ≡ 32) (server_nonce : length server_setup.nonce ≡ 32) where
+module _ (peer_setup : PeerSetup) (server_setup : ServerSetup) (p : peer.Login) (list : List ℕ)
+    (begun : GpskStarted peer_setup p list) (s : server.Login) (pd : List ℕ)
+    (checked : GpskChecked server_setup s false) (peer_nonce : length peer_setup.nonce ≡ 32)
+    (server_nonce : length server_setup.nonce ≡ 32) where
   -- the GPSK-2 that the server accepted is one that the peer made
-  pub same_login : IsIn (sk_record s.psk (gpsk2_of_login s pd)) (gpsk2_record p list ∷ sk_record p.cred.psk (peer.gpsk4_of p) ∷ []) → IsSame p list s
+  pub same_login : IsIn (sk_record s.psk (gpsk2_of_login s pd)) (gpsk2_record p list
+      ∷ sk_record p.cred.psk (peer.gpsk4_of p) ∷ []) → IsSame p list s
   same_login is_in =
       elim (among_two _ _ _ is_in) [
         | inl first ↦ covers_same p s list pd
-            (ap length begun.nonce ∙ peer_nonce) checked.size begun.size (ap length checked.nonce ∙ server_nonce)
-            (sym (ap (λ (tag : TagRecord). tag.psk) first)) (ap (λ (tag : TagRecord). tag.octets) first)
+            (ap length begun.nonce ∙ peer_nonce) checked.size begun.size
+            (ap length checked.nonce ∙ server_nonce) (sym (ap (λ (tag : TagRecord). tag.psk) first))
+            (ap (λ (tag : TagRecord). tag.octets) first)
         | inr second ↦ absurd (not_gpsk4 p s pd (ap (λ (tag : TagRecord). tag.octets) second))
       ]
 
-  pub gpsk_agree : (now : PeerNow) (other : ServerNow) → now.vars.selected ≡ Some gpsk_kind → gpsk_in now.views ≡ peer.over p true
-      → other.vars.current ≡ Some gpsk_kind → gpsk_at other.views ≡ Some (server.over s true) → IsSame p list s
+  pub gpsk_agree : (now : PeerNow) (other : ServerNow) → now.vars.selected ≡ Some gpsk_kind
+      → gpsk_in now.views ≡ peer.over p true
+      → other.vars.current ≡ Some gpsk_kind → gpsk_at other.views ≡ Some (server.over s true)
+      → IsSame p list s
       → agreement_of peer_setup server_setup (peer_reports now) (server_reports other) ≡ true
   gpsk_agree now other is_selected in_view is_current in_other same =
       let reports : peer.report_of p ≡ server.report_of s = same_reports p list s same in
-      let agreed = reports_agree peer_setup server_setup (peer.report_of p) (server.report_of s) reports
+      let agreed =
+      reports_agree peer_setup server_setup (peer.report_of p) (server.report_of s) reports
       (by_peer peer_setup p list begun)
-      (subst (λ (report : Report). server_agrees server_setup report ≡ true) (sym reports) (by_server server_setup s checked)) in
-      rw (peer_reported peer_setup p list begun now is_selected in_view, server_reported server_setup s checked other is_current in_other) agreed
+      (subst (λ (report : Report). server_agrees server_setup report ≡ true) (sym reports)
+      (by_server server_setup s checked)) in
+      rw (
+        peer_reported peer_setup p list begun now is_selected in_view,
+        server_reported server_setup s checked other is_current in_other,
+      ) agreed
 
 -- what both report is their own: names, key and suite
-module _ (setup : Setup) (w : WorldNow) (login : peer.Login) (list : List ℕ) (facts : GpskStarted setup.peer login list)
-    (other : server.Login) (pd : List ℕ) (checked : GpskChecked setup.server other false) (same : IsSame login list other) where
+module _ (setup : Setup) (w : WorldNow) (login : peer.Login) (list : List ℕ)
+    (facts : GpskStarted setup.peer login list) (other : server.Login) (pd : List ℕ)
+    (checked : GpskChecked setup.server other false) (same : IsSame login list other) where
   server_name : login.id_s ≡ setup.server.name
   unfolding side_of
   server_name = same.id_s ∙ ap (λ own. own.id_s) checked.own
@@ -186,19 +233,24 @@ module _ (setup : Setup) (w : WorldNow) (login : peer.Login) (list : List ℕ) (
     is_suite = refl;
   }
 
-  pub gpsk_theirs : w.parties.peer.vars.selected ≡ Some gpsk_kind → gpsk_in w.parties.peer.views ≡ peer.over login true
-      → w.parties.server.vars.current ≡ Some gpsk_kind → gpsk_at w.parties.server.views ≡ Some (server.over other true) → AreTheirs setup w.parties.peer w.parties.server
+  pub gpsk_theirs : w.parties.peer.vars.selected ≡ Some gpsk_kind
+      → gpsk_in w.parties.peer.views ≡ peer.over login true
+      → w.parties.server.vars.current ≡ Some gpsk_kind → gpsk_at w.parties.server.views
+      ≡ Some (server.over other true) → AreTheirs setup w.parties.peer w.parties.server
   unfolding peer.report_of
   gpsk_theirs is_selected in_view is_current in_other =
-      let name : login.cred.id_p ≡ setup.peer.name = own_name setup.peer gpsk_kind login.cred facts.cred in
+      let name : login.cred.id_p ≡ setup.peer.name =
+      own_name setup.peer gpsk_kind login.cred facts.cred in
       record {
         report = peer.report_of login;
         holds = peer_reported setup.peer login list facts w.parties.peer is_selected in_view;
-        same = server_reported setup.server other checked w.parties.server is_current in_other ∙ ap Some (sym (same_reports login list other same));
+        same = server_reported setup.server other checked w.parties.server is_current in_other
+            ∙ ap Some (sym (same_reports login list other same));
         id_p = name;
         id_s = server_name;
         user = checked.user;
-        known = ap (λ (id : List ℕ). user_of setup.server.users id gpsk_kind) (sym name ∙ same.id_p) ∙ checked.known;
+        known = ap (λ (id : List ℕ). user_of setup.server.users id gpsk_kind) (sym name ∙ same.id_p)
+            ∙ checked.known;
         key = sym checked.key ∙ (sym same.psk ∙ own_key setup.peer gpsk_kind login.cred facts.cred);
         welcome = checked.standing;
         first_suite = λ e. gpsk_suite;

@@ -1,5 +1,6 @@
 -- A book that is honest is honest under each key.
-use Rattle.std.proofs.Common.{◌≡◌, ℕ, List, [], ◌∷◌, ◌++◌, Bool, true, false, None, refl, sym, ap, ◌∙◌}
+use Rattle.std.proofs.Common.{◌≡◌, ℕ, List, [], ◌∷◌, ◌++◌, Bool, true, false, None, refl, sym, ap}
+use Rattle.std.proofs.Common.{◌∙◌}
 use Rattle.std.specs.Prelude.{if◌then◌else◌}
 use Rattle.std.specs.Str.{bytes_eq}
 use Rattle.tag_book.specs.Book.{first_broken, is_honest, under, verdict_on}
@@ -13,27 +14,35 @@ use Rattle.world_laws.proofs.HonestOfEither.{none_if_honest}
 use Rattle.world_laws.proofs.TagsOfEnds.{unbroken}
 
 module _ (key : List ℕ) where
-  unbroken_under : (makers : RecordOwner) (earlier rest : List Entry) → first_broken makers earlier rest ≡ None
+  unbroken_under : (makers : RecordOwner) (earlier rest : List Entry)
+      → first_broken makers earlier rest ≡ None
       → first_broken makers (under key earlier) (under key rest) ≡ None
   unfolding first_broken under
   unbroken_under makers earlier [] none = refl
   unbroken_under makers earlier (e ∷ rest) none =
       let u = unbroken makers earlier e rest none in
-      by (bytes_eq e.tag.psk key) refl u.honest (unbroken_under makers (earlier ++ e ∷ []) rest u.behind)
+      by (bytes_eq e.tag.psk key) refl u.honest
+      (unbroken_under makers (earlier ++ e ∷ []) rest u.behind)
     where
       by : (b : Bool) → bytes_eq e.tag.psk key ≡ b → is_honest makers earlier e ≡ true
           → first_broken makers (under key (earlier ++ e ∷ [])) (under key rest) ≡ None
-          → first_broken makers (under key earlier) (if b then e ∷ under key rest else under key rest) ≡ None
+          → first_broken makers (under key earlier) (if b then e ∷ under key rest
+          else under key rest) ≡ None
       by true its honest behind =
-          passed makers (under key earlier) (under key rest) e (honest_under key makers e its earlier ∙ honest)
-          ∙ ap (λ (l : List Entry). first_broken makers l (under key rest)) (sym (one_more key earlier e its))
+          passed makers (under key earlier) (under key rest) e
+          (honest_under key makers e its earlier ∙ honest)
+          ∙ ap (λ (l : List Entry). first_broken makers l (under key rest))
+          (sym (one_more key earlier e its))
           ∙ behind
       by false its honest behind =
-          ap (λ (l : List Entry). first_broken makers l (under key rest)) (sym (none_more key earlier e its)) ∙ behind
+          ap (λ (l : List Entry). first_broken makers l (under key rest)) (sym
+          (none_more key earlier e its)) ∙ behind
 
 pub honest_under_a_key : HonestUnder
 unfolding under
 honest_under_a_key key book = (
-  (λ honest. ap verdict_on (unbroken_under key Other [] book (none_if_honest (first_broken Other [] book) honest))),
-  (λ honest. ap verdict_on (unbroken_under key Either [] book (none_if_honest (first_broken Either [] book) honest))),
+  (λ honest. ap verdict_on
+      (unbroken_under key Other [] book (none_if_honest (first_broken Other [] book) honest))),
+  (λ honest. ap verdict_on
+      (unbroken_under key Either [] book (none_if_honest (first_broken Either [] book) honest))),
 )

@@ -14,13 +14,16 @@ pub mod StartsOnce
 pub mod Conversations
 -- In every run the conversations of both ends are as told.
 pub mod Conversing
--- Each entry of the book is of an event that has been, and which are of an end's present conversation.
+-- Each entry of the book is of an event that has been, and which are of an end's present
+-- conversation.
 pub mod Dates
--- An event that is discarded changes nothing but the counts, and each report that an end holds was told of.
+-- An event that is discarded changes nothing but the counts, and each report that an end holds was
+-- told of.
 pub mod Discards
 -- What holds of all conversations of an end in a run, by what holds of each event.
 pub mod EachOf
--- What each event does to the conversations of both ends: the present one goes on, or the next one begins.
+-- What each event does to the conversations of both ends: the present one goes on, or the next one
+-- begins.
 pub mod EachTurn
 -- In every run both ends stand as their views tell, in their present conversations.
 pub mod EndInvariants
@@ -38,19 +41,25 @@ pub mod FreshRuns
 pub mod GpskAgrees
 -- The sizes of the nonces that a reader of EAP-GPSK gives.
 pub mod GpskFields
--- The login of an end that has succeeded by EAP-GPSK is that of the other end's conversation on whose tags it rests.
+-- The login of an end that has succeeded by EAP-GPSK is that of the other end's conversation on
+-- whose tags it rests.
 pub mod GpskLogins
 -- The nonces of GPSK-1 and GPSK-2 stand in their octets.
 pub mod GpskNonces
--- What a tag that the peer made by EAP-GPSK tells of the conversation in which it did: both nonces, whole.
+-- What a tag that the peer made by EAP-GPSK tells of the conversation in which it did: both nonces,
+-- whole.
 pub mod GpskPeerOwners
--- Each turn of a peer's method EAP-GPSK: of what came it holds RAND_Server alone, it answers the Request, and its view tells the tags.
+-- Each turn of a peer's method EAP-GPSK: of what came it holds RAND_Server alone, it answers the
+-- Request, and its view tells the tags.
 pub mod GpskPeerTurns
--- What a tag that the server made by EAP-GPSK tells of the conversation in which it did; and what each end asks by its first tag.
+-- What a tag that the server made by EAP-GPSK tells of the conversation in which it did; and what
+-- each end asks by its first tag.
 pub mod GpskServerOwners
--- Each turn of a server's method EAP-GPSK: of what came it holds RAND_Peer alone, it asks with the next Identifier, and its view tells the tags.
+-- Each turn of a server's method EAP-GPSK: of what came it holds RAND_Peer alone, it asks with the
+-- next Identifier, and its view tells the tags.
 pub mod GpskServerTurns
--- By EAP-GPSK two conversations of which one rests on the other hold the whole of each other's nonces.
+-- By EAP-GPSK two conversations of which one rests on the other hold the whole of each other's
+-- nonces.
 pub mod GpskWhole
 -- What an end holds of the other's nonce after a call: what it held before, or what came in it.
 pub mod Receiving
@@ -66,7 +75,8 @@ pub mod LastSent
 pub mod Results
 -- Each conversation in SUCCESS rests on one of the other end, and no two of an end on the same.
 pub mod Matching
--- The nonces that an end has left, those with which conversations have begun, and which nonce is new.
+-- The nonces that an end has left, those with which conversations have begun, and which nonce is
+-- new.
 pub mod NoncesLeft
 -- Two ends in success are in one login: the order of their conversations alone shows it.
 pub mod OneLogin
@@ -74,13 +84,16 @@ pub mod OneLogin
 pub mod OneMethod
 -- Conversations among others, and their tags among all.
 pub mod OneOf
--- What the pass-through sends: what came, on to the other side, or the last packet to the peer again.
+-- What the pass-through sends: what came, on to the other side, or the last packet to the peer
+-- again.
 pub mod PassSpeaks
--- The pass-through in a run is the pass-through alone over what comes to it, which is what was sent or injected.
+-- The pass-through in a run is the pass-through alone over what comes to it, which is what was sent
+-- or injected.
 pub mod Passing
 -- What holds of the conversations of an end, past and present.
 pub mod PastConversations
--- The peer by the method of a Type: what holds of the turns, the nonce and the tags of each method holds of a Type's.
+-- The peer by the method of a Type: what holds of the turns, the nonce and the tags of each method
+-- holds of a Type's.
 pub mod PeerByMethod
 -- A peer's objects stay of EAP-PSK and EAP-GPSK, one of each method that it allows.
 pub mod PeerObjects
@@ -90,17 +103,20 @@ pub mod PeerReceives
 pub mod PeerPreserves
 -- What the peer sends: a Response to what came, new or as it was sent before.
 pub mod PeerSpeaks
--- What is asked of a turn of a peer's method: each Response has the Identifier of the Request, and the view after it tells the tags.
+-- What is asked of a turn of a peer's method: each Response has the Identifier of the Request, and
+-- the view after it tells the tags.
 pub mod PeerTurns
 -- Two ends that have succeeded by EAP-PSK agree, and what they report is their own.
 pub mod PskAgrees
--- The PSK-4 that a server accepts tells which conversation of the peer made it: that has accepted PSK-3.
+-- The PSK-4 that a server accepts tells which conversation of the peer made it: that has accepted
+-- PSK-3.
 pub mod PskAnswered
 -- The sizes of the nonces that a reader of EAP-PSK gives.
 pub mod PskFields
 -- The header that EAX covers of an EAP-PSK message ends in RAND_S.
 pub mod PskHeaders
--- The login of an end that has succeeded by EAP-PSK is that of the other end's conversation on whose tags it rests.
+-- The login of an end that has succeeded by EAP-PSK is that of the other end's conversation on
+-- whose tags it rests.
 pub mod PskLogins
 -- Matching conversations by EAP-PSK.
 pub mod PskMatching
@@ -108,29 +124,37 @@ pub mod PskMatching
 pub mod PskNonces
 -- What a tag that the peer made by EAP-PSK tells of the conversation in which it did: both nonces.
 pub mod PskPeerOwners
--- Each turn of a peer's method EAP-PSK: of what came it holds RAND_S alone, it answers the Request, and its view tells the tags.
+-- Each turn of a peer's method EAP-PSK: of what came it holds RAND_S alone, it answers the Request,
+-- and its view tells the tags.
 pub mod PskPeerTurns
--- No end takes its own tags for the other's, in whichever conversation it made them, where the peer succeeds by EAP-PSK.
+-- No end takes its own tags for the other's, in whichever conversation it made them, where the peer
+-- succeeds by EAP-PSK.
 pub mod PskReflected
--- What a tag that the server made by EAP-PSK tells of the conversation in which it did; and what each end asks by its first tag.
+-- What a tag that the server made by EAP-PSK tells of the conversation in which it did; and what
+-- each end asks by its first tag.
 pub mod PskServerOwners
--- Each turn of a server's method EAP-PSK: of what came it holds RAND_P alone, it asks with the next Identifier, and its view tells the tags.
+-- Each turn of a server's method EAP-PSK: of what came it holds RAND_P alone, it asks with the next
+-- Identifier, and its view tells the tags.
 pub mod PskServerTurns
 -- A tag that the server accepted and can't have made is the peer's.
 pub mod Reflected
--- Two conversations of which one rests on the other are of one method, and their logins lead to the same.
+-- Two conversations of which one rests on the other are of one method, and their logins lead to the
+-- same.
 pub mod Resting
--- The server by the method of a Type: what holds of the turns, the offer, the nonce and the tags of each method holds of a Type's.
+-- The server by the method of a Type: what holds of the turns, the offer, the nonce and the tags of
+-- each method holds of a Type's.
 pub mod ServerByMethod
 -- A server's objects stay of EAP-PSK and EAP-GPSK, one of each method that it proposes.
 pub mod ServerObjects
 -- What the server hears of the peer's nonce stands in what came.
 pub mod ServerAccepts
--- Every input of the server after its start keeps what stands of it, but for the begin of a new conversation.
+-- Every input of the server after its start keeps what stands of it, but for the begin of a new
+-- conversation.
 pub mod ServerPreserves
 -- What the server sends: a Request with the next Identifier, the last one again, or its end.
 pub mod ServerSpeaks
--- What is asked of a turn of a server's method: each Request has the next Identifier, and the view after it tells the tags.
+-- What is asked of a turn of a server's method: each Request has the next Identifier, and the view
+-- after it tells the tags.
 pub mod ServerTurns
 -- Each step of a run is lawful.
 pub mod SingleSteps
@@ -138,26 +162,30 @@ pub mod SingleSteps
 pub mod Skips
 -- Octets that stand in others, one after the other.
 pub mod Occurrence
--- Two ends in SUCCESS agree, and what they report is their own, where each accepted tag is one that either end made: an end in
--- SUCCESS can't have made the tag itself that the login rests on.
+-- Two ends in SUCCESS agree, and what they report is their own, where each accepted tag is one that
+-- either end made: an end in SUCCESS can't have made the tag itself that the login rests on.
 pub mod SucceedingEnds
 -- The tags of each end in a book that grows, and what its honesty says of them.
 pub mod TagsOfEnds
--- What holds of each answer of a table, and of each delivery as it is heard, holds of all that an end takes.
+-- What holds of each answer of a table, and of each delivery as it is heard, holds of all that an
+-- end takes.
 pub mod Accepting
 -- The Type-Data of a packet stands in the octets that begin with it.
 pub mod TypeData
 -- The version of a scenario's text stays in its world.
 pub mod Versions
--- In every run, what two ends that both stand in SUCCESS report over an honest book is their own: names, key and suite.
+-- In every run, what two ends that both stand in SUCCESS report over an honest book is their own:
+-- names, key and suite.
 pub mod Owner
 -- The Identity round (RFC 3748 section 2), computed from the definitions alone.
 mod Worked
--- A proposal that is refused between ends that read Expanded Types, computed from the definitions alone.
+-- A proposal that is refused between ends that read Expanded Types, computed from the definitions
+-- alone.
 mod WorkedExpanded
 -- What is heard, used and fresh, computed from the definitions alone.
 mod WorkedFreshness
--- The conversations of both ends, on what they rest, and whether they are fresh, computed from the definitions alone.
+-- The conversations of both ends, on what they rest, and whether they are fresh, computed from the
+-- definitions alone.
 mod WorkedMatching
 -- The tags of one conversation are under one key.
 pub mod OneKey
@@ -165,17 +193,21 @@ pub mod OneKey
 pub mod KeyedTags
 -- Matching conversations of one user of the server.
 pub mod UnderKey
--- Two present ends in SUCCESS agree, and one end's success tells of the other, if the tags under the peer's key are honest.
+-- Two present ends in SUCCESS agree, and one end's success tells of the other, if the tags under
+-- the peer's key are honest.
 pub mod PresentUnderKey
 -- Both ends of one login make one Session-Id, and no two logins of the peer with fresh nonces do.
 pub mod SessionIds
 -- A book that is honest is honest under each key.
 pub mod HonestUnder
--- Each tag that a conversation accepted or made is the right MAC of its octets, under a key that the conversation derives.
+-- Each tag that a conversation accepted or made is the right MAC of its octets, under a key that
+-- the conversation derives.
 pub mod RightMacs
--- The entries of a run's book are right MACs of its conversations, and a book that isn't honest shows one that was not computed before.
+-- The entries of a run's book are right MACs of its conversations, and a book that isn't honest
+-- shows one that was not computed before.
 pub mod Forgery
--- A server that has taken no Nak in its present conversation is at the first method of its order, or at none.
+-- A server that has taken no Nak in its present conversation is at the first method of its order,
+-- or at none.
 pub mod Downgrade
 -- Each Nak that the peer sends anew answers a Request of a Type that it doesn't allow.
 pub mod NakAnswers
@@ -183,5 +215,6 @@ pub mod NakAnswers
 pub mod UnconditionalPsk
 -- By EAP-PSK no two conversations of the peer with fresh nonces have one MSK or one EMSK.
 pub mod NewKeys
--- A world whose ends have objects of EAP-PSK and EAP-GPSK alone, one at least of each method that they name, begins as its run.
+-- A world whose ends have objects of EAP-PSK and EAP-GPSK alone, one at least of each method that
+-- they name, begins as its run.
 pub mod Standard

@@ -11,9 +11,11 @@ pub some_same : (one other : ℕ) → Some one ≡ Some other → one ≡ other
 some_same one other same = cc
 
 -- a method isn't two
-pub apart : {A : Type 0} (held : Option ℕ) (one other : ℕ) → (one == other) ≡ false → held ≡ Some one → held ≡ Some other → A
+pub apart : {A : Type 0} (held : Option ℕ) (one other : ℕ) → (one == other) ≡ false
+    → held ≡ Some one → held ≡ Some other → A
 apart held one other differ is_one is_other =
-    absurd (false≢true (sym differ ∙ eq-eqb one other (some_same one other (sym is_one ∙ is_other))))
+    absurd (false≢true
+    (sym differ ∙ eq-eqb one other (some_same one other (sym is_one ∙ is_other))))
 
 -- an end that goes on doesn't stand in SUCCESS
 pub goes_on : (s : State) → is_end s ≡ false → is_success s ≡ true → ⊥

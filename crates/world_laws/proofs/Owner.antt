@@ -1,4 +1,5 @@
--- In every run, what two ends that both stand in SUCCESS report over an honest book is their own: names, key and suite.
+-- In every run, what two ends that both stand in SUCCESS report over an honest book is their own:
+-- names, key and suite.
 use Rattle.std.proofs.Common.{◌≡◌, List, true, inl, inr}
 use Rattle.login_setup.specs.declared.setup.Setup.{Setup}
 use Rattle.login_setup.specs.declared.event.Event.{Event}
@@ -12,13 +13,18 @@ use Rattle.world_laws.proofs.HonestRuns.{reflected}
 use Rattle.world_laws.specs.Runs.{run_of}
 
 module _ (setup : Setup) (events : List Event) (whole : IsWhole setup) where
-  honest_theirs : (let w = run_of setup events in tags_verdict w.book ≡ Honest → AreApart w.conversations
-      → is_success w.parties.peer.vars.state ≡ true → is_success w.parties.server.vars.state ≡ true → AreTheirs setup w.parties.peer w.parties.server)
-  honest_theirs honest (inl two) = λ p_in s_in. (reflected setup events whole (honest_of_either _ honest) two p_in s_in).theirs
-  honest_theirs honest (inr fresh) = λ p_in s_in. (fresh_ends_agree setup events whole honest fresh p_in s_in).theirs
+  honest_theirs : (let w = run_of setup events in tags_verdict w.book ≡ Honest
+      → AreApart w.conversations
+      → is_success w.parties.peer.vars.state ≡ true → is_success w.parties.server.vars.state ≡ true
+      → AreTheirs setup w.parties.peer w.parties.server)
+  honest_theirs honest (inl two) =
+      λ p_in s_in. (reflected setup events whole (honest_of_either _ honest) two p_in s_in).theirs
+  honest_theirs honest (inr fresh) =
+      λ p_in s_in. (fresh_ends_agree setup events whole honest fresh p_in s_in).theirs
 
 pub honest_names_are_theirs : HonestNamesAreTheirs
 honest_names_are_theirs setup events whole = record {
   theirs = honest_theirs setup events whole;
-  reflected_theirs = λ honest two p_in s_in. (reflected setup events whole honest two p_in s_in).theirs;
+  reflected_theirs =
+      λ honest two p_in s_in. (reflected setup events whole honest two p_in s_in).theirs;
 }

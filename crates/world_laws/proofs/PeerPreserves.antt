@@ -1,5 +1,7 @@
--- Every input of the peer keeps what stands of it, but for the begin of a new conversation, in which it stands anew.
-use Rattle.std.proofs.Common.{◌≡◌, ℕ, List, [], ◌++◌, Bool, true, false, Option, Some, None, refl, sym, subst, append-nil}
+-- Every input of the peer keeps what stands of it, but for the begin of a new conversation, in
+-- which it stands anew.
+use Rattle.std.proofs.Common.{◌≡◌, ℕ, List, [], ◌++◌, Bool, true, false, Option, Some, None, refl}
+use Rattle.std.proofs.Common.{sym, subst, append-nil}
 use Rattle.std.proofs.lemmas.Bool.{true≢false, false≢true}
 use Rattle.login_setup.specs.declared.setup.PeerSetup.{PeerSetup}
 use Rattle.eap_packet.specs.declared.state.State.{State}
@@ -13,7 +15,8 @@ use Rattle.eap_method.specs.Turns.{PeerOutcome}
 use Rattle.peer_machine.specs.Expanded.{expanded_answer}
 use Rattle.peer_machine.specs.Inputs.{PeerInput, restart, peer_answers, peer_accepts}
 use Rattle.peer_machine.specs.Inputs as inputs
-use Rattle.peer_machine.specs.PeerTable.{PeerNow, PeerAnswer, with_vars, setup_with_nonce, peer_restart, is_fail}
+use Rattle.peer_machine.specs.PeerTable.{PeerNow, PeerAnswer, with_vars, setup_with_nonce}
+use Rattle.peer_machine.specs.PeerTable.{peer_restart, is_fail}
 use Rattle.peer_machine.specs.Rows as rows
 use Rattle.peer_machine.specs.Rows.{Calls}
 use Rattle.peer_machine.proofs.Receiving.{PeerReceiving, as_it_is, bad, again, expresses}
@@ -23,7 +26,8 @@ use Rattle.world_laws.specs.PeerInvariant.{PeerHasBoth, PeerInvariant}
 use Rattle.world_laws.specs.Records.{AreFew}
 use Rattle.world_laws.proofs.OneMethod.{goes_on}
 use Rattle.world_laws.proofs.PeerObjects.{both_after, both_are, both_started}
-use Rattle.world_laws.proofs.PeerByMethod.{MethodTurned, started_tags, method_turned, tags_few, turn_of}
+use Rattle.world_laws.proofs.PeerByMethod.{MethodTurned, started_tags, method_turned, tags_few}
+use Rattle.world_laws.proofs.PeerByMethod.{turn_of}
 use Rattle.world_laws.proofs.PeerTurns.{replies}
 use Rattle.world_laws.proofs.Accepting.{peer_accepted_tags}
 use Rattle.eap_method.specs.BothPeers.{both_of}
@@ -32,7 +36,8 @@ use Rattle.peer_machine.specs.PeerTable as wide
 
 -- ---- the begin
 
-initiates_with : (setup : PeerSetup) (views : PeerViews) → PeerHasBoth setup.methods views → PeerInvariant setup (wide.initial_peer setup views) [] []
+initiates_with : (setup : PeerSetup) (views : PeerViews) → PeerHasBoth setup.methods views
+    → PeerInvariant setup (wide.initial_peer setup views) [] []
 initiates_with setup views both = record {
   own = refl;
   both = both_started setup views both;
@@ -47,104 +52,175 @@ peer_initiates setup = initiates_with setup (both_of setup.methods) (both_are se
 -- ---- the calls
 
 -- what stands after a call, with the tags of its step
-record Preserves (setup : PeerSetup) (accepted made : List TagRecord) (out : PeerAnswer) : Type 0 where
-  pub stands : PeerInvariant setup out.after (accepted ++ out.step.tags.accepted) (made ++ out.step.tags.made)
+record Preserves (setup : PeerSetup) (accepted made : List TagRecord)
+    (out : PeerAnswer) : Type 0 where
+  pub stands : PeerInvariant setup out.after (accepted ++ out.step.tags.accepted)
+      (made ++ out.step.tags.made)
 
 -- a call without tags
-quiet : (setup : PeerSetup) (accepted made : List TagRecord) (out : PeerAnswer) → out.step.tags ≡ no_tags
+quiet : (setup : PeerSetup) (accepted made : List TagRecord) (out : PeerAnswer)
+    → out.step.tags ≡ no_tags
     → PeerInvariant setup out.after accepted made → Preserves setup accepted made out
 quiet setup accepted made out is_quiet stands = record {
-  stands = subst (λ (tags : Tags). PeerInvariant setup out.after (accepted ++ tags.accepted) (made ++ tags.made)) (sym is_quiet)
-      (rw (append-nil accepted, append-nil made) stands);
+  stands = subst (λ (tags : Tags). PeerInvariant setup out.after (accepted ++ tags.accepted)
+      (made ++ tags.made)) (sym is_quiet) (rw (append-nil accepted, append-nil made) stands);
 }
 
-module _ (setup : PeerSetup) (now : PeerNow) (accepted made : List TagRecord) (stands : PeerInvariant setup now accepted made) where
+module _ (setup : PeerSetup) (now : PeerNow) (accepted made : List TagRecord)
+    (stands : PeerInvariant setup now accepted made) where
   -- another state, lastId and lastRespData
-  remains : (s : State) (last_id : Option ℕ) (last_response : List ℕ) → (is_success s ≡ true → is_fail now.vars.decision ≡ false)
-      → PeerInvariant setup (with_vars now (record now.vars { state = s; last_id = last_id; last_response = last_response })) accepted made
-  remains s last_id last_response sure = record { own = stands.own; both = stands.both; tags = stands.tags; decided = stands.decided; sure = sure }
+  remains : (s : State) (last_id : Option ℕ) (last_response : List ℕ)
+      → (is_success s ≡ true → is_fail now.vars.decision ≡ false)
+      → PeerInvariant setup (with_vars now (record
+      now.vars { state = s; last_id = last_id; last_response = last_response })) accepted made
+  remains s last_id last_response sure = record {
+    own = stands.own;
+    both = stands.both;
+    tags = stands.tags;
+    decided = stands.decided;
+    sure = sure;
+  }
 
-  after_turn : (kind : ℕ) (packet : List ℕ) (m : MethodState) (d : Decision) (tags : Tags) (views : PeerViews)
-      → MethodTurned setup accepted made kind (record { turn = Reply packet m d tags; after = views })
-      → PeerHasBoth setup.methods views → (s : State) (last_id : Option ℕ) (last_response : List ℕ) → (is_success s ≡ true → ⊥)
+  after_turn : (kind : ℕ) (packet : List ℕ) (m : MethodState) (d : Decision) (tags : Tags)
+      (views : PeerViews)
+      → MethodTurned setup accepted made kind
+      (record { turn = Reply packet m d tags; after = views })
+      → PeerHasBoth setup.methods views → (s : State) (last_id : Option ℕ) (last_response : List ℕ)
+      → (is_success s ≡ true → ⊥)
       → PeerInvariant setup (record {
-        vars = record now.vars { state = s; selected = Some kind; method_state = m; decision = d; last_id = last_id; last_response = last_response };
+        vars = record now.vars {
+          state = s;
+          selected = Some kind;
+          method_state = m;
+          decision = d;
+          last_id = last_id;
+          last_response = last_response;
+        };
         views = views;
       }) (accepted ++ tags.accepted) (made ++ tags.made)
   after_turn kind _ _ _ _ _ (replies _ _ _ _ _ told decided) both s last_id last_response unsure =
-      record { own = stands.own; both = both; tags = told; decided = decided; sure = λ e. absurd (unsure e) }
+      record {
+        own = stands.own;
+        both = both;
+        tags = told;
+        decided = decided;
+        sure = λ e. absurd (unsure e);
+      }
 
-  turned_to : (selects : Bool) (kind : ℕ) (octets : List ℕ) (out : PeerOutcome PeerViews) → Calls now kind selects → peer_turn kind now.views octets ≡ out
+  turned_to : (selects : Bool) (kind : ℕ) (octets : List ℕ) (out : PeerOutcome PeerViews)
+      → Calls now kind selects → peer_turn kind now.views octets ≡ out
       → MethodTurned setup accepted made kind out
   turned_to selects kind octets out calls turned =
       subst (MethodTurned setup accepted made kind) turned
-      (method_turned setup now accepted made stands.tags selects kind octets _ calls (turn_of kind now.views octets stands.both))
+      (method_turned setup now accepted made stands.tags selects kind octets _ calls
+      (turn_of kind now.views octets stands.both))
 
-  still_both : (kind : ℕ) (octets : List ℕ) (out : PeerOutcome PeerViews) → peer_turn kind now.views octets ≡ out → PeerHasBoth setup.methods out.after
-  still_both kind octets out turned = subst (λ (o : PeerOutcome PeerViews). PeerHasBoth setup.methods o.after) turned (both_after stands.both kind octets)
+  still_both : (kind : ℕ) (octets : List ℕ) (out : PeerOutcome PeerViews)
+      → peer_turn kind now.views octets ≡ out → PeerHasBoth setup.methods out.after
+  still_both kind octets out turned = subst (λ (o : PeerOutcome PeerViews).
+      PeerHasBoth setup.methods o.after) turned (both_after stands.both kind octets)
 
-  row_preserves : (input : PeerInput) (out : PeerAnswer) → ((nonce : List ℕ) → input ≡ restart nonce → ⊥) → rows.PeerRow now input out → Preserves setup accepted made out
+  row_preserves : (input : PeerInput) (out : PeerAnswer) → ((nonce : List ℕ) → input ≡ restart nonce
+      → ⊥) → rows.PeerRow now input out → Preserves setup accepted made out
   row_preserves _ _ same (rows.begins nonce) = absurd (same nonce refl)
   row_preserves _ _ same (rows.ended bytes over) = quiet setup accepted made _ refl stands
-  row_preserves _ _ same (rows.rests report no_octets no_restart over) = quiet setup accepted made _ refl stands
-  row_preserves _ _ same (rows.drops bytes path c going why) = quiet setup accepted made _ refl stands
+  row_preserves _ _ same (rows.rests report no_octets no_restart over) =
+      quiet setup accepted made _ refl stands
+  row_preserves _ _ same (rows.drops bytes path c going why) =
+      quiet setup accepted made _ refl stands
   row_preserves _ _ same (rows.waits going fails goes_on) = quiet setup accepted made _ refl stands
-  row_preserves _ _ same (rows.identifies bytes id kind body heard unselected is_identity) = quiet setup accepted made _ refl (remains _ _ _ stands.sure)
-  row_preserves _ _ same (rows.notifies bytes id kind body heard unselected is_notification) = quiet setup accepted made _ refl (remains _ _ _ stands.sure)
-  row_preserves _ _ same (rows.naks bytes id kind body heard unselected no_identity no_notification barred) =
+  row_preserves _ _ same (rows.identifies bytes id kind body heard unselected is_identity) =
       quiet setup accepted made _ refl (remains _ _ _ stands.sure)
-  row_preserves _ _ same (rows.resends bytes id kind body heard) = quiet setup accepted made _ refl stands
-  row_preserves _ _ same (rows.ends_well input entered going sure why) = quiet setup accepted made _ refl (remains _ _ _ (λ _. sure))
-  row_preserves _ _ same (rows.ends_badly input entered going why) = quiet setup accepted made _ refl (remains _ _ _ (λ e. absurd (false≢true e)))
-  row_preserves _ _ same (rows.method_replies bytes selects id kind body packet m d tags views heard calls turned _) =
-      record { stands = after_turn kind packet m d tags views (turned_to selects kind _ _ calls turned) (still_both kind _ _ turned) _ _ _ (goes_on now.vars.state heard.going) }
-  row_preserves _ _ same (rows.method_fails bytes selects id kind body packet m d tags views heard calls turned _) =
-      record { stands = after_turn kind packet m d tags views (turned_to selects kind _ _ calls turned) (still_both kind _ _ turned) _ _ _ false≢true }
+  row_preserves _ _ same (rows.notifies bytes id kind body heard unselected is_notification) =
+      quiet setup accepted made _ refl (remains _ _ _ stands.sure)
+  row_preserves _ _ same
+      (rows.naks bytes id kind body heard unselected no_identity no_notification barred) =
+      quiet setup accepted made _ refl (remains _ _ _ stands.sure)
+  row_preserves _ _ same (rows.resends bytes id kind body heard) =
+      quiet setup accepted made _ refl stands
+  row_preserves _ _ same (rows.ends_well input entered going sure why) =
+      quiet setup accepted made _ refl (remains _ _ _ (λ _. sure))
+  row_preserves _ _ same (rows.ends_badly input entered going why) =
+      quiet setup accepted made _ refl (remains _ _ _ (λ e. absurd (false≢true e)))
+  row_preserves _ _ same
+      (rows.method_replies bytes selects id kind body packet m d tags views heard calls turned _) =
+      record {
+        stands = after_turn kind packet m d tags views (turned_to selects kind _ _ calls turned)
+            (still_both kind _ _ turned) _ _ _ (goes_on now.vars.state heard.going);
+      }
+  row_preserves _ _ same
+      (rows.method_fails bytes selects id kind body packet m d tags views heard calls turned _) =
+      record {
+        stands = after_turn kind packet m d tags views (turned_to selects kind _ _ calls turned)
+            (still_both kind _ _ turned) _ _ _ false≢true;
+      }
 
   -- by the table alone
   abbrev IsConsistent : PeerInput → PeerAnswer → Type 0
-  IsConsistent input out = ((nonce : List ℕ) → input ≡ restart nonce → ⊥) → Preserves setup accepted made out
+  IsConsistent input out =
+      ((nonce : List ℕ) → input ≡ restart nonce → ⊥) → Preserves setup accepted made out
 
   answer_preserves : (input : PeerInput) → IsConsistent input (peer_answers now input)
   answer_preserves input same = row_preserves input _ same (peer_answers_are_rows now input)
 
-  of_octets : (bytes : List ℕ) → Preserves setup accepted made (peer_answers now (inputs.octets bytes))
+  of_octets : (bytes : List ℕ)
+      → Preserves setup accepted made (peer_answers now (inputs.octets bytes))
   of_octets bytes = answer_preserves (inputs.octets bytes) (λ nonce e. cc e)
 
   -- lastRespData alone is another where a Response is expressed
-  expressed_preserves : (out : PeerAnswer) (sent : Option (List ℕ)) → Preserves setup accepted made out → Preserves setup accepted made (expanded_answer out sent)
+  expressed_preserves : (out : PeerAnswer) (sent : Option (List ℕ))
+      → Preserves setup accepted made out → Preserves setup accepted made (expanded_answer out sent)
   expressed_preserves out None kept = kept
   expressed_preserves out (Some packet) kept =
-      let s = kept.stands in record { stands = record { own = s.own; both = s.both; tags = s.tags; decided = s.decided; sure = s.sure } }
+      let s = kept.stands in record {
+        stands = record {
+          own = s.own;
+          both = s.both;
+          tags = s.tags;
+          decided = s.decided;
+          sure = s.sure;
+        };
+      }
 
-  receiving_preserves : (bytes : List ℕ) (out : PeerAnswer) → PeerReceiving now bytes out → IsConsistent (inputs.octets bytes) out
+  receiving_preserves : (bytes : List ℕ) (out : PeerAnswer) → PeerReceiving now bytes out
+      → IsConsistent (inputs.octets bytes) out
   receiving_preserves bytes _ as_it_is same = of_octets bytes
-  receiving_preserves bytes _ (bad id kind body asks is_bad) same = quiet setup accepted made _ refl stands
+  receiving_preserves bytes _ (bad id kind body asks is_bad) same =
+      quiet setup accepted made _ refl stands
   receiving_preserves bytes _ (again id kind body asks last) same = of_octets _
-  receiving_preserves bytes _ (expresses id kind body asks new) same = expressed_preserves _ _ (of_octets _)
+  receiving_preserves bytes _ (expresses id kind body asks new) same =
+      expressed_preserves _ _ (of_octets _)
 
 -- every input but the begin of a new conversation keeps what stands
-pub peer_preserves : (setup : PeerSetup) (now : PeerNow) (accepted made : List TagRecord) (input : PeerInput)
+pub peer_preserves : (setup : PeerSetup) (now : PeerNow) (accepted made : List TagRecord)
+    (input : PeerInput)
     → ((nonce : List ℕ) → input ≡ restart nonce → ⊥) → PeerInvariant setup now accepted made
     → (let out = peer_accepts now input in
     PeerInvariant setup out.after (accepted ++ out.step.tags.accepted) (made ++ out.step.tags.made))
 peer_preserves setup now accepted made input same stands =
-    (peer_accepted_tags now (IsConsistent setup now accepted made stands) (answer_preserves setup now accepted made stands) (receiving_preserves setup now accepted made stands)
+    (peer_accepted_tags now (IsConsistent setup now accepted made stands) (answer_preserves setup
+    now accepted made stands) (receiving_preserves setup now accepted made stands)
     input same).stands
 
--- a peer of these settings that begins a new conversation stands as one that has just begun, with the new nonce
-pub peer_invariant_anew : (setup : PeerSetup) (now : PeerNow) (nonce : List ℕ) → now.vars.setup ≡ setup → PeerHasBoth setup.methods now.views
+-- a peer of these settings that begins a new conversation stands as one that has just begun, with
+-- the new nonce
+pub peer_invariant_anew : (setup : PeerSetup) (now : PeerNow) (nonce : List ℕ)
+    → now.vars.setup ≡ setup → PeerHasBoth setup.methods now.views
     → PeerInvariant (setup_with_nonce setup nonce) (peer_accepts now (restart nonce)).after [] []
 unfolding peer_restart
 peer_invariant_anew setup now nonce own both =
-    subst (λ (s : PeerSetup). PeerInvariant (setup_with_nonce setup nonce) (wide.initial_peer (setup_with_nonce s nonce) now.views) [] []) (sym own)
+    subst (λ (s : PeerSetup). PeerInvariant (setup_with_nonce setup nonce)
+    (wide.initial_peer (setup_with_nonce s nonce) now.views) [] []) (sym own)
     (initiates_with (setup_with_nonce setup nonce) now.views both)
 
 -- it has made no tag in it
-pub peer_tags_none : (now : PeerNow) (nonce : List ℕ) → (peer_accepts now (restart nonce)).step.tags ≡ no_tags
+pub peer_tags_none : (now : PeerNow) (nonce : List ℕ)
+    → (peer_accepts now (restart nonce)).step.tags ≡ no_tags
 unfolding peer_restart
 peer_tags_none now nonce = refl
 
 -- a peer has accepted at most two tags and made at most two
-pub peer_few : (setup : PeerSetup) (now : PeerNow) (accepted made : List TagRecord) → PeerInvariant setup now accepted made → AreFew accepted made
-peer_few setup now accepted made stands = tags_few setup now.vars.selected now.views accepted made stands.tags
+pub peer_few : (setup : PeerSetup) (now : PeerNow) (accepted made : List TagRecord)
+    → PeerInvariant setup now accepted made → AreFew accepted made
+peer_few setup now accepted made stands =
+    tags_few setup now.vars.selected now.views accepted made stands.tags

@@ -1,4 +1,5 @@
--- What is asked of a turn of a peer's method: each Response has the Identifier of the Request, and the view after it tells the tags.
+-- What is asked of a turn of a peer's method: each Response has the Identifier of the Request, and
+-- the view after it tells the tags.
 use Rattle.std.proofs.Common.{◌≡◌, ℕ, List, ◌++◌, false, refl, subst}
 use Rattle.eap_packet.specs.Fault.{code_of}
 use Rattle.eap_packet.specs.Packet.{response, spelled}
@@ -24,33 +25,42 @@ response_is id kind body = record { code = refl; same = refl }
 
 -- each Response of a turn has the Identifier of the Request
 pub record Answers (id : ℕ) (turn : PeerTurn) : Type 0 where
-  pub each : (packet : List ℕ) (m : MethodState) (d : Decision) (tags : Tags) → turn ≡ Reply packet m d tags → IsResponse id packet
+  pub each : (packet : List ℕ) (m : MethodState) (d : Decision) (tags : Tags)
+      → turn ≡ Reply packet m d tags → IsResponse id packet
 
 pub discards_none : (id : ℕ) (c : Cause) → Answers id (Discard c)
 discards_none id c = record { each = λ packet m d tags e. cc e }
 
-pub replies_one : (id kind : ℕ) (body : List ℕ) (m : MethodState) (d : Decision) (tags : Tags) → Answers id (Reply (spelled (response id kind body)) m d tags)
+pub replies_one : (id kind : ℕ) (body : List ℕ) (m : MethodState) (d : Decision) (tags : Tags)
+    → Answers id (Reply (spelled (response id kind body)) m d tags)
 replies_one id kind body m d tags = record {
   each = λ packet m' d' tags' e.
-      let same : spelled (response id kind body) ≡ packet = cc in subst (IsResponse id) same (response_is id kind body);
+      let same : spelled (response id kind body) ≡ packet =
+      cc in subst (IsResponse id) same (response_is id kind body);
 }
 
 -- ---- tags
 
 -- a discard, or a Response, whose tags are told by the view after it, which is a success where the
 -- decision isn't FAIL
-pub data Turned (V : Type 0) (IsResult : V → List TagRecord → List TagRecord → Type 0) (Succeeds : V → Type 0) (accepted made : List TagRecord)
+pub data Turned (V : Type 0) (IsResult : V → List TagRecord → List TagRecord → Type 0)
+    (Succeeds : V → Type 0) (accepted made : List TagRecord)
     : PeerOutcome V → Type 0 where
   drops : (view : V) (c : Cause) → Turned V IsResult Succeeds accepted made (discarded view c)
   replies : (packet : List ℕ) (m : MethodState) (d : Decision) (tags : Tags) (view : V)
-      (told : IsResult view (accepted ++ tags.accepted) (made ++ tags.made)) (decided : is_fail d ≡ false → Succeeds view)
-      → Turned V IsResult Succeeds accepted made (record { turn = Reply packet m d tags; after = view })
+      (told : IsResult view (accepted ++ tags.accepted) (made ++ tags.made))
+      (decided : is_fail d ≡ false → Succeeds view)
+      → Turned V IsResult Succeeds accepted made
+      (record { turn = Reply packet m d tags; after = view })
 
 -- a turn of one method's view is one of the views that it is in
-pub carried : {V W : Type 0} {IsResult : V → List TagRecord → List TagRecord → Type 0} {Succeeds : V → Type 0}
-    {Shows : W → List TagRecord → List TagRecord → Type 0} {Wins : W → Type 0} {accepted made : List TagRecord} (into : V → W)
-    → ((view : V) (a m : List TagRecord) → IsResult view a m → Shows (into view) a m) → ((view : V) → Succeeds view → Wins (into view))
+pub carried : {V W : Type 0} {IsResult : V → List TagRecord → List TagRecord → Type 0}
+    {Succeeds : V → Type 0} {Shows : W → List TagRecord → List TagRecord → Type 0}
+    {Wins : W → Type 0} {accepted made : List TagRecord} (into : V → W)
+    → ((view : V) (a m : List TagRecord) → IsResult view a m → Shows (into view) a m)
+    → ((view : V) → Succeeds view → Wins (into view))
     → (out : PeerOutcome V) → Turned V IsResult Succeeds accepted made out
     → Turned W Shows Wins accepted made (record { turn = out.turn; after = into out.after })
 carried into shows wins _ (drops view c) = drops _ c
-carried into shows wins _ (replies packet m d tags view told decided) = replies packet m d tags _ (shows _ _ _ told) (λ e. wins _ (decided e))
+carried into shows wins _ (replies packet m d tags view told decided) =
+    replies packet m d tags _ (shows _ _ _ told) (λ e. wins _ (decided e))

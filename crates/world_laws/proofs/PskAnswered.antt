@@ -1,5 +1,7 @@
--- The PSK-4 that a server accepts tells, by RAND_S in its header, which conversation of the peer made it: that has accepted PSK-3.
-use Rattle.std.proofs.Common.{◌≡◌, ℕ, Bool, List, length, drop, Option, Some, refl, sym, ap, subst, ◌∙◌, arith, inl, inr}
+-- The PSK-4 that a server accepts tells, by RAND_S in its header, which conversation of the peer
+-- made it: that has accepted PSK-3.
+use Rattle.std.proofs.Common.{◌≡◌, ℕ, Bool, List, length, drop, Option, Some, refl, sym, ap, subst}
+use Rattle.std.proofs.Common.{◌∙◌, arith, inl, inr}
 use Rattle.login_setup.specs.declared.setup.PeerSetup.{PeerSetup}
 use Rattle.login_setup.specs.Setup.{ServerSetup}
 use Rattle.eap_method.specs.declared.tags.TagRecord.{TagRecord}
@@ -11,7 +13,8 @@ use Rattle.peer_machine.specs.PeerTable as peers
 use Rattle.server_machine.specs.ServerTable as servers
 use Rattle.eap_world.specs.Conversations.{front}
 use Rattle.world_laws.specs.ByMethod.{peer_foreign, PeerTags}
-use Rattle.world_laws.specs.PskPeerInvariant.{psk_rand_s, PskPeerTags, psk_unset, psk_fresh, psk_waits}
+use Rattle.world_laws.specs.PskPeerInvariant.{psk_rand_s, PskPeerTags, psk_unset, psk_fresh}
+use Rattle.world_laws.specs.PskPeerInvariant.{psk_waits}
 use Rattle.world_laws.specs.PskPeerInvariant as psk_peer_stands
 use Rattle.world_laws.specs.PskServerInvariant.{PskServerTags, psk_over}
 use Rattle.world_laws.specs.Records.{IsIn, here, later}
@@ -25,7 +28,8 @@ use Rattle.world_laws.proofs.PskPeerOwners.{labels_apart}
 use Rattle.world_laws.proofs.PskServerOwners.{mac_s_created}
 use Rattle.eap_method.specs.BothPeers.{psk_in}
 
--- a conversation of the server with this nonce has accepted a PSK-4, whose header ends in its RAND_S
+-- a conversation of the server with this nonce has accepted a PSK-4, whose header ends in its
+-- RAND_S
 pub record HasPsk4 (nonce : List ℕ) (accepted : List TagRecord) : Type 0 where
   pub psk : List ℕ
   pub header : List ℕ
@@ -34,19 +38,24 @@ pub record HasPsk4 (nonce : List ℕ) (accepted : List TagRecord) : Type 0 where
   pub is_in : IsIn (tek_record psk 1 header sealed tag) accepted
   pub rand_in : drop 6 header ≡ front nonce
 
-pub psk4_taken : (setup : ServerSetup) (nonce : List ℕ) (login : psk_server.Login) (good : Bool) (accepted made : List TagRecord)
-    → PskServerTags (servers.setup_with_nonce setup nonce) (psk_server.over login good) accepted made → HasPsk4 nonce accepted
-psk4_taken setup nonce login _ _ _ (psk_over _ _ header sealed id facts r_sent rand_in r_came) = record {
-  psk = login.psk;
-  header = header;
-  sealed = sealed;
-  tag = _;
-  is_in = later _ _ (here _);
-  rand_in = rand_in ∙ ap front facts.nonce;
-}
+pub psk4_taken : (setup : ServerSetup) (nonce : List ℕ) (login : psk_server.Login) (good : Bool)
+    (accepted made : List TagRecord)
+    → PskServerTags (servers.setup_with_nonce setup nonce) (psk_server.over login
+    good) accepted made → HasPsk4 nonce accepted
+psk4_taken setup nonce login _ _ _ (psk_over _ _ header sealed id facts r_sent rand_in r_came) =
+    record {
+      psk = login.psk;
+      header = header;
+      sealed = sealed;
+      tag = _;
+      is_in = later _ _ (here _);
+      rand_in = rand_in ∙ ap front facts.nonce;
+    }
 
--- a conversation of the peer holds this RAND_S, and asks of the server what only one that holds its nonce can have made
-pub record HasAsked (nonce rand_s : List ℕ) (held : Option (List ℕ)) (accepted : List TagRecord) : Type 0 where
+-- a conversation of the peer holds this RAND_S, and asks of the server what only one that holds its
+-- nonce can have made
+pub record HasAsked (nonce rand_s : List ℕ) (held : Option (List ℕ))
+    (accepted : List TagRecord) : Type 0 where
   pub holds : held ≡ Some rand_s
   pub asks : AsksServer nonce accepted
 
@@ -55,34 +64,43 @@ module _ (psk header : List ℕ) (sealed : ℕ) (tag rand_s : List ℕ) (rand_in
   abbrev psk4_tag : TagRecord
   psk4_tag = tek_record psk 1 header sealed tag
 
-  view_asked : (view : psk_peer.View) (accepted made : List TagRecord) → PskPeerTags (peers.setup_with_nonce setup nonce) view accepted made → IsIn psk4_tag made
+  view_asked : (view : psk_peer.View) (accepted made : List TagRecord)
+      → PskPeerTags (peers.setup_with_nonce setup nonce) view accepted made → IsIn psk4_tag made
       → HasAsked nonce rand_s (psk_rand_s view) accepted
   unfolding psk_peer.mac_s_covers
   view_asked _ _ _ psk_unset is = elim is [ ]
   view_asked _ _ _ (psk_fresh allowed) is = elim is [ ]
-  view_asked _ _ _ (psk_waits login facts) is = labels_apart (sym (ap (λ (r : TagRecord). r.label) (among_one _ _ is)))
+  view_asked _ _ _ (psk_waits login facts) is =
+      labels_apart (sym (ap (λ (r : TagRecord). r.label) (among_one _ _ is)))
   view_asked _ _ _ (psk_peer_stands.psk_over login good their_header their_sealed id facts) is =
       elim (among_two _ _ _ is) [
         | inl e ↦ labels_apart (sym (ap (λ (r : TagRecord). r.label) e))
         | inr e ↦
-            let headers = same_header header (psk_peer.psk4_header login id) _ _ (ap (λ (r : TagRecord). r.octets) e) in
-            let n_front : length (rand_of login.nonce) ≡ 16 = front_size login.nonce (omega (arith, ap length facts.nonce, size)) in
-            let t = ak_record login.cred.psk (psk_peer.mac_s_covers login) (psk_peer.mac_s_of login) in
+            let headers = same_header header (psk_peer.psk4_header login id) _ _
+            (ap (λ (r : TagRecord). r.octets) e) in
+            let n_front : length (rand_of login.nonce) ≡ 16 =
+            front_size login.nonce (omega (arith, ap length facts.nonce, size)) in
+            let t = ak_record login.cred.psk (psk_peer.mac_s_covers login)
+            (psk_peer.mac_s_of login) in
             record {
-              holds = ap (λ (x : List ℕ). Some x) (sym (header_created login id facts.size) ∙ (sym (ap (drop 6) headers) ∙ rand_in));
+              holds = ap (λ (x : List ℕ). Some x) (sym (header_created login id facts.size)
+                  ∙ (sym (ap (drop 6) headers) ∙ rand_in));
               asks = record {
                 tag = t;
                 rest = _;
                 first = refl;
                 made = subst (λ (x : List ℕ). OnlyByServer t x) (ap front facts.nonce)
-                    (mac_s_created login.cred.psk login.id_s (rand_of login.nonce) (psk_peer.mac_s_of login) n_front);
+                    (mac_s_created login.cred.psk login.id_s (rand_of login.nonce)
+                    (psk_peer.mac_s_of login) n_front);
               };
             }
       ]
 
   pub has_asked : (selected : Option ℕ) (views : PeerViews) (accepted made : List TagRecord)
-      → PeerTags (peers.setup_with_nonce setup nonce) selected views accepted made → IsIn psk4_tag made → HasAsked nonce rand_s (peer_foreign selected views) accepted
+      → PeerTags (peers.setup_with_nonce setup nonce) selected views accepted made
+      → IsIn psk4_tag made → HasAsked nonce rand_s (peer_foreign selected views) accepted
   has_asked selected views accepted made told is =
-      let by = created_by_psk (peers.setup_with_nonce setup nonce) selected views accepted made psk4_tag told is refl in
+      let by = created_by_psk (peers.setup_with_nonce setup nonce)
+      selected views accepted made psk4_tag told is refl in
       let h = view_asked (psk_in views) accepted made by.1 is in
       record { holds = ap (λ (o : Option ℕ). peer_foreign o views) by.0 ∙ h.holds; asks = h.asks }

@@ -1,4 +1,5 @@
--- To what the login of a conversation leads, beside what the other end reports: names, user and key.
+-- To what the login of a conversation leads, beside what the other end reports: names, user and
+-- key.
 use Rattle.std.proofs.Common.{◌≡◌, ℕ, List, Option, Some, ap, ◌∙◌}
 use Rattle.login_setup.specs.declared.setup.PeerSetup.{PeerSetup}
 use Rattle.login_setup.specs.Setup.{ServerSetup}
@@ -12,47 +13,57 @@ use Rattle.server_machine.specs.ServerTable.{ServerNow, server_reports}
 use Rattle.world_laws.specs.Alone.{SameKeys}
 
 -- what the peer brings into a method is its setup's
-pub own_name : (setup : PeerSetup) (kind : ℕ) (cred : Credential) → cred ≡ credential_for setup kind → cred.id_p ≡ setup.name
+pub own_name : (setup : PeerSetup) (kind : ℕ) (cred : Credential) → cred ≡ credential_for setup kind
+    → cred.id_p ≡ setup.name
 unfolding credential_for
 own_name setup kind cred e = ap (λ (c : Credential). c.id_p) e
 
-pub own_key : (setup : PeerSetup) (kind : ℕ) (cred : Credential) → cred ≡ credential_for setup kind → cred.psk ≡ key_for setup kind
+pub own_key : (setup : PeerSetup) (kind : ℕ) (cred : Credential) → cred ≡ credential_for setup kind
+    → cred.psk ≡ key_for setup kind
 unfolding credential_for
 own_key setup kind cred e = ap (λ (c : Credential). c.psk) e
 
 -- the login of a view leads to the report, whose names and user are the server's, with this key
-pub record LoginOf (setup : ServerSetup) (login : Option Report) (report : Report) (psk : List ℕ) : Type 0 where
+pub record LoginOf (setup : ServerSetup) (login : Option Report) (report : Report)
+    (psk : List ℕ) : Type 0 where
   pub same : login ≡ Some report
   pub id_s : report.id_s ≡ setup.name
   pub user : User
   pub known : user_of setup.users report.id_p report.method ≡ Some user
   pub key : user.psk ≡ psk
 
-pub login_too : (setup : ServerSetup) (one other : Option Report) (report : Report) (psk : List ℕ) → one ≡ other → LoginOf setup other report psk
+pub login_too : (setup : ServerSetup) (one other : Option Report) (report : Report) (psk : List ℕ)
+    → one ≡ other → LoginOf setup other report psk
     → LoginOf setup one report psk
-login_too setup one other report psk e l = record { same = e ∙ l.same; id_s = l.id_s; user = l.user; known = l.known; key = l.key }
+login_too setup one other report psk e l =
+    record { same = e ∙ l.same; id_s = l.id_s; user = l.user; known = l.known; key = l.key }
 
 -- to what a login of the peer leads, with its own name, where the server has this key
-pub record ResultsIn (setup : PeerSetup) (login : Option Report) (report : Report) (psk : List ℕ) : Type 0 where
+pub record ResultsIn (setup : PeerSetup) (login : Option Report) (report : Report)
+    (psk : List ℕ) : Type 0 where
   pub theirs : Report
   pub leads : login ≡ Some theirs
   pub same : SameKeys report theirs
   pub id_p : theirs.id_p ≡ setup.name
   pub key : psk ≡ key_for setup report.method
 
-pub reaches_too : (setup : PeerSetup) (one other : Option Report) (report : Report) (psk : List ℕ) → one ≡ other → ResultsIn setup other report psk
+pub reaches_too : (setup : PeerSetup) (one other : Option Report) (report : Report) (psk : List ℕ)
+    → one ≡ other → ResultsIn setup other report psk
     → ResultsIn setup one report psk
-reaches_too setup one other report psk e l = record { theirs = l.theirs; leads = e ∙ l.leads; same = l.same; id_p = l.id_p; key = l.key }
+reaches_too setup one other report psk e l =
+    record { theirs = l.theirs; leads = e ∙ l.leads; same = l.same; id_p = l.id_p; key = l.key }
 
 -- what the peer reports is what the login of a conversation of the server leads to
-pub record PeersLogin (peer_setup : PeerSetup) (server_setup : ServerSetup) (now : PeerNow) (theirs : Option Report) : Type 0 where
+pub record PeersLogin (peer_setup : PeerSetup) (server_setup : ServerSetup) (now : PeerNow)
+    (theirs : Option Report) : Type 0 where
   pub report : Report
   pub holds : peer_reports now ≡ Some report
   pub id_p : report.id_p ≡ peer_setup.name
   pub login : LoginOf server_setup theirs report (key_for peer_setup report.method)
 
 -- what the server reports has the keys to which the login of a conversation of the peer leads
-pub record ServersLogin (peer_setup : PeerSetup) (server_setup : ServerSetup) (now : ServerNow) (theirs : Option Report) : Type 0 where
+pub record ServersLogin (peer_setup : PeerSetup) (server_setup : ServerSetup) (now : ServerNow)
+    (theirs : Option Report) : Type 0 where
   pub report : Report
   pub holds : server_reports now ≡ Some report
   pub user : User

@@ -1,5 +1,6 @@
 -- A server's objects stay of EAP-PSK and EAP-GPSK, one of each method that it proposes.
-use Rattle.std.proofs.Common.{◌≡◌, ℕ, List, Bool, true, false, Option, Some, None, inl, inr, refl, sym, ap, ◌∙◌}
+use Rattle.std.proofs.Common.{◌≡◌, ℕ, List, Bool, true, false, Option, Some, None, inl, inr, refl}
+use Rattle.std.proofs.Common.{sym, ap, ◌∙◌}
 use Rattle.std.specs.Prelude.{◌==◌, if◌then◌else◌, option_map}
 use Rattle.std.proofs.lemmas.Bool.{cases_Bool, cond-true, cond-false, eqb-true}
 use Rattle.login_setup.specs.Setup.{ServerSetup}
@@ -8,7 +9,10 @@ use Rattle.octet_lists.specs.Among.{psk_kind, gpsk_kind, is_among}
 use Rattle.eap_method.specs.declared.values.ServerSide.{ServerSide}
 use Rattle.eap_method.specs.BothServers.{IsOne, both_of, is_gpsk, is_psk}
 use Rattle.eap_method.specs.GpskServer as gpsk_server
-use Rattle.eap_method.specs.Server.{Method, ServerShown, ServerViews, View, by_gpsk, by_other, by_psk, gpsk, method_of, offered, psk, put, server_offer, server_started_in, server_turn, started_server, turned, views_started}
+use Rattle.eap_method.specs.Server.{Method, ServerShown, ServerViews, View, by_gpsk, by_other}
+use Rattle.eap_method.specs.Server.{by_psk, gpsk, method_of, offered, psk, put, server_offer}
+use Rattle.eap_method.specs.Server.{server_started_in, server_turn, started_server, turned}
+use Rattle.eap_method.specs.Server.{views_started}
 use Rattle.eap_method.specs.PskServer as psk_server
 use Rattle.eap_method.proofs.ServerViews.{started_method, first_method, step_method}
 use Rattle.world_laws.specs.ServerInvariant.{ServerHasBoth}
@@ -19,8 +23,10 @@ both_are methods = record { same = λ kind. refl }
 
 -- what stands at a Type is of its method
 by_tests : (kind : ℕ) (named at_psk at_gpsk : Bool) (m : Method) (view : View m)
-    → Some m ≡ option_map method_of (if named then (if at_psk then Some (psk psk_server.unset) else if at_gpsk then Some (gpsk gpsk_server.unset) else None) else None)
-    → (at_psk ≡ true → kind ≡ psk_kind) → (at_gpsk ≡ true → kind ≡ gpsk_kind) → (let s : ServerShown = record { method = m; view = view } in IsOne kind s)
+    → Some m ≡ option_map method_of (if named then (if at_psk then Some (psk psk_server.unset)
+    else if at_gpsk then Some (gpsk gpsk_server.unset) else None) else None)
+    → (at_psk ≡ true → kind ≡ psk_kind) → (at_gpsk ≡ true → kind ≡ gpsk_kind)
+    → (let s : ServerShown = record { method = m; view = view } in IsOne kind s)
 by_tests kind true true at_gpsk by_psk view e of_psk of_gpsk = is_psk (of_psk refl) view
 by_tests kind true true at_gpsk by_gpsk view e of_psk of_gpsk = absurd cc
 by_tests kind true true at_gpsk (by_other custom) view e of_psk of_gpsk = absurd cc
@@ -30,30 +36,36 @@ by_tests kind true false true (by_other custom) view e of_psk of_gpsk = absurd c
 by_tests kind true false false m view e of_psk of_gpsk = absurd cc
 by_tests kind false at_psk at_gpsk m view e of_psk of_gpsk = absurd cc
 
-named_by : (named : Bool) (found : Option ServerShown) (m : Method) → Some m ≡ option_map method_of (if named then found else None) → named ≡ true
+named_by : (named : Bool) (found : Option ServerShown) (m : Method)
+    → Some m ≡ option_map method_of (if named then found else None) → named ≡ true
 named_by true found m e = refl
 named_by false found m e = absurd cc
 
 module _ {methods : List ℕ} {views : ServerViews} (both : ServerHasBoth methods views) where
   pub is_one : (kind : ℕ) (s : ServerShown) → views kind ≡ Some s → IsOne kind s
   is_one kind s is =
-      by_tests kind (is_among methods kind) (kind == psk_kind) (kind == gpsk_kind) s.method s.view (sym (ap (option_map method_of) is) ∙ both.same kind)
+      by_tests kind (is_among methods kind) (kind == psk_kind) (kind == gpsk_kind) s.method s.view
+      (sym (ap (option_map method_of) is) ∙ both.same kind)
       (eqb-true kind psk_kind) (eqb-true kind gpsk_kind)
 
   pub is_named : (kind : ℕ) (s : ServerShown) → views kind ≡ Some s → is_among methods kind ≡ true
-  is_named kind s is = named_by (is_among methods kind) _ s.method (sym (ap (option_map method_of) is) ∙ both.same kind)
+  is_named kind s is = named_by (is_among methods kind) _ s.method
+      (sym (ap (option_map method_of) is) ∙ both.same kind)
 
-  put_both : (kind : ℕ) (s after : ServerShown) → views kind ≡ Some s → method_of after ≡ method_of s → ServerHasBoth methods (put kind after views)
+  put_both : (kind : ℕ) (s after : ServerShown) → views kind ≡ Some s
+      → method_of after ≡ method_of s → ServerHasBoth methods (put kind after views)
   put_both kind s after is same = record {
     same = λ other. elim (cases_Bool (other == kind)) [
       | inl here ↦ ap (option_map method_of) (cond-true _ _ _ here)
-          ∙ (ap (λ (m : Method). Some m) same ∙ (sym (ap (option_map method_of) (ap views (eqb-true other kind here) ∙ is)) ∙ both.same other))
+          ∙ (ap (λ (m : Method). Some m) same ∙ (sym (ap (option_map method_of)
+          (ap views (eqb-true other kind here) ∙ is)) ∙ both.same other))
       | inr apart ↦ ap (option_map method_of) (cond-false _ _ _ apart) ∙ both.same other
     ];
   }
 
   module _ (users : List User) (id kind : ℕ) (octets : List ℕ) where
-    after_found : (found : Option ServerShown) → views kind ≡ found → ServerHasBoth methods (turned users id kind views octets found).after
+    after_found : (found : Option ServerShown) → views kind ≡ found
+        → ServerHasBoth methods (turned users id kind views octets found).after
     after_found None is = both
     after_found (Some s) is = put_both kind s _ is (step_method users id s octets)
 
@@ -62,7 +74,8 @@ module _ {methods : List ℕ} {views : ServerViews} (both : ServerHasBoth method
     both_after = after_found (views kind) refl
 
   module _ (own : ServerSide) (nonce : List ℕ) (kind id : ℕ) where
-    offered_found : (found : Option ServerShown) → views kind ≡ found → ServerHasBoth methods (offered own nonce kind id views found).after
+    offered_found : (found : Option ServerShown) → views kind ≡ found
+        → ServerHasBoth methods (offered own nonce kind id views found).after
     offered_found None is = both
     offered_found (Some s) is = put_both kind s _ is (first_method (started_server own nonce s) id)
 
@@ -70,10 +83,13 @@ module _ {methods : List ℕ} {views : ServerViews} (both : ServerHasBoth method
     unfolding server_offer
     both_offered = offered_found (views kind) refl
 
-found_started : (setup : ServerSetup) (found : Option ServerShown) → option_map method_of (option_map (server_started_in setup) found) ≡ option_map method_of found
+found_started : (setup : ServerSetup) (found : Option ServerShown)
+    → option_map method_of (option_map (server_started_in setup) found) ≡ option_map method_of found
 found_started setup None = refl
 found_started setup (Some s) = ap (λ (m : Method). Some m) (started_method setup s)
 
-pub both_started : (setup : ServerSetup) (views : ServerViews) → ServerHasBoth setup.methods views → ServerHasBoth setup.methods (views_started setup views)
+pub both_started : (setup : ServerSetup) (views : ServerViews) → ServerHasBoth setup.methods views
+    → ServerHasBoth setup.methods (views_started setup views)
 unfolding views_started
-both_started setup views both = record { same = λ kind. found_started setup (views kind) ∙ both.same kind }
+both_started setup views both =
+    record { same = λ kind. found_started setup (views kind) ∙ both.same kind }

@@ -1,6 +1,7 @@
--- Every input of the server after its start keeps what stands of it, but for the begin of a new conversation, in which it
--- stands anew.
-use Rattle.std.proofs.Common.{◌≡◌, ℕ, List, [], ◌++◌, Bool, true, false, Option, Some, None, refl, ap, sym, subst, ◌∙◌, append-nil}
+-- Every input of the server after its start keeps what stands of it, but for the begin of a new
+-- conversation, in which it stands anew.
+use Rattle.std.proofs.Common.{◌≡◌, ℕ, List, [], ◌++◌, Bool, true, false, Option, Some, None, refl}
+use Rattle.std.proofs.Common.{ap, sym, subst, ◌∙◌, append-nil}
 use Rattle.std.specs.Prelude.{◌==◌, not}
 use Rattle.std.proofs.lemmas.Bool.{and_parts, cond_both, false≢true, not-true}
 use Rattle.login_setup.specs.Setup.{ServerSetup}
@@ -20,9 +21,13 @@ use Rattle.server_machine.specs.Expanded.{response_octets, discards_bad, wraps_s
 use Rattle.server_machine.specs.Inputs.{ServerInput, start, restart, server_answers, server_accepts}
 use Rattle.server_machine.specs.Inputs as inputs
 use Rattle.server_machine.specs.Rows as rows
-use Rattle.server_machine.specs.Rows.{Selects, after_identity, after_nak, first_identity, first_nak, first_other}
+use Rattle.server_machine.specs.Rows.{Selects, after_identity, after_nak, first_identity, first_nak}
+use Rattle.server_machine.specs.Rows.{first_other}
 use Rattle.server_machine.specs.ServerTable as wide
-use Rattle.server_machine.specs.ServerTable.{ServerNow, ServerAnswer, setup_with_nonce, server_restart, next_id, with_request, offers, is_proposed, is_started, awaits_first, is_backend, picked_up, server_deliver, server_start}
+use Rattle.server_machine.specs.ServerTable.{ServerNow, ServerAnswer, setup_with_nonce}
+use Rattle.server_machine.specs.ServerTable.{server_restart, next_id, with_request, offers}
+use Rattle.server_machine.specs.ServerTable.{is_proposed, is_started, awaits_first, is_backend}
+use Rattle.server_machine.specs.ServerTable.{picked_up, server_deliver, server_start}
 use Rattle.server_machine.specs.declared.variables.Role.{Role}
 use Rattle.server_machine.proofs.Receiving.{ServerReceiving, as_it_is, bad, wrapping}
 use Rattle.server_machine.proofs.ServerRows.{server_answers_are_rows}
@@ -30,20 +35,24 @@ use Rattle.server_machine.specs.declared.variables.Progress.{Progress}
 use Rattle.server_machine.specs.declared.variables.Progress.TheVariants as progress
 use Rattle.server_machine.specs.Variables.{ServerVariables}
 use Rattle.eap_world.specs.Judgement.{is_success}
-use Rattle.world_laws.specs.ByMethod.{ServerHasSucceeded, ServerTags, identity_current, none_current}
+use Rattle.world_laws.specs.ByMethod.{ServerHasSucceeded, ServerTags, identity_current}
+use Rattle.world_laws.specs.ByMethod.{none_current}
 use Rattle.world_laws.specs.Records.{AreFew, AreNone, untagged}
 use Rattle.world_laws.specs.Runs.{initial_server}
 use Rattle.world_laws.specs.ServerInvariant.{IsUntouched, ServerHasBoth, ServerInvariant}
 use Rattle.world_laws.proofs.OneMethod.{goes_on}
 use Rattle.world_laws.proofs.ServerObjects.{both_after, both_are, both_started}
-use Rattle.world_laws.proofs.ServerByMethod.{MethodTurned, in_identity, in_none, method_turned, proposes_own, tags_few, turn_of}
+use Rattle.world_laws.proofs.ServerByMethod.{MethodTurned, in_identity, in_none, method_turned}
+use Rattle.world_laws.proofs.ServerByMethod.{proposes_own, tags_few, turn_of}
 use Rattle.world_laws.proofs.ServerTurns.{Offers, asks, ends, lacks, requests}
 use Rattle.world_laws.proofs.Accepting.{server_accepted_tags}
 
 -- ---- the begin
 
-module _ (of : Role) (setup : ServerSetup) (views : ServerViews) (both : ServerHasBoth setup.methods views) (first_id max_retrans : ℕ) where
-  initiates_with : ServerInvariant setup (wide.initial_server of setup views first_id max_retrans) [] []
+module _ (of : Role) (setup : ServerSetup) (views : ServerViews)
+    (both : ServerHasBoth setup.methods views) (first_id max_retrans : ℕ) where
+  initiates_with : ServerInvariant setup
+      (wide.initial_server of setup views first_id max_retrans) [] []
   initiates_with = record {
     own = refl;
     both = both_started setup views both;
@@ -53,7 +62,8 @@ module _ (of : Role) (setup : ServerSetup) (views : ServerViews) (both : ServerH
     sure = λ e. absurd (false≢true e);
   }
 
-  starts_with : (let out = server_start (wide.initial_server of setup views first_id max_retrans) in ServerInvariant setup out.after [] [])
+  starts_with : (let out = server_start (wide.initial_server of setup views first_id max_retrans) in
+      ServerInvariant setup out.after [] [])
   unfolding server_start
   starts_with = record {
     own = refl;
@@ -64,72 +74,96 @@ module _ (of : Role) (setup : ServerSetup) (views : ServerViews) (both : ServerH
     sure = λ e. absurd (false≢true e);
   }
 
-pub server_initiates : (of : Role) (setup : ServerSetup) (first_id max_retrans : ℕ) → ServerInvariant setup (initial_server of setup first_id max_retrans) [] []
+pub server_initiates : (of : Role) (setup : ServerSetup) (first_id max_retrans : ℕ)
+    → ServerInvariant setup (initial_server of setup first_id max_retrans) [] []
 server_initiates of setup = initiates_with of setup (both_of setup.methods) (both_are setup.methods)
 
 pub started_invariant : (of : Role) (setup : ServerSetup) (first_id max_retrans : ℕ)
-    → (let out = server_start (initial_server of setup first_id max_retrans) in ServerInvariant setup out.after [] [])
+    → (let out = server_start (initial_server of setup first_id max_retrans) in
+    ServerInvariant setup out.after [] [])
 started_invariant of setup = starts_with of setup (both_of setup.methods) (both_are setup.methods)
 
 -- ---- the calls
 
-none_told : {setup : ServerSetup} {current : Option ℕ} {views : ServerViews} {accepted made : List TagRecord} → AreNone accepted made
+none_told : {setup : ServerSetup} {current : Option ℕ} {views : ServerViews}
+    {accepted made : List TagRecord} → AreNone accepted made
     → ServerTags setup current views [] [] → ServerTags setup current views accepted made
 none_told untagged tags = tags
 
 -- what stands after a call, with the tags of its step
-record Preserves (setup : ServerSetup) (accepted made : List TagRecord) (out : ServerAnswer) : Type 0 where
-  pub stands : ServerInvariant setup out.after (accepted ++ out.step.tags.accepted) (made ++ out.step.tags.made)
+record Preserves (setup : ServerSetup) (accepted made : List TagRecord)
+    (out : ServerAnswer) : Type 0 where
+  pub stands : ServerInvariant setup out.after (accepted ++ out.step.tags.accepted)
+      (made ++ out.step.tags.made)
 
 -- a call without tags
-quiet : (setup : ServerSetup) (accepted made : List TagRecord) (out : ServerAnswer) → out.step.tags ≡ no_tags
+quiet : (setup : ServerSetup) (accepted made : List TagRecord) (out : ServerAnswer)
+    → out.step.tags ≡ no_tags
     → ServerInvariant setup out.after accepted made → Preserves setup accepted made out
 quiet setup accepted made out is_quiet stands = record {
-  stands = subst (λ (tags : Tags). ServerInvariant setup out.after (accepted ++ tags.accepted) (made ++ tags.made)) (sym is_quiet)
-      (rw (append-nil accepted, append-nil made) stands);
+  stands = subst (λ (tags : Tags). ServerInvariant setup out.after (accepted ++ tags.accepted)
+      (made ++ tags.made)) (sym is_quiet) (rw (append-nil accepted, append-nil made) stands);
 }
 
-module _ (setup : ServerSetup) (now : ServerNow) (accepted made : List TagRecord) (stands : ServerInvariant setup now accepted made) where
+module _ (setup : ServerSetup) (now : ServerNow) (accepted made : List TagRecord)
+    (stands : ServerInvariant setup now accepted made) where
   -- another state, Identifier, progress and count of retransmissions
   remains : (s : State) (id : Option ℕ) (p : Progress) (count : ℕ)
-      → (is_started (record now.vars { state = s }) ≡ false → IsUntouched (record now.vars { current_id = id }))
+      → (is_started (record now.vars { state = s }) ≡ false
+      → IsUntouched (record now.vars { current_id = id }))
       → (is_proposed p ≡ true → AreNone accepted made)
       → (is_success s ≡ true → ServerHasSucceeded now.vars.current now.views)
-      → ServerInvariant setup (record { vars = record now.vars { state = s; current_id = id; progress = p; retrans_count = count }; views = now.views })
+      → ServerInvariant setup (record {
+        vars = record now.vars { state = s; current_id = id; progress = p; retrans_count = count };
+        views = now.views;
+      })
       accepted made
   remains s id p count unstarted proposed sure = record {
     own = stands.own;
     both = stands.both;
     tags = stands.tags;
-    unstarted = λ e. let untouched = unstarted e in record { no_method = untouched.no_method; no_id = untouched.no_id };
+    unstarted = λ e. let untouched = unstarted e in
+        record { no_method = untouched.no_method; no_id = untouched.no_id };
     proposed = proposed;
     sure = sure;
   }
 
   -- a server with a current Identifier has started
   started_by : (id : ℕ) → now.vars.current_id ≡ Some id → is_started now.vars ≡ false → ⊥
-  started_by id is_id before = let none : now.vars.current_id ≡ None = (stands.unstarted before).no_id in cc
+  started_by id is_id before =
+      let none : now.vars.current_id ≡ None = (stands.unstarted before).no_id in cc
 
   own_users : now.vars.setup.users ≡ setup.users
   own_users = ap (λ (s : ServerSetup). s.users) stands.own
 
-  turned_to : (id kind : ℕ) (body : List ℕ) (answered : ServerTurn) (views : ServerViews) → rows.Turns now id kind body answered views
-      → MethodTurned setup now.vars.current accepted made (record { turn = answered; after = views })
+  turned_to : (id kind : ℕ) (body : List ℕ) (answered : ServerTurn) (views : ServerViews)
+      → rows.Turns now id kind body answered views
+      → MethodTurned setup now.vars.current accepted made
+      (record { turn = answered; after = views })
   turned_to id kind body answered views turned =
       subst (MethodTurned setup now.vars.current accepted made) turned.is_turn
-      (subst (λ (users : List User). MethodTurned setup now.vars.current accepted made (server_turn users (next_id now.vars) kind now.views (spelled (response id kind body))))
+      (subst (λ (users : List User). MethodTurned setup now.vars.current accepted made
+      (server_turn users (next_id now.vars) kind now.views (spelled (response id kind body))))
       (sym own_users)
-      (method_turned setup now.vars.current now.views accepted made stands.tags (next_id now.vars) kind _ _ turned.is_current
-      (turn_of setup.users (next_id now.vars) kind now.views (spelled (response id kind body)) stands.both)))
+      (method_turned setup now.vars.current now.views accepted made stands.tags (next_id now.vars)
+      kind _ _ turned.is_current (turn_of setup.users (next_id now.vars) kind now.views
+      (spelled (response id kind body)) stands.both)))
 
-  still_both : (id kind : ℕ) (body : List ℕ) (answered : ServerTurn) (views : ServerViews) → rows.Turns now id kind body answered views → ServerHasBoth setup.methods views
+  still_both : (id kind : ℕ) (body : List ℕ) (answered : ServerTurn) (views : ServerViews)
+      → rows.Turns now id kind body answered views → ServerHasBoth setup.methods views
   still_both id kind body answered views turned =
-      subst (λ (out : ServerOutcome ServerViews). ServerHasBoth setup.methods out.after) turned.is_turn
-      (both_after stands.both now.vars.setup.users (next_id now.vars) kind (spelled (response id kind body)))
+      subst (λ (out : ServerOutcome ServerViews). ServerHasBoth setup.methods out.after)
+      turned.is_turn (both_after stands.both now.vars.setup.users (next_id now.vars) kind
+      (spelled (response id kind body)))
 
-  after_request : (packet : List ℕ) (tags : Tags) (views : ServerViews) → MethodTurned setup now.vars.current accepted made (record { turn = turn.Request packet tags; after = views })
-      → ServerHasBoth setup.methods views → (is_started now.vars ≡ false → ⊥) → (is_success now.vars.state ≡ true → ⊥)
-      → ServerInvariant setup (record { vars = record (with_request now.vars packet) { progress = progress.Continue }; views = views })
+  after_request : (packet : List ℕ) (tags : Tags) (views : ServerViews) → MethodTurned setup
+      now.vars.current accepted made (record { turn = turn.Request packet tags; after = views })
+      → ServerHasBoth setup.methods views → (is_started now.vars ≡ false → ⊥)
+      → (is_success now.vars.state ≡ true → ⊥)
+      → ServerInvariant setup (record {
+        vars = record (with_request now.vars packet) { progress = progress.Continue };
+        views = views;
+      })
       (accepted ++ tags.accepted) (made ++ tags.made)
   after_request _ _ _ (requests _ _ _ told) both begun unsure = record {
     own = stands.own;
@@ -140,9 +174,12 @@ module _ (setup : ServerSetup) (now : ServerNow) (accepted made : List TagRecord
     sure = λ e. absurd (unsure e);
   }
 
-  after_end : (good : Bool) (tags : Tags) (views : ServerViews) → MethodTurned setup now.vars.current accepted made (record { turn = turn.Done good tags; after = views })
-      → ServerHasBoth setup.methods views → (s : State) → is_started (record now.vars { state = s }) ≡ true → (is_success s ≡ true → good ≡ true)
-      → ServerInvariant setup (record { vars = record now.vars { progress = progress.End; state = s }; views = views })
+  after_end : (good : Bool) (tags : Tags) (views : ServerViews) → MethodTurned setup
+      now.vars.current accepted made (record { turn = turn.Done good tags; after = views })
+      → ServerHasBoth setup.methods views → (s : State) → is_started (record now.vars { state = s })
+      ≡ true → (is_success s ≡ true → good ≡ true)
+      → ServerInvariant setup
+      (record { vars = record now.vars { progress = progress.End; state = s }; views = views })
       (accepted ++ tags.accepted) (made ++ tags.made)
   after_end _ _ _ (ends _ _ _ told well) both s begun sure = record {
     own = stands.own;
@@ -159,96 +196,135 @@ module _ (setup : ServerSetup) (now : ServerNow) (accepted made : List TagRecord
     pub none : AreNone accepted made
     pub begun : is_started vars ≡ false → ⊥
     pub unsure : is_success vars.state ≡ true → ⊥
-    pub gives_up : ServerInvariant setup (record { vars = record vars { state = state.Failure }; views = now.views }) accepted made
+    pub gives_up : ServerInvariant setup
+        (record { vars = record vars { state = state.Failure }; views = now.views }) accepted made
 
   -- after a backend's first Response, before which it has made no tag
-  picks_up : (id : ℕ) (p : Progress) → awaits_first now.vars ≡ true → (is_proposed p ≡ true → AreNone accepted made)
+  picks_up : (id : ℕ) (p : Progress) → awaits_first now.vars ≡ true
+      → (is_proposed p ≡ true → AreNone accepted made)
       → Proposing (record (picked_up now.vars id) { progress = p })
   picks_up id p awaited proposed =
-      let before = not-true (is_started now.vars) (and_parts (is_backend now.vars) (not (is_started now.vars)) awaited).1 in
+      let before = not-true (is_started now.vars)
+      (and_parts (is_backend now.vars) (not (is_started now.vars)) awaited).1 in
       record {
         own = stands.own;
-        none = in_none setup now.vars.current now.views accepted made (stands.unstarted before).no_method stands.tags;
+        none = in_none setup now.vars.current now.views accepted made
+            (stands.unstarted before).no_method stands.tags;
         begun = λ e. false≢true (sym e);
         unsure = λ e. false≢true e;
-        gives_up = remains _ _ _ _ (λ e. absurd (false≢true (sym e))) proposed (λ e. absurd (false≢true e));
+        gives_up = remains _ _ _ _ (λ e. absurd (false≢true (sym e))) proposed
+            (λ e. absurd (false≢true e));
       }
 
-  proposing : (is_success now.vars.state ≡ true → ⊥) → (id kind : ℕ) (body : List ℕ) (entered : List State) (vars : ServerVariables)
+  proposing : (is_success now.vars.state ≡ true → ⊥)
+      → (id kind : ℕ) (body : List ℕ) (entered : List State) (vars : ServerVariables)
       (desired : Option (List ℕ)) → Selects now id kind body entered vars desired → Proposing vars
-  proposing unsure id kind body _ _ _ (after_identity is_id is_identity is_current unawaited) = record {
-    own = stands.own;
-    none = in_identity setup now.vars.current now.views accepted made is_current stands.tags;
-    begun = started_by id is_id;
-    unsure = unsure;
-    gives_up = remains _ _ _ _ (λ e. absurd (false≢true (sym e))) (λ e. absurd (false≢true e)) (λ e. absurd (false≢true e));
-  }
+  proposing unsure id kind body _ _ _ (after_identity is_id is_identity is_current unawaited) =
+      record {
+        own = stands.own;
+        none = in_identity setup now.vars.current now.views accepted made is_current stands.tags;
+        begun = started_by id is_id;
+        unsure = unsure;
+        gives_up = remains _ _ _ _ (λ e. absurd (false≢true (sym e))) (λ e. absurd (false≢true e))
+            (λ e. absurd (false≢true e));
+      }
   proposing unsure id kind body _ _ _ (after_nak is_id is_nak waits unawaited) = record {
     own = stands.own;
     none = stands.proposed waits;
     begun = started_by id is_id;
     unsure = unsure;
-    gives_up = remains _ _ _ _ (λ e. absurd (false≢true (sym e))) stands.proposed (λ e. absurd (false≢true e));
+    gives_up = remains _ _ _ _ (λ e. absurd (false≢true (sym e))) stands.proposed
+        (λ e. absurd (false≢true e));
   }
-  proposing unsure id kind body _ _ _ (first_identity awaited is_identity) = picks_up id progress.End awaited (λ e. absurd (false≢true e))
-  proposing unsure id kind body _ _ _ (first_nak awaited is_nak) = picks_up id now.vars.progress awaited stands.proposed
-  proposing unsure id kind body _ _ _ (first_other awaited no_nak no_identity) = picks_up id now.vars.progress awaited stands.proposed
+  proposing unsure id kind body _ _ _ (first_identity awaited is_identity) =
+      picks_up id progress.End awaited (λ e. absurd (false≢true e))
+  proposing unsure id kind body _ _ _ (first_nak awaited is_nak) =
+      picks_up id now.vars.progress awaited stands.proposed
+  proposing unsure id kind body _ _ _ (first_other awaited no_nak no_identity) =
+      picks_up id now.vars.progress awaited stands.proposed
 
   -- a method is offered, or there is no object of it
-  offered : (entered : List State) (vars : ServerVariables) (id kind : ℕ) → Proposing vars → (offer : Offer) → Offers setup kind now.views offer
+  offered : (entered : List State) (vars : ServerVariables) (id kind : ℕ) → Proposing vars
+      → (offer : Offer) → Offers setup kind now.views offer
       → Preserves setup accepted made (offers entered vars offer.after id kind offer.packet)
-  offered entered vars id kind at _ (asks packet after both tags) = quiet setup accepted made _ refl (record {
-    own = at.own;
-    both = both;
-    tags = none_told at.none tags;
-    unstarted = λ e. absurd (at.begun e);
-    proposed = λ _. at.none;
-    sure = λ e. absurd (at.unsure e);
-  })
+  offered entered vars id kind at _ (asks packet after both tags) =
+      quiet setup accepted made _ refl (record {
+        own = at.own;
+        both = both;
+        tags = none_told at.none tags;
+        unstarted = λ e. absurd (at.begun e);
+        proposed = λ _. at.none;
+        sure = λ e. absurd (at.unsure e);
+      })
   offered entered vars id kind at _ lacks = quiet setup accepted made _ refl at.gives_up
 
-  offer_preserves : (entered : List State) (vars : ServerVariables) (desired : Option (List ℕ)) (id kind : ℕ) (offer : Offer) → Proposing vars
-      → rows.Proposes now vars desired kind offer → Preserves setup accepted made (offers entered vars offer.after id kind offer.packet)
-  offer_preserves entered vars desired id kind offer at next = offered entered vars id kind at offer (proposes_own setup now stands.both vars desired kind offer at.own next)
+  offer_preserves : (entered : List State) (vars : ServerVariables) (desired : Option (List ℕ))
+      (id kind : ℕ) (offer : Offer) → Proposing vars
+      → rows.Proposes now vars desired kind offer
+      → Preserves setup accepted made (offers entered vars offer.after id kind offer.packet)
+  offer_preserves entered vars desired id kind offer at next = offered entered vars id kind at offer
+      (proposes_own setup now stands.both vars desired kind offer at.own next)
 
-  row_preserves : (input : ServerInput) (out : ServerAnswer) → (input ≡ start → ⊥) → ((nonce : List ℕ) → input ≡ restart nonce → ⊥)
+  row_preserves : (input : ServerInput) (out : ServerAnswer) → (input ≡ start → ⊥)
+      → ((nonce : List ℕ) → input ≡ restart nonce → ⊥)
       → rows.ServerRow now input out → Preserves setup accepted made out
   row_preserves _ _ later same (rows.begins nonce) = absurd (same nonce refl)
   row_preserves _ _ later same (rows.ended bytes over) = quiet setup accepted made _ refl stands
   row_preserves _ _ later same (rows.rests over) = quiet setup accepted made _ refl stands
   row_preserves _ _ later same (rows.goes_on is_initiated) = absurd (later refl)
-  row_preserves _ _ later same (rows.drops bytes path c going why) = quiet setup accepted made _ refl stands
+  row_preserves _ _ later same (rows.drops bytes path c going why) =
+      quiet setup accepted made _ refl stands
   row_preserves _ _ later same (rows.starts unstarted) = absurd (later refl)
-  row_preserves _ _ later same (rows.resends going in_time) = quiet setup accepted made _ refl (remains _ _ _ _ stands.unstarted stands.proposed stands.sure)
+  row_preserves _ _ later same (rows.resends going in_time) = quiet setup accepted made _ refl
+      (remains _ _ _ _ stands.unstarted stands.proposed stands.sure)
   row_preserves _ _ later same (rows.times_out going late) = quiet setup accepted made _ refl
-      (remains _ _ _ _ (λ e. absurd (false≢true (sym e))) stands.proposed (λ e. absurd (false≢true e)))
-  row_preserves _ _ later same (rows.proposes bytes id kind body entered vars desired next packet views heard selects next_is) =
-      offer_preserves entered vars desired id next _ (proposing (goes_on now.vars.state heard.going) id kind body entered vars desired selects) next_is
-  row_preserves _ _ later same (rows.proposes_without bytes id kind body entered vars desired next views heard selects next_is) =
-      offer_preserves entered vars desired id next _ (proposing (goes_on now.vars.state heard.going) id kind body entered vars desired selects) next_is
-  row_preserves _ _ later same (rows.proposes_none bytes id kind body entered vars desired heard selects none) =
-      quiet setup accepted made _ refl (proposing (goes_on now.vars.state heard.going) id kind body entered vars desired selects).gives_up
+      (remains _ _ _ _ (λ e. absurd (false≢true (sym e))) stands.proposed
+      (λ e. absurd (false≢true e)))
+  row_preserves _ _ later same (rows.proposes bytes id kind body entered vars desired next packet
+      views heard selects next_is) =
+      offer_preserves entered vars desired id next _ (proposing (goes_on now.vars.state heard.going)
+      id kind body entered vars desired selects) next_is
+  row_preserves _ _ later same (rows.proposes_without bytes id kind body entered vars desired next
+      views heard selects next_is) =
+      offer_preserves entered vars desired id next _ (proposing (goes_on now.vars.state heard.going)
+      id kind body entered vars desired selects) next_is
+  row_preserves _ _ later same
+      (rows.proposes_none bytes id kind body entered vars desired heard selects none) =
+      quiet setup accepted made _ refl (proposing (goes_on now.vars.state heard.going)
+      id kind body entered vars desired selects).gives_up
   row_preserves _ _ later same (rows.requests bytes id kind body packet tags views heard turned) =
       record {
-        stands = after_request packet tags views (turned_to id kind body _ views turned) (still_both id kind body _ views turned) (started_by id turned.is_id) (goes_on now.vars.state heard.going);
+        stands = after_request packet tags views (turned_to id kind body _ views turned)
+            (still_both id kind body _ views turned) (started_by id turned.is_id)
+            (goes_on now.vars.state heard.going);
       }
   row_preserves _ _ later same (rows.succeeds bytes id kind body tags views heard turned) =
-      record { stands = after_end true tags views (turned_to id kind body _ views turned) (still_both id kind body _ views turned) _ refl (λ _. refl) }
+      record {
+        stands = after_end true tags views (turned_to id kind body _ views turned)
+            (still_both id kind body _ views turned) _ refl (λ _. refl);
+      }
   row_preserves _ _ later same (rows.method_fails bytes id kind body tags views heard turned) =
-      record { stands = after_end false tags views (turned_to id kind body _ views turned) (still_both id kind body _ views turned) _ refl (λ e. e) }
+      record {
+        stands = after_end false tags views (turned_to id kind body _ views turned)
+            (still_both id kind body _ views turned) _ refl (λ e. e);
+      }
 
   -- by the table alone
   abbrev IsConsistent : ServerInput → ServerAnswer → Type 0
-  IsConsistent input out = (input ≡ start → ⊥) → ((nonce : List ℕ) → input ≡ restart nonce → ⊥) → Preserves setup accepted made out
+  IsConsistent input out = (input ≡ start → ⊥) → ((nonce : List ℕ) → input ≡ restart nonce → ⊥)
+      → Preserves setup accepted made out
 
   answer_preserves : (input : ServerInput) → IsConsistent input (server_answers now input)
-  answer_preserves input later same = row_preserves input _ later same (server_answers_are_rows now input)
+  answer_preserves input later same =
+      row_preserves input _ later same (server_answers_are_rows now input)
 
-  of_octets : (bytes : List ℕ) → Preserves setup accepted made (server_answers now (inputs.octets bytes))
+  of_octets : (bytes : List ℕ)
+      → Preserves setup accepted made (server_answers now (inputs.octets bytes))
   of_octets bytes = answer_preserves (inputs.octets bytes) (λ e. cc e) (λ nonce e. cc e)
 
   -- lastReqData alone is another where a Request is wrapped
-  wraps_preserve : (out : ServerAnswer) (sent : Option (List ℕ)) → Preserves setup accepted made out → Preserves setup accepted made (wraps_sent out sent)
+  wraps_preserve : (out : ServerAnswer) (sent : Option (List ℕ)) → Preserves setup accepted made out
+      → Preserves setup accepted made (wraps_sent out sent)
   wraps_preserve out None kept = kept
   wraps_preserve out (Some packet) kept =
       let s = kept.stands in
@@ -258,7 +334,8 @@ module _ (setup : ServerSetup) (now : ServerNow) (accepted made : List TagRecord
           own = s.own;
           both = s.both;
           tags = s.tags;
-          unstarted = λ e. record { no_method = (s.unstarted e).no_method; no_id = (s.unstarted e).no_id };
+          unstarted =
+              λ e. record { no_method = (s.unstarted e).no_method; no_id = (s.unstarted e).no_id };
           proposed = s.proposed;
           sure = s.sure;
         };
@@ -267,40 +344,55 @@ module _ (setup : ServerSetup) (now : ServerNow) (accepted made : List TagRecord
 
   bad_preserves : Preserves setup accepted made (discards_bad now)
   bad_preserves =
-      cond_both (awaits_first now.vars) _ _ (Preserves setup accepted made) (λ _. quiet setup accepted made _ refl stands)
-      (λ _. quiet setup accepted made _ refl stands)
+      cond_both (awaits_first now.vars) _ _ (Preserves setup accepted made)
+      (λ _. quiet setup accepted made _ refl stands) (λ _. quiet setup accepted made _ refl stands)
 
-  receiving_preserves : (bytes : List ℕ) (out : ServerAnswer) → ServerReceiving now bytes out → IsConsistent (inputs.octets bytes) out
+  receiving_preserves : (bytes : List ℕ) (out : ServerAnswer) → ServerReceiving now bytes out
+      → IsConsistent (inputs.octets bytes) out
   receiving_preserves bytes _ as_it_is later same = of_octets bytes
   receiving_preserves bytes _ (bad id kind body answers is_bad) later same = bad_preserves
   receiving_preserves bytes _ (wrapping id kind body answers good) later same =
-      let out = server_deliver now (response_octets now.vars bytes id kind body) in wraps_preserve out out.step.sent (of_octets _)
+      let out = server_deliver now (response_octets now.vars bytes id kind body) in
+      wraps_preserve out out.step.sent (of_octets _)
 
 -- every input after the start but the begin of a new conversation keeps what stands
-pub server_preserves : (setup : ServerSetup) (now : ServerNow) (accepted made : List TagRecord) (input : ServerInput) → (input ≡ start → ⊥)
+pub server_preserves : (setup : ServerSetup) (now : ServerNow) (accepted made : List TagRecord)
+    (input : ServerInput) → (input ≡ start → ⊥)
     → ((nonce : List ℕ) → input ≡ restart nonce → ⊥) → ServerInvariant setup now accepted made
-    → (let out = server_accepts now input in ServerInvariant setup out.after (accepted ++ out.step.tags.accepted) (made ++ out.step.tags.made))
+    → (let out = server_accepts now input in ServerInvariant setup out.after
+    (accepted ++ out.step.tags.accepted) (made ++ out.step.tags.made))
 server_preserves setup now accepted made input later same stands =
-    (server_accepted_tags now (IsConsistent setup now accepted made stands) (answer_preserves setup now accepted made stands) (receiving_preserves setup now accepted made stands)
+    (server_accepted_tags now (IsConsistent setup now accepted made stands) (answer_preserves setup
+    now accepted made stands) (receiving_preserves setup now accepted made stands)
     input later same).stands
 
--- a server of these settings that begins a new conversation stands as one that was made, or has started, with the new
--- nonce
-pub server_invariant_anew : (setup : ServerSetup) (now : ServerNow) (nonce : List ℕ) → now.vars.setup ≡ setup → ServerHasBoth setup.methods now.views
-    → ServerInvariant (setup_with_nonce setup nonce) (server_accepts now (restart nonce)).after [] []
+-- a server of these settings that begins a new conversation stands as one that was made, or has
+-- started, with the new nonce
+pub server_invariant_anew : (setup : ServerSetup) (now : ServerNow) (nonce : List ℕ)
+    → now.vars.setup ≡ setup → ServerHasBoth setup.methods now.views
+    → ServerInvariant (setup_with_nonce setup nonce)
+    (server_accepts now (restart nonce)).after [] []
 unfolding server_restart
 server_invariant_anew setup now nonce own both =
-    let set : ServerHasBoth now.vars.setup.methods now.views = subst (λ (s : ServerSetup). ServerHasBoth s.methods now.views) (sym own) both in
-    subst (λ (s : ServerSetup). ServerInvariant (setup_with_nonce s nonce) (server_restart now nonce).after [] []) own
-    (cond_both (is_backend now.vars) _ _ (λ (out : ServerAnswer). ServerInvariant (setup_with_nonce now.vars.setup nonce) out.after [] [])
-    (λ _. initiates_with now.vars.role (setup_with_nonce now.vars.setup nonce) now.views set now.vars.first_id now.vars.max_retrans)
-    (λ _. starts_with now.vars.role (setup_with_nonce now.vars.setup nonce) now.views set now.vars.first_id now.vars.max_retrans))
+    let set : ServerHasBoth now.vars.setup.methods now.views =
+    subst (λ (s : ServerSetup). ServerHasBoth s.methods now.views) (sym own) both in
+    subst (λ (s : ServerSetup). ServerInvariant (setup_with_nonce s nonce)
+    (server_restart now nonce).after [] []) own (cond_both (is_backend now.vars) _ _ (λ
+    (out : ServerAnswer). ServerInvariant (setup_with_nonce now.vars.setup nonce) out.after [] [])
+    (λ _. initiates_with now.vars.role (setup_with_nonce now.vars.setup nonce)
+    now.views set now.vars.first_id now.vars.max_retrans)
+    (λ _. starts_with now.vars.role (setup_with_nonce now.vars.setup nonce)
+    now.views set now.vars.first_id now.vars.max_retrans))
 
 -- it has made no tag in it
-pub server_tags_none : (now : ServerNow) (nonce : List ℕ) → (server_accepts now (restart nonce)).step.tags ≡ no_tags
+pub server_tags_none : (now : ServerNow) (nonce : List ℕ)
+    → (server_accepts now (restart nonce)).step.tags ≡ no_tags
 unfolding server_restart server_start
-server_tags_none now nonce = cond_both (is_backend now.vars) _ _ (λ (out : ServerAnswer). out.step.tags ≡ no_tags) (λ _. refl) (λ _. refl)
+server_tags_none now nonce = cond_both (is_backend now.vars) _ _
+    (λ (out : ServerAnswer). out.step.tags ≡ no_tags) (λ _. refl) (λ _. refl)
 
 -- a server has accepted at most two tags and made at most two
-pub server_few : (setup : ServerSetup) (now : ServerNow) (accepted made : List TagRecord) → ServerInvariant setup now accepted made → AreFew accepted made
-server_few setup now accepted made stands = tags_few setup now.vars.current now.views accepted made stands.tags
+pub server_few : (setup : ServerSetup) (now : ServerNow) (accepted made : List TagRecord)
+    → ServerInvariant setup now accepted made → AreFew accepted made
+server_few setup now accepted made stands =
+    tags_few setup now.vars.current now.views accepted made stands.tags

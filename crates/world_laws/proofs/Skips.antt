@@ -3,9 +3,11 @@ use Rattle.std.proofs.Common.{refl}
 use Rattle.std.specs.Prelude.{IsSome}
 use Rattle.world_laws.specs.Laws.{CountsAlone, SkipsChangeNothing}
 use Rattle.eap_world.specs.World.{WorldNow, WorldOutcome, to_pass, to_peer, to_server, world_step}
-use Rattle.world_laws.proofs.Acting.{Steps, skips, calls, peer_restarts, server_restarts, step_steps}
+use Rattle.world_laws.proofs.Acting.{Steps, skips, calls, peer_restarts, server_restarts}
+use Rattle.world_laws.proofs.Acting.{step_steps}
 
-steps_keep : (w : WorldNow) (out : WorldOutcome) → Steps w out → IsSome out.told.skip → CountsAlone w out
+steps_keep : (w : WorldNow) (out : WorldOutcome) → Steps w out → IsSome out.told.skip
+    → CountsAlone w out
 steps_keep w _ (skips skip) is_skip = record {
   parties = refl;
   sent = refl;

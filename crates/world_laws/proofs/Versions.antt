@@ -11,6 +11,7 @@ version_after w [] = refl
 version_after w (e ∷ rest) = version_after (world_step w e).after rest
 
 -- in every run the version is that of the setup
-pub version_preserved : (setup : Setup) (events : List Event) → (run_of setup events).version ≡ setup.later.version
+pub version_preserved : (setup : Setup) (events : List Event)
+    → (run_of setup events).version ≡ setup.later.version
 unfolding world_start
 version_preserved setup events = version_after (world_start (initial_world setup)).after events

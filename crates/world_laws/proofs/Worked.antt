@@ -25,7 +25,8 @@ use Rattle.server_machine.specs.declared.variables.Role.TheVariants.{StandAlone}
 use Rattle.pass_through.specs.PassTable.{initial_pass}
 use Rattle.eap_world.specs.Conversations.{beginning}
 use Rattle.tag_book.specs.declared.book.End.TheVariants as end
-use Rattle.eap_world.specs.World.{world_start, act, conversed_by, reported_before, world_step, outcomes_after, run_after}
+use Rattle.eap_world.specs.World.{world_start, act, conversed_by, reported_before, world_step}
+use Rattle.eap_world.specs.World.{outcomes_after, run_after}
 use Rattle.eap_method.specs.BothPeers.{both_of}
 use Rattle.eap_method.specs.BothServers as of_server
 use Rattle.world_laws.specs.Runs.{initial_world}
@@ -68,7 +69,8 @@ identity_round : run_after (world_start (initial_world example_setup)).after thr
             last_request = 1 ∷ 0 ∷ 0 ∷ 5 ∷ 1 ∷ [];
             proposed = [];
           };
-          views = server.views_started example_setup.server (of_server.both_of example_setup.server.methods);
+          views = server.views_started example_setup.server
+              (of_server.both_of example_setup.server.methods);
         };
         pass = initial_pass 0 4;
       };
@@ -81,17 +83,22 @@ identity_round : run_after (world_start (initial_world example_setup)).after thr
       conversations = record {
         peer_left = [];
         server_left = [];
-        begun = beginning 0 end.Peer (replicate 32 17) ∷ beginning 0 end.Server (replicate 32 34) ∷ [];
+        begun = beginning 0 end.Peer (replicate 32 17)
+            ∷ beginning 0 end.Server (replicate 32 34) ∷ [];
         fresh = true;
       };
       version = 1;
       started = true;
     }
-unfolding run_after world_start world_step act conversed_by reported_before server_start server_receives server_deliver peer_receives peer_deliver select_action next_kind packet_of fault spelled example_setup three peer.views_started server.views_started peer.peer_report_of server.server_report_of
+unfolding run_after world_start world_step act conversed_by reported_before server_start
+    server_receives server_deliver peer_receives peer_deliver select_action next_kind packet_of
+    fault spelled example_setup three peer.views_started server.views_started peer.peer_report_of
+    server.server_report_of
 identity_round = refl
 
 -- what is told of its events
-identity_round_reported : map (λ out. out.told) (outcomes_after (world_start (initial_world example_setup)).after three)
+identity_round_reported : map (λ out. out.told)
+    (outcomes_after (world_start (initial_world example_setup)).after three)
     ≡ record {
       event = 1;
       party = Some party.Peer;
@@ -104,7 +111,8 @@ identity_round_reported : map (λ out. out.told) (outcomes_after (world_start (i
     ∷ record {
       event = 2;
       party = Some party.Server;
-      path = state.Received ∷ state.IntegrityCheck ∷ state.MethodResponse ∷ state.SelectAction ∷ state.Failure ∷ [];
+      path = state.Received ∷ state.IntegrityCheck ∷ state.MethodResponse ∷ state.SelectAction
+          ∷ state.Failure ∷ [];
       cause = None;
       skip = None;
       sent = Some (record { number = 3; port = port.Peer });
@@ -119,5 +127,8 @@ identity_round_reported : map (λ out. out.told) (outcomes_after (world_start (i
       sent = None;
       named = None;
     } ∷ []
-unfolding outcomes_after world_start world_step act conversed_by reported_before server_start server_receives server_deliver peer_receives peer_deliver select_action next_kind packet_of fault spelled example_setup three peer.views_started server.views_started peer.peer_report_of server.server_report_of
+unfolding outcomes_after world_start world_step act conversed_by reported_before server_start
+    server_receives server_deliver peer_receives peer_deliver select_action next_kind packet_of
+    fault spelled example_setup three peer.views_started server.views_started peer.peer_report_of
+    server.server_report_of
 identity_round_reported = refl

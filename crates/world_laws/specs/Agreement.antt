@@ -36,36 +36,46 @@ pub record IsWhole (setup : Setup) : Type 0 where
 
 -- a book that is honest by the other end's tags alone is honest by those of either end
 abbrev pub HonestOfEither : Type 0
-HonestOfEither = (book : List Entry) → tags_verdict book ≡ Honest → tags_verdict_either book ≡ Honest
+HonestOfEither =
+    (book : List Entry) → tags_verdict book ≡ Honest → tags_verdict_either book ≡ Honest
 
 -- no end has begun a second conversation, or each conversation has begun with a fresh nonce
 abbrev pub AreApart : Conversations → Type 0
 AreApart all = (length all.begun ≡ 2) ⊎ (all.fresh ≡ true)
 
--- each end has the nonce of the other's present conversation, by its prefix; by EAP-GPSK all its 32 octets. EAP-PSK has
--- no more than these 16 of it (RFC 4764 section 3.2)
+-- each end has the nonce of the other's present conversation, by its prefix; by EAP-GPSK all its 32
+-- octets. EAP-PSK has no more than these 16 of it (RFC 4764 section 3.2)
 pub record HaveEachOthers (w : WorldNow) : Type 0 where
-  pub rand_s : peer_foreign w.parties.peer.vars.selected w.parties.peer.views ≡ Some (front w.parties.server.vars.setup.nonce)
-  pub rand_p : server_foreign w.parties.server.vars.current w.parties.server.views ≡ Some (front w.parties.peer.vars.setup.nonce)
-  pub whole : HaveAllOctets w.parties.peer.vars.selected w.parties.peer.views w.parties.peer.vars.setup.nonce
-      w.parties.server.views w.parties.server.vars.setup.nonce
+  pub rand_s : peer_foreign w.parties.peer.vars.selected w.parties.peer.views
+      ≡ Some (front w.parties.server.vars.setup.nonce)
+  pub rand_p : server_foreign w.parties.server.vars.current w.parties.server.views
+      ≡ Some (front w.parties.peer.vars.setup.nonce)
+  pub whole : HaveAllOctets w.parties.peer.vars.selected w.parties.peer.views
+      w.parties.peer.vars.setup.nonce w.parties.server.views w.parties.server.vars.setup.nonce
 
--- two ends that are both in SUCCESS in their present conversations agree, and the verdict is never that they don't
+-- two ends that are both in SUCCESS in their present conversations agree, and the verdict is never
+-- that they don't
 pub record AgreesWhereHonest (w : WorldNow) : Type 0 where
   -- if each accepted tag was made by the other end
   pub agrees : tags_verdict w.book ≡ Honest → AreApart w.conversations
-      → is_success w.parties.peer.vars.state ≡ true → is_success w.parties.server.vars.state ≡ true → verdict_of w ≡ Agree
-  pub never_apart : tags_verdict w.book ≡ Honest → AreApart w.conversations → verdict_of w ≡ Apart → ⊥
+      → is_success w.parties.peer.vars.state ≡ true → is_success w.parties.server.vars.state ≡ true
+      → verdict_of w ≡ Agree
+  pub never_apart : tags_verdict w.book ≡ Honest → AreApart w.conversations
+      → verdict_of w ≡ Apart → ⊥
   -- if it was made by either end, and no end has begun a second conversation
   pub reflected_agrees : tags_verdict_either w.book ≡ Honest → length w.conversations.begun ≡ 2
-      → is_success w.parties.peer.vars.state ≡ true → is_success w.parties.server.vars.state ≡ true → verdict_of w ≡ Agree
-  pub reflected_never_apart : tags_verdict_either w.book ≡ Honest → length w.conversations.begun ≡ 2 → verdict_of w ≡ Apart → ⊥
+      → is_success w.parties.peer.vars.state ≡ true → is_success w.parties.server.vars.state ≡ true
+      → verdict_of w ≡ Agree
+  pub reflected_never_apart : tags_verdict_either w.book ≡ Honest → length w.conversations.begun ≡ 2
+      → verdict_of w ≡ Apart → ⊥
   -- if nonces are fresh, each has the other's nonce
   pub hold : tags_verdict w.book ≡ Honest → w.conversations.fresh ≡ true
-      → is_success w.parties.peer.vars.state ≡ true → is_success w.parties.server.vars.state ≡ true → HaveEachOthers w
+      → is_success w.parties.peer.vars.state ≡ true → is_success w.parties.server.vars.state ≡ true
+      → HaveEachOthers w
 
--- whatever is delivered, lost, repeated, reordered, altered, injected or restarted: if each accepted tag was made
--- earlier by the other end, and no end has begun again or nonces are fresh, two ends that are both in SUCCESS agree
+-- whatever is delivered, lost, repeated, reordered, altered, injected or restarted: if each
+-- accepted tag was made earlier by the other end, and no end has begun again or nonces are fresh,
+-- two ends that are both in SUCCESS agree
 abbrev pub HonestEndsAgree : Type 0
 HonestEndsAgree =
     (setup : Setup) (events : List Event) → IsWhole setup → AgreesWhereHonest (run_of setup events)
@@ -75,8 +85,9 @@ abbrev pub StartsOnce : Type 0
 StartsOnce = (setup : Setup) (events : List Event) → setup.later.peer ≡ [] → setup.later.server ≡ []
     → length (run_of setup events).conversations.begun ≡ 2
 
--- both ends have one report, whose names are those of both setups; the server knows the peer by its name, with
--- the peer's own key, and lets it in; by EAP-GPSK the suite is the one picked of the server's own list
+-- both ends have one report, whose names are those of both setups; the server knows the peer by its
+-- name, with the peer's own key, and lets it in; by EAP-GPSK the suite is the one picked of the
+-- server's own list
 pub record AreTheirs (setup : Setup) (peer : PeerNow) (server : ServerNow) : Type 0 where
   pub report : Report
   pub holds : peer_reports peer ≡ Some report
@@ -89,7 +100,8 @@ pub record AreTheirs (setup : Setup) (peer : PeerNow) (server : ServerNow) : Typ
   pub welcome : user.barred ≡ false
   pub first_suite : HasFirstSuite setup report
 
--- two ends agree on names, key and suite that are their own, and each has the nonce of the other's present conversation
+-- two ends agree on names, key and suite that are their own, and each has the nonce of the other's
+-- present conversation
 pub record AgreeAnew (setup : Setup) (w : WorldNow) : Type 0 where
   pub agree : verdict_of w ≡ Agree
   pub hold : HaveEachOthers w
@@ -98,23 +110,29 @@ pub record AgreeAnew (setup : Setup) (w : WorldNow) : Type 0 where
 -- what two ends that are both in SUCCESS report in their present conversations is their own
 pub record TheirsWhereHonest (setup : Setup) (w : WorldNow) : Type 0 where
   pub theirs : tags_verdict w.book ≡ Honest → AreApart w.conversations
-      → is_success w.parties.peer.vars.state ≡ true → is_success w.parties.server.vars.state ≡ true → AreTheirs setup w.parties.peer w.parties.server
+      → is_success w.parties.peer.vars.state ≡ true → is_success w.parties.server.vars.state ≡ true
+      → AreTheirs setup w.parties.peer w.parties.server
   pub reflected_theirs : tags_verdict_either w.book ≡ Honest → length w.conversations.begun ≡ 2
-      → is_success w.parties.peer.vars.state ≡ true → is_success w.parties.server.vars.state ≡ true → AreTheirs setup w.parties.peer w.parties.server
+      → is_success w.parties.peer.vars.state ≡ true → is_success w.parties.server.vars.state ≡ true
+      → AreTheirs setup w.parties.peer w.parties.server
 
 -- under the premises of agreement, what both ends report is their own: names, key and suite
 abbrev pub HonestNamesAreTheirs : Type 0
-HonestNamesAreTheirs = (setup : Setup) (events : List Event) → IsWhole setup → TheirsWhereHonest setup (run_of setup events)
+HonestNamesAreTheirs = (setup : Setup) (events : List Event) → IsWhole setup
+    → TheirsWhereHonest setup (run_of setup events)
 
--- on the whole at most two tags of each end and use for each of its conversations, so at most four a conversation
+-- on the whole at most two tags of each end and use for each of its conversations, so at most four
+-- a conversation
 pub record HasFewTags (begun : List ConversationStart) (book : List Entry) : Type 0 where
   pub each : (end : End) (how : Use) → length (tags_by end how book) ≤ 2 * initiated_by end begun
   pub all : length book ≤ 4 * length begun
 
 -- the book stays small however many events there are
 abbrev pub FewTags : Type 0
-FewTags = (setup : Setup) (events : List Event) → (let w = run_of setup events in HasFewTags w.conversations.begun w.book)
+FewTags = (setup : Setup) (events : List Event)
+    → (let w = run_of setup events in HasFewTags w.conversations.begun w.book)
 
 -- a run of so many events sends at most one packet more
 abbrev pub FewPackets : Type 0
-FewPackets = (setup : Setup) (events : List Event) → length (run_of setup events).sent ≤ length events + 1
+FewPackets =
+    (setup : Setup) (events : List Event) → length (run_of setup events).sent ≤ length events + 1

@@ -1,6 +1,8 @@
--- Downgrade by a Nak: a server is at another method that the peer allows than the first such one of its order only if it took a Nak,
--- which the peer sends in answer to no Request for a method that it allows.
-use Rattle.std.specs.Prelude.{◌≡◌, ℕ, List, ◌∷◌, ◌++◌, Bool, true, false, ◌==◌, ◌&&◌, ◌||◌, if◌then◌else◌, Option, Some, None, Result, Ok, find, slice_index}
+-- Downgrade by a Nak: a server is at another method that the peer allows than the first such one of
+-- its order only if it took a Nak, which the peer sends in answer to no Request for a method that
+-- it allows.
+use Rattle.std.specs.Prelude.{◌≡◌, ℕ, List, ◌∷◌, ◌++◌, Bool, true, false, ◌==◌, ◌&&◌, ◌||◌}
+use Rattle.std.specs.Prelude.{if◌then◌else◌, Option, Some, None, Result, Ok, find, slice_index}
 use Rattle.std.specs.List.{list_any}
 use Rattle.login_setup.specs.declared.event.Event.{Event}
 use Rattle.login_setup.specs.declared.setup.Party.TheVariants as party
@@ -25,13 +27,17 @@ use Rattle.world_laws.specs.Runs.{run_of}
 abbrev pub is_nak_state : State → Bool
 is_nak_state s = elim s [ state.Nak ↦ true | _ ↦ false ]
 
--- octets are those of a Nak, or of an Expanded Nak, by their Types (RFC 3748 sections 5.3.1 and 5.3.2)
+-- octets are those of a Nak, or of an Expanded Nak, by their Types (RFC 3748 sections 5.3.1 and
+-- 5.3.2)
 abbrev pub is_nak : List ℕ → Bool
-is_nak octets = (type_of octets == nak_kind) || ((type_of octets == expanded_kind) && (slice_index octets 11 == nak_kind))
+is_nak octets = (type_of octets
+    == nak_kind) || ((type_of octets == expanded_kind) && (slice_index octets 11 == nak_kind))
 
--- the Type that octets ask for, if they begin with a Request, as an end reads them that reads Expanded Types, or as one that doesn't
+-- the Type that octets ask for, if they begin with a Request, as an end reads them that reads
+-- Expanded Types, or as one that doesn't
 abbrev pub asked_kind : Bool → Result PacketValue Cause → Option ℕ
-asked_kind expanded (Ok (request id kind body)) = Some (if expanded && is_wrapped kind body then inner_kind body else kind)
+asked_kind expanded (Ok (request id kind body)) =
+    Some (if expanded && is_wrapped kind body then inner_kind body else kind)
 asked_kind expanded packet = None
 
 abbrev pub asks_for : Bool → List ℕ → Option ℕ
@@ -45,8 +51,10 @@ pub record IsRefused (setup : PeerSetup) (octets : List ℕ) : Type 0 where
 
 -- each Nak that the peer sends anew answers such a Request
 abbrev pub NaksRefuse : Type 0
-NaksRefuse = (setup : Setup) (events : List Event) (e : Event) (packet : Sent) → (let w = run_of setup events in
-    Sends w (world_step w e) party.Peer packet → list_any is_again (world_step w e).told.path ≡ false → is_nak packet.octets ≡ true
+NaksRefuse = (setup : Setup) (events : List Event) (e : Event) (packet : Sent)
+    → (let w = run_of setup events in
+    Sends w (world_step w e) party.Peer packet → list_any is_again (world_step w e).told.path
+    ≡ false → is_nak packet.octets ≡ true
     → IsRefused setup.peer (delivered_in w.sent e))
 
 -- in this event the server takes a Nak that is delivered to it
@@ -55,7 +63,8 @@ pub record TakesNak (w : WorldNow) (e : Event) : Type 0 where
   pub is_taken : list_any is_nak_state (world_step w e).told.path ≡ true
   pub nak : is_nak (delivered_in w.sent e) ≡ true
 
--- the server's current method is one that the peer allows, and not the first such one of the server's order
+-- the server's current method is one that the peer allows, and not the first such one of the
+-- server's order
 pub record IsPassedOver (setup : Setup) (w : WorldNow) : Type 0 where
   pub first : ℕ
   pub is_first : find (is_among setup.peer.methods) setup.server.methods ≡ Some first
@@ -64,18 +73,24 @@ pub record IsPassedOver (setup : Setup) (w : WorldNow) : Type 0 where
   pub apart : other ≡ first → ⊥
   pub current : w.parties.server.vars.current ≡ Some other
 
--- in an event of a run the server took a Nak, in the conversation in which it still is; and wherever the peer sends the same octets,
--- anew, it answers a Request of a Type that it doesn't allow
+-- in an event of a run the server took a Nak, in the conversation in which it still is; and
+-- wherever the peer sends the same octets, anew, it answers a Request of a Type that it doesn't
+-- allow
 pub record WasRefused (setup : Setup) (events : List Event) : Type 0 where
   pub before : List Event
   pub taken : Event
   pub after : List Event
   pub parts : events ≡ before ++ taken ∷ after
   pub takes : TakesNak (run_of setup before) taken
-  pub present : initiated_by end.Server (run_of setup events).conversations.begun ≡ initiated_by end.Server (run_of setup before).conversations.begun
-  pub no_answer : (earlier : List Event) (e : Event) (packet : Sent) → (let w = run_of setup earlier in
-      Sends w (world_step w e) party.Peer packet → list_any is_again (world_step w e).told.path ≡ false
-      → packet.octets ≡ delivered_in (run_of setup before).sent taken → IsRefused setup.peer (delivered_in w.sent e))
+  pub present : initiated_by end.Server (run_of setup events).conversations.begun
+      ≡ initiated_by end.Server (run_of setup before).conversations.begun
+  pub no_answer : (earlier : List Event) (e : Event) (packet : Sent)
+      → (let w = run_of setup earlier in
+      Sends w (world_step w e) party.Peer packet
+      → list_any is_again (world_step w e).told.path ≡ false
+      → packet.octets ≡ delivered_in (run_of setup before).sent taken
+      → IsRefused setup.peer (delivered_in w.sent e))
 
 abbrev pub DowngradesNeedNaks : Type 0
-DowngradesNeedNaks = (setup : Setup) (events : List Event) → IsWhole setup → IsPassedOver setup (run_of setup events) → WasRefused setup events
+DowngradesNeedNaks = (setup : Setup) (events : List Event) → IsWhole setup
+    → IsPassedOver setup (run_of setup events) → WasRefused setup events

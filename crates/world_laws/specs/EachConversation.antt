@@ -1,5 +1,6 @@
 -- The conversations of each end in a run, in their order, each as far as it went.
-use Rattle.std.specs.Prelude.{ℕ, List, [], ◌∷◌, ◌++◌, Bool, nat_lt, length, drop, if◌then◌else◌, Option, Some}
+use Rattle.std.specs.Prelude.{ℕ, List, [], ◌∷◌, ◌++◌, Bool, nat_lt, length, drop, if◌then◌else◌}
+use Rattle.std.specs.Prelude.{Option, Some}
 use Rattle.login_setup.specs.declared.event.Event.{Event}
 use Rattle.login_setup.specs.declared.setup.Setup.{Setup}
 use Rattle.eap_method.specs.declared.tags.TagRecord.{TagRecord}
@@ -16,8 +17,8 @@ use Rattle.tag_book.specs.declared.book.Use.TheVariants.{Accepted, Made}
 use Rattle.eap_world.specs.declared.conversations.ConversationStart.{ConversationStart}
 use Rattle.world_laws.specs.Runs.{initial_world}
 
--- a conversation of an end: the end's state in it, or when it began the next one, and the tags that it accepted and
--- made in it, in their order
+-- a conversation of an end: the end's state in it, or when it began the next one, and the tags that
+-- it accepted and made in it, in their order
 pub record Conversation (N : Type 0) : Type 0 where
   pub now : N
   pub accepted : List TagRecord
@@ -31,18 +32,25 @@ OfServer = Conversation ServerNow
 
 -- whether an end has begun another conversation from the one moment to the other
 abbrev pub starts_another : End → WorldNow → WorldNow → Bool
-starts_another of before after = nat_lt (initiated_by of before.conversations.begun) (initiated_by of after.conversations.begun)
+starts_another of before after =
+    nat_lt (initiated_by of before.conversations.begun) (initiated_by of after.conversations.begun)
 
 -- the present conversation of an end, which began when the book had so many entries
 abbrev pub present_one : {N : Type 0} → (WorldNow → N) → End → WorldNow → ℕ → Conversation N
 present_one at of w from =
-    let entries = drop from w.book in record { now = at w; accepted = tags_by of Accepted entries; made = tags_by of Made entries }
+    let entries = drop from w.book in record {
+      now = at w;
+      accepted = tags_by of Accepted entries;
+      made = tags_by of Made entries;
+    }
 
 -- its conversations from the present one on, if the world comes to these moments
-unfoldable pub conversations_along : {N : Type 0} → (WorldNow → N) → End → WorldNow → ℕ → List WorldNow → List (Conversation N)
+unfoldable pub conversations_along : {N : Type 0} → (WorldNow → N) → End → WorldNow → ℕ
+    → List WorldNow → List (Conversation N)
 conversations_along at of w from [] = present_one at of w from ∷ []
 conversations_along at of w from (next ∷ rest) =
-    if starts_another of w next then present_one at of w from ∷ conversations_along at of next (length w.book) rest
+    if starts_another of w next
+    then present_one at of w from ∷ conversations_along at of next (length w.book) rest
     else conversations_along at of next from rest
 
 -- the moments of a run: the world after each of these events
@@ -65,10 +73,12 @@ server_along w later = conversations_along server_at end.Server w 0 later
 
 -- in the run of these events
 abbrev pub peer_conversations : Setup → List Event → List OfPeer
-peer_conversations setup events = let begun = (world_start (initial_world setup)).after in peer_along begun (moments begun events)
+peer_conversations setup events =
+    let begun = (world_start (initial_world setup)).after in peer_along begun (moments begun events)
 
 abbrev pub server_conversations : Setup → List Event → List OfServer
-server_conversations setup events = let begun = (world_start (initial_world setup)).after in server_along begun (moments begun events)
+server_conversations setup events = let begun = (world_start (initial_world setup)).after in
+    server_along begun (moments begun events)
 
 -- the nonce of a conversation, and the first octets of the other end's that it has
 abbrev pub peer_nonce : OfPeer → List ℕ
@@ -111,4 +121,5 @@ last_now o (k ∷ rest) = last_now (Some k.now) rest
 -- the nonces with which an end has begun conversations
 unfoldable pub nonces_of : End → List ConversationStart → List (List ℕ)
 nonces_of of [] = []
-nonces_of of (b ∷ rest) = if same_end b.end of then b.nonce ∷ nonces_of of rest else nonces_of of rest
+nonces_of of (b ∷ rest) =
+    if same_end b.end of then b.nonce ∷ nonces_of of rest else nonces_of of rest

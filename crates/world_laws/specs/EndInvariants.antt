@@ -1,5 +1,5 @@
--- What holds of both ends in every run: their views determine the tags that they have accepted and made in their
--- present conversations.
+-- What holds of both ends in every run: their views determine the tags that they have accepted and
+-- made in their present conversations.
 use Rattle.std.specs.Prelude.{List}
 use Rattle.login_setup.specs.declared.event.Event.{Event}
 use Rattle.login_setup.specs.declared.setup.Setup.{Setup}
@@ -23,9 +23,11 @@ present_tags end how w = tags_by end how (since (since_of end w.conversations.be
 
 -- this holds of both ends, each with the nonce of its present conversation and with the tags of it
 pub record BothInvariants (setup : Setup) (w : WorldNow) : Type 0 where
-  pub peer_invariant : PeerInvariant (peers.setup_with_nonce setup.peer w.parties.peer.vars.setup.nonce) w.parties.peer
+  pub peer_invariant : PeerInvariant
+      (peers.setup_with_nonce setup.peer w.parties.peer.vars.setup.nonce) w.parties.peer
       (present_tags end.Peer Accepted w) (present_tags end.Peer Made w)
-  pub server_invariant : ServerInvariant (servers.setup_with_nonce setup.server w.parties.server.vars.setup.nonce) w.parties.server
+  pub server_invariant : ServerInvariant
+      (servers.setup_with_nonce setup.server w.parties.server.vars.setup.nonce) w.parties.server
       (present_tags end.Server Accepted w) (present_tags end.Server Made w)
 
 -- in every run, of any setup, over any events

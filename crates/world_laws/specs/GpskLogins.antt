@@ -1,4 +1,5 @@
--- What the laws say of EAP-GPSK alone: of the whole nonces, each name, and the suite. Of another method each says nothing.
+-- What the laws say of EAP-GPSK alone: of the whole nonces, each name, and the suite. Of another
+-- method each says nothing.
 use Rattle.std.specs.Prelude.{◌≡◌, ℕ, List, Option, Some}
 use Rattle.login_setup.specs.declared.setup.Setup.{Setup}
 use Rattle.octet_lists.specs.declared.suite.Suite.{Suite}
@@ -15,12 +16,14 @@ use Rattle.world_laws.specs.GpskServerInvariant.{gpsk_whole_rand_p_in}
 use Rattle.eap_method.specs.BothPeers.{gpsk_in}
 
 -- the peer, with these views and this nonce, and the server have the whole of each other's nonces
-pub record HaveWhole (peer_views : PeerViews) (peer_nonce : List ℕ) (server_views : ServerViews) (server_nonce : List ℕ) : Type 0 where
+pub record HaveWhole (peer_views : PeerViews) (peer_nonce : List ℕ) (server_views : ServerViews)
+    (server_nonce : List ℕ) : Type 0 where
   pub rand_s : gpsk_whole_rand_s (gpsk_in peer_views) ≡ Some server_nonce
   pub rand_p : gpsk_whole_rand_p_in (gpsk_at server_views) ≡ Some peer_nonce
 
 abbrev pub HaveAllOctets : Option ℕ → PeerViews → List ℕ → ServerViews → List ℕ → Type 0
-HaveAllOctets kind peer_views peer_nonce server_views server_nonce = kind ≡ Some gpsk_kind → HaveWhole peer_views peer_nonce server_views server_nonce
+HaveAllOctets kind peer_views peer_nonce server_views server_nonce =
+    kind ≡ Some gpsk_kind → HaveWhole peer_views peer_nonce server_views server_nonce
 
 -- two logins are the same, each name by itself
 abbrev pub HaveSameNames : Report → Report → Type 0

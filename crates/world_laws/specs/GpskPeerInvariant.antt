@@ -1,4 +1,5 @@
--- What a view of EAP-GPSK at the peer has and tells: RAND_Server, the report that its login leads to, and its tags.
+-- What a view of EAP-GPSK at the peer has and tells: RAND_Server, the report that its login leads
+-- to, and its tags.
 use Rattle.std.specs.Prelude.{◌≡◌, ℕ, List, [], ◌∷◌, length, true, false, Option, None, Some}
 use Rattle.login_setup.specs.declared.setup.PeerSetup.{PeerSetup}
 use Rattle.octet_lists.specs.Among.{gpsk_kind, is_among}
@@ -34,8 +35,9 @@ gpsk_peer_login (gpsk.fresh cred nonce) = None
 gpsk_peer_login (gpsk.wait login) = Some (gpsk.report_of login)
 gpsk_peer_login (gpsk.over login good) = Some (gpsk.report_of login)
 
--- a login by EAP-GPSK that the peer has begun: what it keeps is its setup's, but for the server's name, which the setup
--- accepts, the suite, which it picks of a list, and RAND_Server, which has 32 octets
+-- a login by EAP-GPSK that the peer has begun: what it keeps is its setup's, but for the server's
+-- name, which the setup accepts, the suite, which it picks of a list, and RAND_Server, which has 32
+-- octets
 pub record GpskStarted (setup : PeerSetup) (login : gpsk.Login) (list : List ℕ) : Type 0 where
   pub allowed : is_among setup.methods gpsk_kind ≡ true
   pub cred : login.cred ≡ credential_for setup gpsk_kind
@@ -50,10 +52,13 @@ gpsk2_record login list = sk_record login.cred.psk (gpsk.gpsk2_of login list)
 
 -- the GPSK-3 that it accepts
 abbrev pub gpsk3_of_login : gpsk.Login → List ℕ → Message
-gpsk3_of_login login pd = message_with_mac login.suite (gpsk.keys_of login).sk (gpsk3 login.nonce login.rand_s login.id_s login.suite pd [])
+gpsk3_of_login login pd = message_with_mac login.suite (gpsk.keys_of login).sk
+    (gpsk3 login.nonce login.rand_s login.id_s login.suite pd [])
 
--- which tags a view of EAP-GPSK determines; a login that has failed had a GPSK-Fail or a GPSK-Protected-Fail
-pub data GpskPeerTags (setup : PeerSetup) : gpsk.View → List TagRecord → List TagRecord → Type 0 where
+-- which tags a view of EAP-GPSK determines; a login that has failed had a GPSK-Fail or a
+-- GPSK-Protected-Fail
+pub data GpskPeerTags (setup : PeerSetup) : gpsk.View → List TagRecord → List TagRecord
+    → Type 0 where
   gpsk_unset : GpskPeerTags setup gpsk.unset [] []
   gpsk_fresh : (allowed : is_among setup.methods gpsk_kind ≡ true)
       → GpskPeerTags setup (gpsk.fresh (credential_for setup gpsk_kind) setup.nonce) [] []
@@ -62,12 +67,15 @@ pub data GpskPeerTags (setup : PeerSetup) : gpsk.View → List TagRecord → Lis
       → GpskPeerTags setup (gpsk.wait login) [] (gpsk2_record login list ∷ [])
   -- GPSK-3 is accepted, and answered by GPSK-4
   gpsk_confirmed : (login : gpsk.Login) (list pd : List ℕ) (facts : GpskStarted setup login list)
-      → GpskPeerTags setup (gpsk.over login true) (sk_record login.cred.psk (gpsk3_of_login login pd) ∷ [])
+      → GpskPeerTags setup (gpsk.over login true)
+      (sk_record login.cred.psk (gpsk3_of_login login pd) ∷ [])
       (gpsk2_record login list ∷ sk_record login.cred.psk (gpsk.gpsk4_of login) ∷ [])
   -- GPSK-Fail has no tag
   gpsk_failed : (login : gpsk.Login) (list : List ℕ) (facts : GpskStarted setup login list)
       → GpskPeerTags setup (gpsk.over login false) [] (gpsk2_record login list ∷ [])
   -- GPSK-Protected-Fail is accepted, and answered by the same
-  gpsk_barred : (login : gpsk.Login) (list : List ℕ) (code : ℕ) (facts : GpskStarted setup login list)
-      → GpskPeerTags setup (gpsk.over login false) (sk_record login.cred.psk (gpsk.protected_fail_of login code) ∷ [])
+  gpsk_barred : (login : gpsk.Login) (list : List ℕ) (code : ℕ)
+      (facts : GpskStarted setup login list)
+      → GpskPeerTags setup (gpsk.over login false)
+      (sk_record login.cred.psk (gpsk.protected_fail_of login code) ∷ [])
       (gpsk2_record login list ∷ sk_record login.cred.psk (gpsk.protected_fail_of login code) ∷ [])

@@ -1,4 +1,5 @@
--- What a view of EAP-GPSK at the server has and tells: RAND_Peer, the report that its login leads to, and its tags.
+-- What a view of EAP-GPSK at the server has and tells: RAND_Peer, the report that its login leads
+-- to, and its tags.
 use Rattle.std.specs.Prelude.{◌≡◌, ℕ, List, [], ◌∷◌, length, Bool, true, false, Option, None, Some}
 use Rattle.login_setup.specs.Setup.{ServerSetup}
 use Rattle.login_setup.specs.declared.users.User.{User}
@@ -51,13 +52,14 @@ gpsk_server_login (Some (gpsk.over login good)) = Some (gpsk.report_of login)
 abbrev pub gpsk2_of_login : gpsk.Login → List ℕ → Message
 gpsk2_of_login login pd =
     message_with_mac login.suite (gpsk.keys_of login).sk
-    (gpsk2 login.id_p login.own.id_s login.rand_p login.nonce (suite_list login.own.suites) login.suite pd [])
+    (gpsk2 login.id_p login.own.id_s login.rand_p login.nonce (suite_list login.own.suites)
+    login.suite pd [])
 
 abbrev pub gpsk4_of_login : gpsk.Login → List ℕ → Message
 gpsk4_of_login login pd = message_with_mac login.suite (gpsk.keys_of login).sk (gpsk4 pd [])
 
--- a login by EAP-GPSK of a user of the setup, barred or not: what the server keeps is its setup's, but for RAND_Peer,
--- which has 32 octets
+-- a login by EAP-GPSK of a user of the setup, barred or not: what the server keeps is its setup's,
+-- but for RAND_Peer, which has 32 octets
 pub record GpskChecked (setup : ServerSetup) (login : gpsk.Login) (barred : Bool) : Type 0 where
   pub ordered : is_among setup.methods gpsk_kind ≡ true
   pub own : login.own ≡ side_of setup
@@ -70,24 +72,31 @@ pub record GpskChecked (setup : ServerSetup) (login : gpsk.Login) (barred : Bool
   pub size : length login.rand_p ≡ 32
 
 -- which tags a view of EAP-GPSK determines
-pub data GpskServerTags (setup : ServerSetup) : gpsk.View → List TagRecord → List TagRecord → Type 0 where
-  gpsk_asked : (ordered : is_among setup.methods gpsk_kind ≡ true) → GpskServerTags setup (gpsk.asked (side_of setup) setup.nonce) [] []
+pub data GpskServerTags (setup : ServerSetup) : gpsk.View → List TagRecord → List TagRecord
+    → Type 0 where
+  gpsk_asked : (ordered : is_among setup.methods gpsk_kind ≡ true)
+      → GpskServerTags setup (gpsk.asked (side_of setup) setup.nonce) [] []
   -- the user is unknown: GPSK-Fail, both ways, has no tag
   gpsk_refusing : GpskServerTags setup (gpsk.refusing (side_of setup) setup.nonce) [] []
   gpsk_refused : GpskServerTags setup (gpsk.refused (side_of setup) setup.nonce) [] []
   -- GPSK-2 of a barred user is accepted, and answered by GPSK-Protected-Fail
   gpsk_barring : (login : gpsk.Login) (pd : List ℕ) (facts : GpskChecked setup login true)
-      → GpskServerTags setup (gpsk.barring login) (sk_record login.psk (gpsk2_of_login login pd) ∷ []) (sk_record login.psk (gpsk.bars_with login) ∷ [])
+      → GpskServerTags setup (gpsk.barring login) (sk_record login.psk (gpsk2_of_login login pd)
+      ∷ []) (sk_record login.psk (gpsk.bars_with login) ∷ [])
   -- GPSK-2 of any other user is accepted, and answered by GPSK-3
   gpsk_checked : (login : gpsk.Login) (pd : List ℕ) (facts : GpskChecked setup login false)
-      → GpskServerTags setup (gpsk.checked login) (sk_record login.psk (gpsk2_of_login login pd) ∷ []) (sk_record login.psk (gpsk.gpsk3_of login) ∷ [])
+      → GpskServerTags setup (gpsk.checked login) (sk_record login.psk (gpsk2_of_login login pd)
+      ∷ []) (sk_record login.psk (gpsk.gpsk3_of login) ∷ [])
   -- the same GPSK-Protected-Fail comes back and is accepted too
   gpsk_barred : (login : gpsk.Login) (pd : List ℕ) (facts : GpskChecked setup login true)
       → GpskServerTags setup (gpsk.over login false)
-      (sk_record login.psk (gpsk2_of_login login pd) ∷ sk_record login.psk (gpsk.bars_with login) ∷ [])
+      (sk_record login.psk (gpsk2_of_login login pd)
+      ∷ sk_record login.psk (gpsk.bars_with login) ∷ [])
       (sk_record login.psk (gpsk.bars_with login) ∷ [])
   -- GPSK-4 is accepted too
-  gpsk_confirmed : (login : gpsk.Login) (pd last_pd : List ℕ) (facts : GpskChecked setup login false)
+  gpsk_confirmed : (login : gpsk.Login) (pd last_pd : List ℕ)
+      (facts : GpskChecked setup login false)
       → GpskServerTags setup (gpsk.over login true)
-      (sk_record login.psk (gpsk2_of_login login pd) ∷ sk_record login.psk (gpsk4_of_login login last_pd) ∷ [])
+      (sk_record login.psk (gpsk2_of_login login pd)
+      ∷ sk_record login.psk (gpsk4_of_login login last_pd) ∷ [])
       (sk_record login.psk (gpsk.gpsk3_of login) ∷ [])

@@ -4,15 +4,16 @@ use Rattle.login_setup.specs.declared.event.Event.{Event}
 use Rattle.login_setup.specs.declared.setup.Party.{Party}
 use Rattle.login_setup.specs.declared.setup.Setup.{Setup}
 use Rattle.eap_world.specs.declared.world.HasReported.{HasReported}
-use Rattle.eap_world.specs.World.{WorldNow, WorldOutcome, Parties, has_reported, report_of, world_start, world_step, run_after}
+use Rattle.eap_world.specs.World.{WorldNow, WorldOutcome, Parties, has_reported, report_of}
+use Rattle.eap_world.specs.World.{world_start, world_step, run_after}
 use Rattle.world_laws.specs.Runs.{initial_world}
 
 -- a report that an end has was reported
 pub record HasTracedReports (held : HasReported) (parties : Parties) : Type 0 where
   pub each : (party : Party) → IsSome (report_of parties party) → has_reported held party ≡ true
 
--- no variable and no view of a method changed at either end, nothing was sent, and nothing was written
--- into the book; if each report that an end has was reported, none is reported now
+-- no variable and no view of a method changed at either end, nothing was sent, and nothing was
+-- written into the book; if each report that an end has was reported, none is reported now
 pub record PreservesBothEnds (before after : WorldNow) : Type 0 where
   pub parties : after.parties ≡ before.parties
   pub sent : after.sent ≡ before.sent
@@ -21,10 +22,12 @@ pub record PreservesBothEnds (before after : WorldNow) : Type 0 where
 
 -- an event that is discarded changes nothing but the counts
 abbrev pub DiscardsChangeNothing : Type 0
-DiscardsChangeNothing = (w : WorldNow) (e : Event) → IsSome (world_step w e).told.cause → PreservesBothEnds w (world_step w e).after
+DiscardsChangeNothing = (w : WorldNow) (e : Event) → IsSome (world_step w e).told.cause
+    → PreservesBothEnds w (world_step w e).after
 
--- nothing but the number of events changed: no party, nothing sent, nothing in the book, no report seen, no other
--- count, no conversation; and the result says that no party acted, entered a state, sent a packet or showed a report
+-- nothing but the number of events changed: no party, nothing sent, nothing in the book, no report
+-- seen, no other count, no conversation; and the result says that no party acted, entered a state,
+-- sent a packet or showed a report
 pub record CountsAlone (before : WorldNow) (out : WorldOutcome) : Type 0 where
   pub parties : out.after.parties ≡ before.parties
   pub sent : out.after.sent ≡ before.sent
@@ -41,9 +44,11 @@ pub record CountsAlone (before : WorldNow) (out : WorldOutcome) : Type 0 where
 
 -- an event that is skipped changes nothing but the number of events
 abbrev pub SkipsChangeNothing : Type 0
-SkipsChangeNothing = (w : WorldNow) (e : Event) → IsSome (world_step w e).told.skip → CountsAlone w (world_step w e)
+SkipsChangeNothing =
+    (w : WorldNow) (e : Event) → IsSome (world_step w e).told.skip → CountsAlone w (world_step w e)
 
 -- in every run each report that an end has was reported
 abbrev pub ReportsAreTraced : Type 0
 ReportsAreTraced =
-    (setup : Setup) (events : List Event) → (let last = run_after (world_start (initial_world setup)).after events in HasTracedReports last.held last.parties)
+    (setup : Setup) (events : List Event) → (let last = run_after
+    (world_start (initial_world setup)).after events in HasTracedReports last.held last.parties)

@@ -1,4 +1,5 @@
--- By EAP-PSK no two conversations of the peer have one MSK or one EMSK, if nonces are fresh (RFC 4764 section 3.2).
+-- By EAP-PSK no two conversations of the peer have one MSK or one EMSK, if nonces are fresh (RFC
+-- 4764 section 3.2).
 use Rattle.std.specs.Prelude.{◌≡◌, List, true, Some}
 use Rattle.login_setup.specs.declared.event.Event.{Event}
 use Rattle.login_setup.specs.declared.setup.Setup.{Setup}
@@ -24,6 +25,7 @@ pub record HaveOwnKeys (one other : SessionOf) : Type 0 where
 
 abbrev pub KeysAreNew : Type 0
 KeysAreNew =
-    (setup : Setup) (events : List Event) → IsWhole setup → IsBlock (key_for setup.peer psk_kind) → (run_of setup events).conversations.fresh ≡ true
+    (setup : Setup) (events : List Event) → IsWhole setup → IsBlock (key_for setup.peer psk_kind)
+    → (run_of setup events).conversations.fresh ≡ true
     → (p q : OfPeer) → AreTwoOf p q (peer_conversations setup events)
     → (one other : SessionOf) → HasByPsk p one → HasByPsk q other → HaveOwnKeys one other

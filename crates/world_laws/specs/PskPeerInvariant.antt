@@ -1,5 +1,7 @@
--- What a view of EAP-PSK at the peer has and tells: RAND_S, the report that its login leads to, and its tags.
-use Rattle.std.specs.Prelude.{◌≡◌, ℕ, List, [], ◌∷◌, length, Bool, true, if◌then◌else◌, Option, None, Some}
+-- What a view of EAP-PSK at the peer has and tells: RAND_S, the report that its login leads to, and
+-- its tags.
+use Rattle.std.specs.Prelude.{◌≡◌, ℕ, List, [], ◌∷◌, length, Bool, true, if◌then◌else◌, Option}
+use Rattle.std.specs.Prelude.{None, Some}
 use Rattle.login_setup.specs.declared.setup.PeerSetup.{PeerSetup}
 use Rattle.octet_lists.specs.Among.{psk_kind, is_among}
 use Rattle.login_setup.specs.Setup.{accepts_name}
@@ -24,8 +26,8 @@ psk_peer_login (psk.fresh cred nonce) = None
 psk_peer_login (psk.wait login) = Some (psk.report_of login)
 psk_peer_login (psk.over login good) = Some (psk.report_of login)
 
--- a login by EAP-PSK that the peer has begun: what it keeps is its setup's, but for the server's name, which the setup
--- accepts, and RAND_S, which has 16 octets
+-- a login by EAP-PSK that the peer has begun: what it keeps is its setup's, but for the server's
+-- name, which the setup accepts, and RAND_S, which has 16 octets
 pub record PskStarted (setup : PeerSetup) (login : psk.Login) : Type 0 where
   pub allowed : is_among setup.methods psk_kind ≡ true
   pub cred : login.cred ≡ credential_for setup psk_kind
@@ -40,7 +42,8 @@ psk2_record login = ak_record login.cred.psk (psk.mac_p_covers login) (psk.mac_p
 -- the records of a PSK-3 whose tags are right
 abbrev pub psk3_records_of : psk.Login → List ℕ → ℕ → List TagRecord
 psk3_records_of login header sealed =
-    psk.psk3_records login header (psk.mac_s_of login) (eax_tag (psk.keys_of login).tek (channel_nonce 0) header (sealed ∷ [])) sealed
+    psk.psk3_records login header (psk.mac_s_of login)
+    (eax_tag (psk.keys_of login).tek (channel_nonce 0) header (sealed ∷ [])) sealed
 
 -- R that answers a PSK-3 in PSK-4
 abbrev pub result_for : Bool → ℕ
@@ -52,8 +55,10 @@ pub data PskPeerTags (setup : PeerSetup) : psk.View → List TagRecord → List 
   psk_fresh : (allowed : is_among setup.methods psk_kind ≡ true)
       → PskPeerTags setup (psk.fresh (credential_for setup psk_kind) setup.nonce) [] []
   -- PSK-2 is sent
-  psk_waits : (login : psk.Login) (facts : PskStarted setup login) → PskPeerTags setup (psk.wait login) [] (psk2_record login ∷ [])
+  psk_waits : (login : psk.Login) (facts : PskStarted setup login)
+      → PskPeerTags setup (psk.wait login) [] (psk2_record login ∷ [])
   -- PSK-3 is accepted, and answered by PSK-4 with the same result
-  psk_over : (login : psk.Login) (good : Bool) (header : List ℕ) (sealed id : ℕ) (facts : PskStarted setup login)
+  psk_over : (login : psk.Login) (good : Bool) (header : List ℕ) (sealed id : ℕ)
+      (facts : PskStarted setup login)
       → PskPeerTags setup (psk.over login good) (psk3_records_of login header sealed)
       (psk2_record login ∷ psk.psk4_record login id (result_for good))

@@ -1,5 +1,6 @@
 -- The tags of each end, selected from the book in their order.
-use Rattle.std.specs.Prelude.{◌≤◌, ◌⊎◌, ℕ, List, [], ◌∷◌, length, filter, Bool, true, false, ◌&&◌, nat_lt, if◌then◌else◌}
+use Rattle.std.specs.Prelude.{◌≤◌, ◌⊎◌, ℕ, List, [], ◌∷◌, length, filter, Bool, true, false, ◌&&◌}
+use Rattle.std.specs.Prelude.{nat_lt, if◌then◌else◌}
 use Rattle.eap_method.specs.declared.tags.TagRecord.{TagRecord}
 use Rattle.tag_book.specs.Book.{same_end}
 use Rattle.tag_book.specs.declared.book.End.{End}
@@ -16,7 +17,8 @@ same_use Made Made = true
 -- the tags that an end accepted, or made
 unfoldable pub tags_by : End → Use → List Entry → List TagRecord
 tags_by end how [] = []
-tags_by end how (e ∷ rest) = if same_end e.end end && same_use e.used how then e.tag ∷ tags_by end how rest else tags_by end how rest
+tags_by end how (e ∷ rest) = if same_end e.end end && same_use e.used how
+    then e.tag ∷ tags_by end how rest else tags_by end how rest
 
 -- the entries of events after this one
 abbrev pub is_after : ℕ → Entry → Bool

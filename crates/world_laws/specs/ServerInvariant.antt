@@ -1,5 +1,5 @@
--- What holds of the server at every moment of a run, with the tags that it has accepted and made: the view
--- of its current method determines them exactly, also if the login has failed.
+-- What holds of the server at every moment of a run, with the tags that it has accepted and made:
+-- the view of its current method determines them exactly, also if the login has failed.
 use Rattle.std.specs.Prelude.{◌≡◌, ℕ, List, true, false, None, option_map}
 use Rattle.login_setup.specs.Setup.{ServerSetup}
 use Rattle.eap_method.specs.BothServers.{both_of}
@@ -18,10 +18,12 @@ pub record IsUntouched (vars : ServerVariables) : Type 0 where
 
 -- at each Type stands an object of the method with which the server began
 pub record ServerHasBoth (methods : List ℕ) (views : ServerViews) : Type 0 where
-  pub same : (kind : ℕ) → option_map method_of (views kind) ≡ option_map method_of (both_of methods kind)
+  pub same : (kind : ℕ) → option_map method_of (views kind)
+      ≡ option_map method_of (both_of methods kind)
 
 -- what holds of a server with the tags that it has accepted and made
-pub record ServerInvariant (setup : ServerSetup) (now : ServerNow) (accepted made : List TagRecord) : Type 0 where
+pub record ServerInvariant (setup : ServerSetup) (now : ServerNow)
+    (accepted made : List TagRecord) : Type 0 where
   pub own : now.vars.setup ≡ setup
   pub both : ServerHasBoth setup.methods now.views
   pub tags : ServerTags setup now.vars.current now.views accepted made

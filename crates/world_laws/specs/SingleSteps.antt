@@ -1,6 +1,7 @@
--- Laws on single steps of a run. They are about octets, packets sent, the book, paths and states alone, and
--- no other variable, so that they check the tables of RFC 4137 from outside.
-use Rattle.std.specs.Prelude.{◌≡◌, ◌≤◌, ℕ, ◌+◌, ◌%◌, List, [], ◌∷◌, ◌++◌, length, take, Bool, true, false, Some, slice_index}
+-- Laws on single steps of a run. They are about octets, packets sent, the book, paths and states
+-- alone, and no other variable, so that they check the tables of RFC 4137 from outside.
+use Rattle.std.specs.Prelude.{◌≡◌, ◌≤◌, ℕ, ◌+◌, ◌%◌, List, [], ◌∷◌, ◌++◌, length, take, Bool, true}
+use Rattle.std.specs.Prelude.{false, Some, slice_index}
 use Rattle.std.specs.List.{list_any}
 use Rattle.login_setup.specs.declared.event.Event.{Event}
 use Rattle.login_setup.specs.declared.event.Event.TheVariants as event
@@ -20,7 +21,8 @@ use Rattle.tag_book.specs.declared.book.Use.TheVariants.{Accepted}
 use Rattle.eap_world.specs.Judgement.{is_success}
 use Rattle.world_laws.specs.EndInvariants.{present_tags}
 use Rattle.eap_world.specs.Sent.{Sent, last_to, packet_numbered}
-use Rattle.eap_world.specs.World.{Parties, WorldNow, WorldOutcome, alteration, octets_of, state_of, world_step}
+use Rattle.eap_world.specs.World.{Parties, WorldNow, WorldOutcome, alteration, octets_of, state_of}
+use Rattle.eap_world.specs.World.{world_step}
 use Rattle.world_laws.specs.Runs.{run_of}
 
 -- the Identifier (RFC 3748 section 4)
@@ -30,7 +32,8 @@ identifier_of octets = slice_index octets 1
 -- the octets that an event delivers to its party
 abbrev pub delivered_in : List Sent → Event → List ℕ
 delivered_in sent (event.Deliver n) = octets_of (packet_numbered sent n)
-delivered_in sent (event.Alter n place mask) = alteration (octets_of (packet_numbered sent n)) place mask
+delivered_in sent (event.Alter n place mask) =
+    alteration (octets_of (packet_numbered sent n)) place mask
 delivered_in sent (event.Cut n keep) = take keep (octets_of (packet_numbered sent n))
 delivered_in sent (event.Inject port octets) = octets
 delivered_in sent _ = []
@@ -82,19 +85,24 @@ end_state parties end.Server = parties.server.vars.state
 -- what holds of each step from a world of a run to the result of an event
 pub record IsLawful (w : WorldNow) (e : Event) (out : WorldOutcome) : Type 0 where
   -- what the peer sends is a Response with the Identifier of what was delivered to it
-  pub answers : (packet : Sent) → Sends w out party.Peer packet → AnswersIt (delivered_in w.sent e) packet.octets
+  pub answers : (packet : Sent) → Sends w out party.Peer packet
+      → AnswersIt (delivered_in w.sent e) packet.octets
   -- what is sent again is the last packet to the same port
-  pub repeats : (of : Party) (packet : Sent) → Sends w out of packet → list_any is_again out.told.path ≡ true
+  pub repeats : (of : Party) (packet : Sent) → Sends w out of packet
+      → list_any is_again out.told.path ≡ true
       → last_to packet.port w.sent ≡ Some packet.octets
   -- in mode alone a Request that the server sends in a delivery has the next Identifier
-  pub counts : w.parties.mode ≡ mode.Alone → is_delivery_of e ≡ true → (packet : Sent) → Sends w out party.Server packet
+  pub counts : w.parties.mode ≡ mode.Alone → is_delivery_of e ≡ true → (packet : Sent)
+      → Sends w out party.Server packet
       → code_of packet.octets ≡ 1 → CountsOn w.sent packet.octets
   -- a party that has ended sends nothing, unless it begins again
-  pub silent : is_restart e ≡ false → (of : Party) (s : State) → state_of w.parties of ≡ Some s → has_ended of s ≡ true → (packet : Sent) → Sends w out of packet → ⊥
+  pub silent : is_restart e ≡ false → (of : Party) (s : State) → state_of w.parties of ≡ Some s
+      → has_ended of s ≡ true → (packet : Sent) → Sends w out of packet → ⊥
   -- an end in SUCCESS has accepted a tag in its present conversation
   pub accepted : (of : End) → is_success (end_state out.after.parties of) ≡ true
       → 1 ≤ length (present_tags of Accepted out.after)
 
 -- each step of a run is lawful
 abbrev pub StepsAreLawful : Type 0
-StepsAreLawful = (setup : Setup) (events : List Event) (e : Event) → (let w = run_of setup events in IsLawful w e (world_step w e))
+StepsAreLawful = (setup : Setup) (events : List Event) (e : Event)
+    → (let w = run_of setup events in IsLawful w e (world_step w e))

@@ -1,4 +1,5 @@
--- What a conversation's view says of its nonces and tags, and which conversations can have made a tag.
+-- What a conversation's view says of its nonces and tags, and which conversations can have made a
+-- tag.
 use Rattle.std.specs.Prelude.{◌≡◌, ℕ, List, length, Option, Some}
 use Rattle.login_setup.specs.declared.setup.PeerSetup.{PeerSetup}
 use Rattle.login_setup.specs.Setup.{ServerSetup}
@@ -11,8 +12,10 @@ use Rattle.eap_world.specs.Conversations.{front}
 use Rattle.world_laws.specs.ByMethod.{peer_foreign, server_foreign, PeerTags, ServerTags}
 use Rattle.world_laws.specs.Records.{IsIn}
 
--- a conversation of the peer with this nonce, which has that nonce of the server, has accepted and made these tags
-pub record PeerTagOwner (setup : PeerSetup) (nonce : List ℕ) (held : Option (List ℕ)) (accepted made : List TagRecord) : Type 0 where
+-- a conversation of the peer with this nonce, which has that nonce of the server, has accepted and
+-- made these tags
+pub record PeerTagOwner (setup : PeerSetup) (nonce : List ℕ) (held : Option (List ℕ))
+    (accepted made : List TagRecord) : Type 0 where
   pub selected : Option ℕ
   pub views : PeerViews
   pub tags : PeerTags (peers.setup_with_nonce setup nonce) selected views accepted made
@@ -20,11 +23,15 @@ pub record PeerTagOwner (setup : PeerSetup) (nonce : List ℕ) (held : Option (L
 
 -- only a conversation with the one nonce, which has the other, can have made the tag
 pub record OnlyByPeer (t : TagRecord) (own foreign : List ℕ) : Type 0 where
-  pub tells : (setup : PeerSetup) (nonce : List ℕ) (held : Option (List ℕ)) (accepted made : List TagRecord) → length nonce ≡ 32
-      → PeerTagOwner setup nonce held accepted made → IsIn t made → (front nonce ≡ own) × (held ≡ Some foreign)
+  pub tells : (setup : PeerSetup) (nonce : List ℕ) (held : Option (List ℕ))
+      (accepted made : List TagRecord) → length nonce ≡ 32
+      → PeerTagOwner setup nonce held accepted made → IsIn t made → (front nonce ≡ own)
+      × (held ≡ Some foreign)
 
--- a conversation of the server with this nonce, which has that nonce of the peer, has accepted and made these tags
-pub record ServerTagOwner (setup : ServerSetup) (nonce : List ℕ) (held : Option (List ℕ)) (accepted made : List TagRecord) : Type 0 where
+-- a conversation of the server with this nonce, which has that nonce of the peer, has accepted and
+-- made these tags
+pub record ServerTagOwner (setup : ServerSetup) (nonce : List ℕ) (held : Option (List ℕ))
+    (accepted made : List TagRecord) : Type 0 where
   pub current : Option ℕ
   pub views : ServerViews
   pub tags : ServerTags (servers.setup_with_nonce setup nonce) current views accepted made
@@ -32,10 +39,12 @@ pub record ServerTagOwner (setup : ServerSetup) (nonce : List ℕ) (held : Optio
 
 -- only a conversation that has the nonce can have made the tag
 pub record OnlyByServer (t : TagRecord) (foreign : List ℕ) : Type 0 where
-  pub tells : (setup : ServerSetup) (nonce : List ℕ) (held : Option (List ℕ)) (accepted made : List TagRecord)
+  pub tells : (setup : ServerSetup) (nonce : List ℕ) (held : Option (List ℕ))
+      (accepted made : List TagRecord)
       → ServerTagOwner setup nonce held accepted made → IsIn t made → held ≡ Some foreign
 
 -- no conversation of the server can have made the tag
 pub record NotByServer (setup : ServerSetup) (t : TagRecord) : Type 0 where
-  pub none : (nonce : List ℕ) (held : Option (List ℕ)) (accepted made : List TagRecord) → length nonce ≡ 32
+  pub none : (nonce : List ℕ) (held : Option (List ℕ)) (accepted made : List TagRecord)
+      → length nonce ≡ 32
       → ServerTagOwner setup nonce held accepted made → IsIn t made → ⊥

@@ -1,5 +1,5 @@
--- Matching conversations of one user of the server, whatever its other users do: what is asked of tags is asked of those under the key
--- that the peer shares with the server, and of no other.
+-- Matching conversations of one user of the server, whatever its other users do: what is asked of
+-- tags is asked of those under the key that the peer shares with the server, and of no other.
 use Rattle.std.specs.Prelude.{◌≡◌, ℕ, List, true, Some}
 use Rattle.login_setup.specs.declared.setup.Setup.{Setup}
 use Rattle.login_setup.specs.declared.users.User.{User}
@@ -17,7 +17,8 @@ use Rattle.eap_world.specs.Judgement.{is_success}
 use Rattle.eap_world.specs.World.{WorldNow}
 use Rattle.world_laws.specs.Agreement.{IsWhole}
 use Rattle.world_laws.specs.ByMethod.{peer_login}
-use Rattle.world_laws.specs.EachConversation.{IsOneOf, OfPeer, OfServer, peer_conversations, server_conversations}
+use Rattle.world_laws.specs.EachConversation.{IsOneOf, OfPeer, OfServer, peer_conversations}
+use Rattle.world_laws.specs.EachConversation.{server_conversations}
 use Rattle.world_laws.specs.Matching.{PeerMatches, ReportsAgree, RestsOn, ServerMatches}
 use Rattle.world_laws.specs.Runs.{run_of}
 
@@ -29,30 +30,46 @@ pub record IsOfKey (setup : Setup) (key : List ℕ) (now : ServerNow) : Type 0 w
   pub known : user_of setup.server.users report.id_p report.method ≡ Some user
   pub is_key : user.psk ≡ key
 
--- what holds of the peer's conversations by a method, and of those of the server with a user of the same key
-pub record MatchUnder (setup : Setup) (kind : ℕ) (w : WorldNow) (peers : List OfPeer) (servers : List OfServer) : Type 0 where
-  pub peers_match : tags_verdict (under (key_for setup.peer kind) w.book) ≡ Honest → w.conversations.fresh ≡ true
-      → (p : OfPeer) → IsOneOf p peers → is_success p.now.vars.state ≡ true → p.now.vars.selected ≡ Some kind → PeerMatches peers servers p
-  pub servers_match : tags_verdict_either (under (key_for setup.peer kind) w.book) ≡ Honest → w.conversations.fresh ≡ true
-      → (s : OfServer) → IsOneOf s servers → is_success s.now.vars.state ≡ true → IsOfKey setup (key_for setup.peer kind) s.now → ServerMatches peers servers s
-  pub both_agree : tags_verdict (under (key_for setup.peer kind) w.book) ≡ Honest → w.conversations.fresh ≡ true
-      → (p : OfPeer) → IsOneOf p peers → is_success p.now.vars.state ≡ true → p.now.vars.selected ≡ Some kind
+-- what holds of the peer's conversations by a method, and of those of the server with a user of the
+-- same key
+pub record MatchUnder (setup : Setup) (kind : ℕ) (w : WorldNow) (peers : List OfPeer)
+    (servers : List OfServer) : Type 0 where
+  pub peers_match : tags_verdict (under (key_for setup.peer kind) w.book) ≡ Honest
+      → w.conversations.fresh ≡ true
+      → (p : OfPeer) → IsOneOf p peers → is_success p.now.vars.state ≡ true
+      → p.now.vars.selected ≡ Some kind → PeerMatches peers servers p
+  pub servers_match : tags_verdict_either (under (key_for setup.peer kind) w.book) ≡ Honest
+      → w.conversations.fresh ≡ true
+      → (s : OfServer) → IsOneOf s servers → is_success s.now.vars.state ≡ true
+      → IsOfKey setup (key_for setup.peer kind) s.now → ServerMatches peers servers s
+  pub both_agree : tags_verdict (under (key_for setup.peer kind) w.book) ≡ Honest
+      → w.conversations.fresh ≡ true
+      → (p : OfPeer) → IsOneOf p peers → is_success p.now.vars.state ≡ true
+      → p.now.vars.selected ≡ Some kind
       → (s : OfServer) → IsOneOf s servers → is_success s.now.vars.state ≡ true
       → RestsOn s.accepted p.made → RestsOn p.accepted s.made × ReportsAgree p s
-  -- the login of the one of the peer on which one of the server in SUCCESS rests leads to just what that reports
-  pub peers_agree : tags_verdict (under (key_for setup.peer kind) w.book) ≡ Honest → w.conversations.fresh ≡ true
-      → (s : OfServer) → IsOneOf s servers → is_success s.now.vars.state ≡ true → IsOfKey setup (key_for setup.peer kind) s.now
-      → (p : OfPeer) → IsOneOf p peers → RestsOn s.accepted p.made → peer_login p.now.vars.selected p.now.views ≡ server_reports s.now
-  -- by EAP-PSK that login has succeeded: it rests on this one of the server, and reports just what that does
+  -- the login of the one of the peer on which one of the server in SUCCESS rests leads to just what
+  -- that reports
+  pub peers_agree : tags_verdict (under (key_for setup.peer kind) w.book) ≡ Honest
+      → w.conversations.fresh ≡ true
+      → (s : OfServer) → IsOneOf s servers → is_success s.now.vars.state ≡ true
+      → IsOfKey setup (key_for setup.peer kind) s.now
+      → (p : OfPeer) → IsOneOf p peers → RestsOn s.accepted p.made
+      → peer_login p.now.vars.selected p.now.views ≡ server_reports s.now
+  -- by EAP-PSK that login has succeeded: it rests on this one of the server, and reports just what
+  -- that does
   pub psk_servers_confirm : tags_verdict (under (key_for setup.peer kind) w.book) ≡ Honest → w.conversations.fresh ≡ true
-      → (s : OfServer) → IsOneOf s servers → is_success s.now.vars.state ≡ true → IsOfKey setup (key_for setup.peer kind) s.now
-      → s.now.vars.current ≡ Some psk_kind → (p : OfPeer) → IsOneOf p peers → RestsOn s.accepted p.made
+      → (s : OfServer) → IsOneOf s servers → is_success s.now.vars.state ≡ true
+      → IsOfKey setup (key_for setup.peer kind) s.now
+      → s.now.vars.current ≡ Some psk_kind → (p : OfPeer) → IsOneOf p peers
+      → RestsOn s.accepted p.made
       → RestsOn p.accepted s.made × (peer_reports p.now ≡ server_reports s.now)
 
 abbrev pub ConversationsMatchUnder : Type 0
 ConversationsMatchUnder =
     (setup : Setup) (events : List Event) (kind : ℕ) → IsWhole setup
-    → MatchUnder setup kind (run_of setup events) (peer_conversations setup events) (server_conversations setup events)
+    → MatchUnder setup kind (run_of setup events) (peer_conversations setup events)
+    (server_conversations setup events)
 
 -- a book that is honest is honest under each key
 abbrev pub HonestUnder : Type 0

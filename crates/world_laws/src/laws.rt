@@ -1,14 +1,17 @@
 //! Laws of both ends over events. Each is the contract of a function that does nothing.
 
-ghost use Rattle.world_laws.specs.Agreement.{StartsOnce, HonestOfEither, HonestEndsAgree, HonestNamesAreTheirs, FewPackets, FewTags};
+ghost use Rattle.world_laws.specs.Agreement.{StartsOnce, HonestOfEither, HonestEndsAgree};
+ghost use Rattle.world_laws.specs.Agreement.{HonestNamesAreTheirs, FewPackets, FewTags};
 ghost use Rattle.world_laws.specs.Alone.{OneEndImplies};
 ghost use Rattle.world_laws.specs.Downgrade.{DowngradesNeedNaks, NaksRefuse};
 ghost use Rattle.world_laws.specs.EndInvariants.{EndInvariants};
 ghost use Rattle.world_laws.specs.Forgery.{AgreeOrForged, EachTagIsRight};
 ghost use Rattle.world_laws.specs.Fresh.{FreshnessIsExact};
-ghost use Rattle.world_laws.specs.Laws.{DiscardsChangeNothing, ReportsAreTraced, SkipsChangeNothing};
+ghost use Rattle.world_laws.specs.Laws.{DiscardsChangeNothing, ReportsAreTraced};
+ghost use Rattle.world_laws.specs.Laws.{SkipsChangeNothing};
 ghost use Rattle.world_laws.specs.Matching.{ConversationsAreAll, ConversationsMatch};
-ghost use Rattle.world_laws.specs.Passing.{PassCarries, PassIsAlone, PassIsDelivered, PassLearnsNothing};
+ghost use Rattle.world_laws.specs.Passing.{PassCarries, PassIsAlone, PassIsDelivered};
+ghost use Rattle.world_laws.specs.Passing.{PassLearnsNothing};
 ghost use Rattle.world_laws.specs.PresentUnderKey.{EndsAgreeUnder, OneEndImpliesUnder};
 ghost use Rattle.world_laws.specs.PskReflected.{ReflectedEndsAgree};
 ghost use Rattle.world_laws.specs.NewKeys.{KeysAreNew};

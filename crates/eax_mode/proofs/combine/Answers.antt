@@ -7,7 +7,9 @@ octets-init c = sym (combined_nil c.args.octets.now)
 
 pub octets-preserved : goal.octets-preserved
 octets-preserved c =
-    combined_more c.args.octets.now c.args.block.now c.octets.octets c.octets.i (omega arith) (omega arith) c.octets.invariant
+    combined_more c.args.octets.now c.args.block.now c.octets.octets c.octets.i (omega arith)
+    (omega arith) c.octets.invariant
 
 pub returns : goal.returns
-returns c = c.octets.invariant ∙ combined_all c.args.octets.now c.args.block.now c.octets.i (omega arith)
+returns c =
+    c.octets.invariant ∙ combined_all c.args.octets.now c.args.block.now c.octets.i (omega arith)

@@ -7,5 +7,6 @@ pub returns : goal.returns
 unfolding omac
 returns c =
     c.tag.ensures
-    ∙ ap (λ text. aes_cmac c.args.key.now (c.to_be_bytes.result ++ text)) (append-nil c.args.text.now)
+    ∙ ap (λ text. aes_cmac c.args.key.now (c.to_be_bytes.result ++ text))
+    (append-nil c.args.text.now)
     ∙ ap (λ block. aes_cmac c.args.key.now (block ++ c.args.text.now)) c.to_be_bytes.ensures

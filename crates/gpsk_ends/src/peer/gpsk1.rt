@@ -43,8 +43,10 @@ fn pick<'a>(side: &PeerSide, gpsk1: &Gpsk1<'a>) -> Result<Offer<'a>, Cause>
 #[inline(never)]
 pub fn fresh_reads<'a>(side: &PeerSide, body: &'a [u8]) -> Result<Offer<'a>, Cause>
     requires { length body.now ≤ max_type_data }
-    ensures reads { (nonce : List ℕ) (id : ℕ) → outcome_of_offer side.now.cred nonce id result ≡ fresh_reads side.now.cred nonce id (read_of None body.now) }
-    ensures accepted { IfOk result (λ offer. accepts_name side.now.cred.accepts offer.id_s.now ≡ true) }
+    ensures reads { (nonce : List ℕ) (id : ℕ) → outcome_of_offer side.now.cred nonce id result
+        ≡ fresh_reads side.now.cred nonce id (read_of None body.now) }
+    ensures accepted { IfOk result
+        (λ offer. accepts_name side.now.cred.accepts offer.id_s.now ≡ true) }
 {
     match receive(body, None) {
         Err(cause) => Err(cause),

@@ -59,7 +59,8 @@ pub(crate) fn keys_for(side: &PeerSide, nonce: &Nonce, offer: &Offer) -> GpskKey
 }
 
 impl Login<'_> {
-    ghost use Rattle.eap_method.specs.GpskPeer.{keys_of, gpsk2_of, gpsk4_of, protected_fail_of, is_tagged_by, repeats, report_of};
+    ghost use Rattle.eap_method.specs.GpskPeer.{keys_of, gpsk2_of, gpsk4_of, protected_fail_of};
+    ghost use Rattle.eap_method.specs.GpskPeer.{is_tagged_by, repeats, report_of};
     ghost use Rattle.gpsk_ends.specs.Nonces.{peer_nonces_of};
 
     /// CSuite_Sel.
@@ -106,8 +107,10 @@ impl Login<'_> {
     )
         requires bounded { size_of (message_of view.now) + 5 ≤ max_wrapped }
         requires mac { length (mac_of (message_of view.now)) ≡ ks_of self.now.suite }
-        ensures packet { packet.new ≡ packet_of code.Response id self.now.suite (keys_of self.now).sk (without_mac (message_of view.now)) }
-        ensures record { made.new ≡ record_of self.now.suite (keys_of self.now).sk self.now.cred.psk (without_mac (message_of view.now)) ∷ [] }
+        ensures packet { packet.new ≡ packet_of code.Response id self.now.suite (keys_of
+            self.now).sk (without_mac (message_of view.now)) }
+        ensures record { made.new ≡ record_of self.now.suite (keys_of
+            self.now).sk self.now.cred.psk (without_mac (message_of view.now)) ∷ [] }
         ensures capacity { HasCapacity packet.new }
     {
         let psk = self.side.psk();
@@ -160,7 +163,8 @@ impl Login<'_> {
         made: &mut TagList<R>,
     )
         ensures packet { packet.new ≡ gpsk_response id (protected_fail_of self.now code) }
-        ensures record { made.new ≡ sk_record self.now.cred.psk (protected_fail_of self.now code) ∷ [] }
+        ensures record { made.new
+            ≡ sk_record self.now.cred.psk (protected_fail_of self.now code) ∷ [] }
         ensures capacity { HasCapacity packet.new }
     {
         let open = GpskMessage::ProtectedFail {

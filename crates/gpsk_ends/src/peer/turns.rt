@@ -10,11 +10,13 @@ ghost use Rattle.gpsk_messages.specs.Message.{max_list, message_of};
 ghost use Rattle.gpsk_messages.specs.Reading.{read_of};
 ghost use Rattle.eap_method.specs.Turns.{fault_if, discarded};
 ghost use Rattle.eap_method.specs.GpskPeer.{answers, fresh_reads, over, over_reads, step};
-ghost use Rattle.eap_method.specs.GpskPeer.{confirms, repeats_fail, repeats_protected, is_tagged_by, wait_reads};
+ghost use Rattle.eap_method.specs.GpskPeer.{confirms, repeats_fail, repeats_protected};
+ghost use Rattle.eap_method.specs.GpskPeer.{is_tagged_by, wait_reads};
 ghost use Rattle.eap_method.specs.Capacity.{HasCapacity, replies};
 ghost use Rattle.login_keys.specs.GpskMacKey.{IsMacKey};
 ghost use Rattle.gpsk_ends.specs.Classified.{IsReceived};
-ghost use Rattle.gpsk_ends.specs.PeerStage.{view_in, view_of, outcome_with, keys_with, login_of, login_with, AreReady, IsReady};
+ghost use Rattle.gpsk_ends.specs.PeerStage.{view_in, view_of, outcome_with, keys_with, login_of};
+ghost use Rattle.gpsk_ends.specs.PeerStage.{login_with, AreReady, IsReady};
 ghost use Rattle.gpsk_ends.specs.declared.peer.stage.Phase.TheVariants.{Wait};
 ghost use Rattle.gpsk_ends.specs.declared.peer.stage.Progress.TheVariants.{Fresh};
 ghost use Rattle.eap_method.specs.declared.turn.PeerAnswer.TheVariants.{Reply};
@@ -43,7 +45,8 @@ fn answer<R: Records>(
     tags: &mut Tags<R>,
 ) -> PeerAnswer
     requires { length list.now ≤ max_list }
-    ensures turn { outcome_with result packet.new tags.new (view_in login.now Wait) ≡ answers login.now id list.now }
+    ensures turn { outcome_with result packet.new tags.new (view_in login.now Wait)
+        ≡ answers login.now id list.now }
     ensures capacity { HasCapacity packet.new }
 {
     tags.accepted.clear();
@@ -129,7 +132,8 @@ fn answer_first<R: Records>(
     requires size { length body.now ≤ max_type_data }
     requires fresh { progress.old ≡ Fresh }
     requires key { 32 ≤ length side.old.cred.psk }
-    ensures turn { outcome_with result packet.new tags.new (view_of side.new nonce.now progress.new) ≡ fresh_reads side.old.cred nonce.now id (read_of None body.now) }
+    ensures turn { outcome_with result packet.new tags.new (view_of side.new nonce.now progress.new)
+        ≡ fresh_reads side.old.cred nonce.now id (read_of None body.now) }
     ensures ready { IsReady side.new nonce.now progress.new }
     ensures capacity { replies result ≡ true → HasCapacity packet.new }
 {
@@ -157,7 +161,8 @@ fn confirm<R: Records>(
     requires received { IsReceived (message_of view.now) body.now }
     requires waits { phase.old ≡ Wait }
     ensures turn { outcome_with result packet.new tags.new (view_in login.now phase.new)
-        ≡ confirms login.now id (message_of view.now) (fault_if (not (is_tagged_by login.now (message_of view.now))) BadTag None) }
+        ≡ confirms login.now id (message_of view.now)
+        (fault_if (not (is_tagged_by login.now (message_of view.now))) BadTag None) }
     ensures capacity { replies result ≡ true → HasCapacity packet.new }
 {
     if !login.is_tagged(view, body) {
@@ -181,7 +186,8 @@ fn repeat_fail<R: Records>(
     packet: &mut Packet,
     tags: &mut Tags<R>,
 ) -> PeerAnswer
-    ensures turn { outcome_with result packet.new tags.new (view_in login.now phase.new) ≡ repeats_fail login.now id code }
+    ensures turn { outcome_with result packet.new tags.new (view_in login.now phase.new)
+        ≡ repeats_fail login.now id code }
     ensures capacity { HasCapacity packet.new }
 {
     write_gpsk_into(packet, &GpskMessage::Fail { code }, Code::Response, id);
@@ -209,7 +215,8 @@ fn repeat_protected<R: Records>(
     requires received { IsReceived (message_of view.now) body.now }
     requires waits { phase.old ≡ Wait }
     ensures turn { outcome_with result packet.new tags.new (view_in login.now phase.new)
-        ≡ repeats_protected login.now id code (message_of view.now) (fault_if (not (is_tagged_by login.now (message_of view.now))) BadTag None) }
+        ≡ repeats_protected login.now id code (message_of view.now)
+        (fault_if (not (is_tagged_by login.now (message_of view.now))) BadTag None) }
     ensures capacity { replies result ≡ true → HasCapacity packet.new }
 {
     if !login.is_tagged(view, body) {
@@ -263,7 +270,8 @@ fn wait_reads<R: Records>(
 /// Why a peer whose login is over discards the Type-Data: it accepts nothing.
 fn over_cause(login: &Login, good: bool, body: &[u8]) -> Cause
     requires { length body.now ≤ max_type_data }
-    ensures { discarded (over login.now good) result ≡ over_reads login.now good (read_of (Some (ks_of login.now.suite)) body.now) }
+    ensures { discarded (over login.now good) result
+        ≡ over_reads login.now good (read_of (Some (ks_of login.now.suite)) body.now) }
 {
     match receive(body, Some(login.suite())) {
         Err(cause) => cause,
@@ -287,7 +295,8 @@ fn known_reads<R: Records>(
     requires size { length request.now ≤ max_packet }
     requires ready { AreReady side.now nonce.now added.now.rand_s added.now.keys }
     ensures turn { let login = login_of side.now nonce.now added.now.rand_s added.now.keys in
-        outcome_with result packet.new tags.new (view_in login phase.new) ≡ step (view_in login phase.old) request.now }
+        outcome_with result packet.new tags.new (view_in login phase.new)
+        ≡ step (view_in login phase.old) request.now }
     ensures capacity { replies result ≡ true → HasCapacity packet.new }
 {
     let id = request[1];

@@ -1,6 +1,7 @@
 //! Checking and answering GPSK-2 (RFC 5433 section 10).
 
-ghost use Rattle.std.specs.Prelude.{◌≡◌, ◌≤◌, ℕ, List, length, true, All, IsTrue, IfSome, None, option_copied};
+ghost use Rattle.std.specs.Prelude.{◌≡◌, ◌≤◌, ℕ, List, length, true, All, IsTrue, IfSome, None};
+ghost use Rattle.std.specs.Prelude.{option_copied};
 ghost use Rattle.octet_lists.specs.Among.{gpsk_kind};
 ghost use Rattle.octet_lists.specs.Sizes.{max_name};
 ghost use Rattle.octet_lists.specs.Suite.{ks_of};
@@ -9,12 +10,14 @@ ghost use Rattle.login_setup.specs.Setup.{is_valid_for};
 ghost use Rattle.login_setup.specs.Users.{user_of};
 ghost use Rattle.gpsk_messages.specs.Message.{message_of};
 ghost use Rattle.gpsk_messages.specs.Reading.{read_of};
-ghost use Rattle.eap_method.specs.GpskServer.{checks, refusing, refuses, answers, asked_receives, asked_reads};
+ghost use Rattle.eap_method.specs.GpskServer.{checks, refusing, refuses, answers, asked_receives};
+ghost use Rattle.eap_method.specs.GpskServer.{asked_reads};
 ghost use Rattle.eap_method.specs.declared.values.ServerSide.{ServerSide};
 ghost use Rattle.eap_method.specs.Capacity.{HasCapacity, requests};
 ghost use Rattle.login_keys.specs.GpskMacKey.{IsMacKey};
 ghost use Rattle.gpsk_ends.specs.Classified.{IsReceived};
-ghost use Rattle.gpsk_ends.specs.ServerStage.{outcome_with, view_in, view_of, login_of, added_with, keys_with, login_with, IsConsistent, IsReady};
+ghost use Rattle.gpsk_ends.specs.ServerStage.{outcome_with, view_in, view_of, login_of, added_with};
+ghost use Rattle.gpsk_ends.specs.ServerStage.{keys_with, login_with, IsConsistent, IsReady};
 ghost use Rattle.gpsk_ends.specs.declared.server.stage.Alone.TheVariants.{Asked};
 ghost use Rattle.gpsk_ends.specs.declared.server.stage.Phase.TheVariants.{Checked};
 ghost use Rattle.gpsk_ends.specs.declared.server.stage.Progress.TheVariants as stage;
@@ -63,7 +66,8 @@ fn answer<R: Records>(
     requires received { IsReceived (message_of view.now) body.now }
     requires ready { IsConsistent own.now added.now }
     ensures turn { let login = login_of own.now added.now in
-        outcome_with Request packet.new tags.new (view_in login result) ≡ answers login barred next_id (message_of view.now) }
+        outcome_with Request packet.new tags.new (view_in login result)
+        ≡ answers login barred next_id (message_of view.now) }
     ensures capacity { HasCapacity packet.new }
 {
     let login = Login { own, added };
@@ -100,7 +104,8 @@ fn settle(
     requires name { length gpsk2.now.id_p.now ≤ max_name }
     requires keys { keys ≡ (keys_with own.now.side own.now.nonce gpsk2.now user.now).keys }
     requires mac { IsMacKey mac gpsk2.now.suite keys.sk }
-    ensures added { progress.new ≡ stage.Login (added_with own.now.side own.now.nonce gpsk2.now user.now) Checked }
+    ensures added { progress.new
+        ≡ stage.Login (added_with own.now.side own.now.nonce gpsk2.now user.now) Checked }
     ensures ready { IsReady own.now progress.new }
 {
     let added = Added {
@@ -134,7 +139,8 @@ fn log_in<R: Records>(
     requires keys { keys ≡ (keys_with own.now.side own.now.nonce gpsk2.now user.now).keys }
     requires mac { IsMacKey mac gpsk2.now.suite keys.sk }
     ensures turn { outcome_with result packet.new tags.new (view_of own.now progress.new)
-        ≡ answers (login_with own.now.side own.now.nonce gpsk2.now user.now) user.now.barred next_id (message_of view.now) }
+        ≡ answers (login_with own.now.side own.now.nonce gpsk2.now user.now) user.now.barred next_id
+        (message_of view.now) }
     ensures ready { IsReady own.now progress.new }
     ensures capacity { requests result ≡ true → HasCapacity packet.new }
 {
@@ -167,7 +173,8 @@ fn check<R: Records>(
     requires keys { keys ≡ (keys_with own.now.side own.now.nonce gpsk2.now user.now).keys }
     requires size { length keys.sk ≡ ks_of gpsk2.now.suite }
     ensures turn { outcome_with result packet.new tags.new (view_of own.now progress.new)
-        ≡ checks (login_with own.now.side own.now.nonce gpsk2.now user.now) user.now.barred next_id (message_of view.now) }
+        ≡ checks (login_with own.now.side own.now.nonce gpsk2.now user.now) user.now.barred next_id
+        (message_of view.now) }
     ensures ready { IsReady own.now progress.new }
     ensures capacity { requests result ≡ true → HasCapacity packet.new }
 {

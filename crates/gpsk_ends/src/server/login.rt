@@ -142,7 +142,8 @@ impl<'a> Model for Login<'a> {
 }
 
 impl Login<'_> {
-    ghost use Rattle.eap_method.specs.GpskServer.{keys_of, gpsk3_of, bars_with, is_tagged_by, report_of};
+    ghost use Rattle.eap_method.specs.GpskServer.{keys_of, gpsk3_of, bars_with, is_tagged_by};
+    ghost use Rattle.eap_method.specs.GpskServer.{report_of};
     ghost use Rattle.gpsk_ends.specs.Nonces.{server_nonces_of};
 
     /// CSuite_Sel.
@@ -178,8 +179,10 @@ impl Login<'_> {
     )
         requires bounded { size_of (message_of view.now) + 5 ≤ max_wrapped }
         requires mac { length (mac_of (message_of view.now)) ≡ ks_of self.now.suite }
-        ensures packet { packet.new ≡ packet_of code.Request id self.now.suite (keys_of self.now).sk (without_mac (message_of view.now)) }
-        ensures record { made.new ≡ record_of self.now.suite (keys_of self.now).sk self.now.psk (without_mac (message_of view.now)) ∷ [] }
+        ensures packet { packet.new ≡ packet_of code.Request id self.now.suite (keys_of
+            self.now).sk (without_mac (message_of view.now)) }
+        ensures record { made.new ≡ record_of self.now.suite (keys_of
+            self.now).sk self.now.psk (without_mac (message_of view.now)) ∷ [] }
         ensures capacity { HasCapacity packet.new }
     {
         let psk = &self.added.psk;

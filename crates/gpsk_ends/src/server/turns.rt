@@ -1,6 +1,7 @@
 //! A server's first Request, and its turn for each Response (RFC 5433 section 10).
 
-ghost use Rattle.std.specs.Prelude.{◌≡◌, ◌≤◌, ℕ, List, ◌∷◌, [], length, true, All, IsTrue, None, Some, option_map};
+ghost use Rattle.std.specs.Prelude.{◌≡◌, ◌≤◌, ℕ, List, ◌∷◌, [], length, true, All, IsTrue, None};
+ghost use Rattle.std.specs.Prelude.{Some, option_map};
 ghost use Rattle.login_setup.specs.Setup.{is_valid_for};
 ghost use Rattle.octet_lists.specs.Suite.{ks_of};
 ghost use Rattle.octet_lists.specs.Sizes.{max_packet};
@@ -9,12 +10,14 @@ ghost use Rattle.gpsk_messages.specs.Message.{message_of};
 ghost use Rattle.gpsk_messages.specs.Reading.{read_of};
 ghost use Rattle.eap_method.specs.declared.values.ServerSide.{ServerSide};
 ghost use Rattle.eap_method.specs.GpskTags.{sk_record};
-ghost use Rattle.eap_method.specs.GpskServer.{View, is_initiated, first_step, refusing_reads, over, idle_reads, step};
+ghost use Rattle.eap_method.specs.GpskServer.{View, is_initiated, first_step, refusing_reads, over};
+ghost use Rattle.eap_method.specs.GpskServer.{idle_reads, step};
 ghost use Rattle.eap_method.specs.GpskServer.{barring_reads, checked_reads};
 ghost use Rattle.eap_method.specs.Capacity.{HasCapacity, requests};
 ghost use Rattle.eap_method.specs.Turns.{done, dropped};
 ghost use Rattle.gpsk_ends.specs.Classified.{IsReceived};
-ghost use Rattle.gpsk_ends.specs.ServerStage.{view_alone, view_in, outcome_with, reads_in, login_of, IsConsistent};
+ghost use Rattle.gpsk_ends.specs.ServerStage.{view_alone, view_in, outcome_with, reads_in};
+ghost use Rattle.gpsk_ends.specs.ServerStage.{login_of, IsConsistent};
 ghost use Rattle.gpsk_ends.specs.declared.server.stage.Alone.TheVariants.{Refusing};
 ghost use Rattle.gpsk_ends.specs.declared.server.stage.Phase.TheVariants.{Barring, Checked};
 
@@ -52,7 +55,8 @@ fn refusing_reads<R: Records>(body: &[u8], phase: &mut Alone, tags: &mut Tags<R>
     requires size { length body.now ≤ max_type_data }
     requires awaits { phase.old ≡ Refusing }
     ensures { (own : ServerSide) (nonce packet : List ℕ) →
-        outcome_with result packet tags.new (view_alone own nonce phase.new) ≡ refusing_reads own nonce (read_of None body.now) }
+        outcome_with result packet tags.new (view_alone own nonce phase.new)
+        ≡ refusing_reads own nonce (read_of None body.now) }
 {
     match receive(body, None) {
         Err(cause) => ServerAnswer::Discard(cause),
@@ -81,7 +85,8 @@ fn end<R: Records>(
     requires { IsReceived (message_of view.now) body.now }
     ensures { (packet : List ℕ) →
         outcome_with result packet tags.new (view_in login.now phase.new)
-        ≡ done (over login.now success) success (sk_record login.now.psk (message_of view.now) ∷ []) }
+        ≡ done (over login.now success) success
+        (sk_record login.now.psk (message_of view.now) ∷ []) }
 {
     login.accept(view, body, &mut tags.accepted);
     tags.made.clear();
@@ -101,7 +106,8 @@ fn barring_reads<R: Records>(
     requires size { length body.now ≤ max_type_data }
     requires awaits { phase.old ≡ Barring }
     ensures { (packet : List ℕ) →
-        outcome_with result packet tags.new (view_in login.now phase.new) ≡ barring_reads login.now (read_of (Some (ks_of login.now.suite)) body.now) }
+        outcome_with result packet tags.new (view_in login.now phase.new)
+        ≡ barring_reads login.now (read_of (Some (ks_of login.now.suite)) body.now) }
 {
     match receive(body, Some(login.suite())) {
         Err(cause) => ServerAnswer::Discard(cause),
@@ -132,7 +138,8 @@ fn checked_reads<R: Records>(
     requires size { length body.now ≤ max_type_data }
     requires awaits { phase.old ≡ Checked }
     ensures { (packet : List ℕ) →
-        outcome_with result packet tags.new (view_in login.now phase.new) ≡ checked_reads login.now (read_of (Some (ks_of login.now.suite)) body.now) }
+        outcome_with result packet tags.new (view_in login.now phase.new)
+        ≡ checked_reads login.now (read_of (Some (ks_of login.now.suite)) body.now) }
 {
     match receive(body, Some(login.suite())) {
         Err(cause) => ServerAnswer::Discard(cause),
@@ -152,7 +159,8 @@ fn checked_reads<R: Records>(
 /// Why a server that awaits nothing discards the Type-Data.
 fn idle_cause(suite: Option<Suite>, body: &[u8]) -> Cause
     requires { length body.now ≤ max_type_data }
-    ensures { (view : View) → dropped view result ≡ idle_reads view (read_of (option_map ks_of suite) body.now) }
+    ensures { (view : View)
+        → dropped view result ≡ idle_reads view (read_of (option_map ks_of suite) body.now) }
 {
     match receive(body, suite) {
         Err(cause) => cause,
@@ -171,7 +179,8 @@ fn login_reads<R: Records>(
     requires size { length body.now ≤ max_type_data }
     requires ready { IsConsistent own.now added.now }
     ensures { (packet : List ℕ) → let login = login_of own.now added.now in
-        outcome_with result packet tags.new (view_in login phase.new) ≡ reads_in login phase.old (read_of (Some (ks_of login.suite)) body.now) }
+        outcome_with result packet tags.new (view_in login phase.new)
+        ≡ reads_in login phase.old (read_of (Some (ks_of login.suite)) body.now) }
 {
     let login = Login { own, added };
     match phase {
@@ -194,7 +203,8 @@ pub fn handle_response<R: Records>(
     requires header { 5 ≤ length response.now }
     requires size { length response.now ≤ max_packet }
     requires keys { All (λ user. IsTrue (is_valid_for user.kind user.psk)) users.now }
-    ensures turn { outcome_with result packet.new tags.new stage.new ≡ step users.now next_id stage.old response.now }
+    ensures turn { outcome_with result packet.new tags.new stage.new
+        ≡ step users.now next_id stage.old response.now }
     ensures capacity { requests result ≡ true → HasCapacity packet.new }
 {
     let body = &response[5..];

@@ -34,7 +34,8 @@ pub fn derive(
     requires none { out.old ≡ [] }
     requires key { IsMacKey mac.now suite _key.now }
     requires number { 2 ≤ length front.old }
-    ensures derived { (z : List ℕ) → z ≡ drop 2 front.old ++ concat (map (λ p. p.now) pieces.now) → out.new ≡ spec.gkdf suite size _key.now z }
+    ensures derived { (z : List ℕ) → z ≡ drop 2 front.old ++ concat (map (λ p. p.now) pieces.now)
+        → out.new ≡ spec.gkdf suite size _key.now z }
     ensures size { length out.new ≡ size }
 {
     'numbers: for done in 0..size.div_ceil(suite.ks()) {
@@ -50,7 +51,8 @@ pub fn derive(
 pub fn gkdf(suite: Suite, size: usize, key: &[u8], pieces: &[&[u8]]) -> Octets<192>
     requires limit { size ≤ 160 }
     requires key { length key.now ≡ ks_of suite }
-    ensures derived { (z : List ℕ) → z ≡ concat (map (λ p. p.now) pieces.now) → result ≡ spec.gkdf suite size key.now z }
+    ensures derived { (z : List ℕ) → z ≡ concat (map (λ p. p.now) pieces.now)
+        → result ≡ spec.gkdf suite size key.now z }
     ensures size { length result ≡ size }
 {
     let mac = MacKey::new(suite, key);

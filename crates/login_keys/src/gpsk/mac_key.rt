@@ -55,8 +55,10 @@ impl MacKey {
     /// The MAC of a text in one piece. It has KS octets.
     #[tactic(auto, unfolding(crate::specs::GpskMacKey::IsMacKey, crate::specs::Gpsk::gpsk_tag_of))]
     pub fn tag_whole(&self, text: &[u8]) -> Octets<32>
-        ensures tag { (suite : Suite) (key : List ℕ) → IsMacKey self.now suite key → result ≡ gpsk_tag_of suite key text.now }
-        ensures size { (suite : Suite) (key : List ℕ) → IsMacKey self.now suite key → length result ≡ ks_of suite }
+        ensures tag { (suite : Suite) (key : List ℕ) → IsMacKey self.now suite key
+            → result ≡ gpsk_tag_of suite key text.now }
+        ensures size { (suite : Suite) (key : List ℕ) → IsMacKey self.now suite key
+            → length result ≡ ks_of suite }
     {
         match self {
             MacKey::Cmac(key) => Octets::of(&key.tag_whole(text)),

@@ -68,7 +68,8 @@ impl<'a> Model for Login<'a> {
 
 impl Login<'_> {
     ghost use Rattle.eap_method.specs.PskTags.{ak_record};
-    ghost use Rattle.eap_method.specs.PskPeer.{rand_p_of, ak_of, keys_of, mac_p_covers, mac_p_of, mac_s_covers, mac_s_of, report_of};
+    ghost use Rattle.eap_method.specs.PskPeer.{rand_p_of, ak_of, keys_of, mac_p_covers, mac_p_of};
+    ghost use Rattle.eap_method.specs.PskPeer.{mac_s_covers, mac_s_of, report_of};
     ghost use Rattle.psk_ends.specs.Nonces.{peer_nonces_of};
 
     /// ID_P.
@@ -139,7 +140,8 @@ impl Login<'_> {
     #[tactic(auto, unfolding(eap_method::specs::PskPeer::mac_p_covers))]
     pub fn add_mac_p<R: Records>(&self, made: &mut TagList<R>, mac: &[u8; 16])
         requires { length made.old < 2 }
-        ensures { made.new ≡ made.old ++ ak_record self.now.cred.psk (mac_p_covers self.now) mac.now ∷ [] }
+        ensures { made.new
+            ≡ made.old ++ ak_record self.now.cred.psk (mac_p_covers self.now) mac.now ∷ [] }
     {
         let rand_p = self.rand_p();
         add_mac_p(
@@ -157,7 +159,8 @@ impl Login<'_> {
     #[tactic(auto, unfolding(eap_method::specs::PskPeer::mac_s_covers))]
     pub fn add_mac_s<R: Records>(&self, accepted: &mut TagList<R>, mac: &[u8; 16])
         requires { length accepted.old < 2 }
-        ensures { accepted.new ≡ accepted.old ++ ak_record self.now.cred.psk (mac_s_covers self.now) mac.now ∷ [] }
+        ensures { accepted.new
+            ≡ accepted.old ++ ak_record self.now.cred.psk (mac_s_covers self.now) mac.now ∷ [] }
     {
         let rand_p = self.rand_p();
         add_mac_s(

@@ -6,8 +6,10 @@ ghost use Rattle.psk_messages.specs.Message.{psk4, message_of};
 ghost use Rattle.psk_messages.specs.declared.view.PskMessage.TheVariants.{P3};
 ghost use Rattle.eap_method.specs.Capacity.{HasCapacity, replies};
 ghost use Rattle.eap_method.specs.Turns.{fault_if};
-ghost use Rattle.eap_method.specs.PskTags.{psk_response, blank_tag, hidden_octet, result_fault, result_of};
-ghost use Rattle.eap_method.specs.PskPeer.{keys_of, psk4_of, psk4_record, psk3_records, psk3_fault, are_right, confirms, wait_receives};
+ghost use Rattle.eap_method.specs.PskTags.{psk_response, blank_tag, hidden_octet, result_fault};
+ghost use Rattle.eap_method.specs.PskTags.{result_of};
+ghost use Rattle.eap_method.specs.PskPeer.{keys_of, psk4_of, psk4_record, psk3_records, psk3_fault};
+ghost use Rattle.eap_method.specs.PskPeer.{are_right, confirms, wait_receives};
 ghost use Rattle.psk_ends.specs.Checks.{value_unless};
 ghost use Rattle.psk_ends.specs.PeerStage.{in_phase, outcome_with};
 ghost use Rattle.psk_ends.specs.declared.peer.stage.Phase.TheVariants.{Wait};
@@ -61,7 +63,8 @@ fn confirm<R: Records>(
     tags: &mut Tags<R>,
 ) -> PeerAnswer
     requires { tags.old.made ≡ [] }
-    ensures turn { outcome_with result packet.new tags.new (in_phase phase.new login.now) ≡ confirms login.now id (result_of octet) tags.old.accepted None }
+    ensures turn { outcome_with result packet.new tags.new (in_phase phase.new login.now)
+        ≡ confirms login.now id (result_of octet) tags.old.accepted None }
     ensures capacity { HasCapacity packet.new }
 {
     if octet / 64 == DONE_SUCCESS {

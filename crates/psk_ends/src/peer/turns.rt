@@ -12,7 +12,8 @@ ghost use Rattle.eap_method.specs.declared.values.Decision.TheVariants.{Fail};
 ghost use Rattle.eap_method.specs.Turns.{id_of, body_of};
 ghost use Rattle.eap_method.specs.PskTags.{psk_response, header_of};
 ghost use Rattle.eap_method.specs.PskPeer.{wait, rand_p_of, answers, fresh_reads, wait_reads, step};
-ghost use Rattle.psk_ends.specs.PeerStage.{in_phase, view_in, outcome_with, fresh_with, login_of, login_with, IsReady};
+ghost use Rattle.psk_ends.specs.PeerStage.{in_phase, view_in, outcome_with, fresh_with, login_of};
+ghost use Rattle.psk_ends.specs.PeerStage.{login_with, IsReady};
 ghost use Rattle.psk_ends.specs.PeerKeys.{AreKeysOf};
 ghost use Rattle.psk_ends.specs.declared.peer.stage.Phase.TheVariants.{Wait};
 
@@ -31,7 +32,8 @@ fn fresh_reads<'a>(side: &PeerSide, request: &'a [u8]) -> Result<Psk1<'a>, Cause
     requires { 5 ≤ length request.now }
     ensures reads { (nonce : List ℕ) → fresh_with side.now.cred nonce (id_of request.now) result
         ≡ fresh_reads side.now.cred nonce (id_of request.now) (read_of (body_of request.now)) }
-    ensures accepted { IfOk result (λ psk1. accepts_name side.now.cred.accepts psk1.id_s.now ≡ true) }
+    ensures accepted { IfOk result
+        (λ psk1. accepts_name side.now.cred.accepts psk1.id_s.now ≡ true) }
     ensures name { IfOk result (λ psk1. length psk1.id_s.now ≤ max_name) }
 {
     match message_in(request) {
@@ -49,7 +51,8 @@ fn fresh_reads<'a>(side: &PeerSide, request: &'a [u8]) -> Result<Psk1<'a>, Cause
 
 /// Writes PSK-2 with this MAC_P (RFC 4764 section 5.2).
 fn write_psk2(login: &Login, id: u8, mac: &[u8; 16], packet: &mut Packet)
-    ensures packet { packet.new ≡ psk_response id (psk2 login.now.rand_s (rand_p_of login.now) mac.now login.now.cred.id_p) }
+    ensures packet { packet.new ≡ psk_response id (psk2 login.now.rand_s (rand_p_of login.now)
+        mac.now login.now.cred.id_p) }
     ensures capacity { HasCapacity packet.new }
 {
     let message = PskMessage::P2(Psk2 {
@@ -125,7 +128,8 @@ fn wait_reads<R: Records>(
     requires size { 5 ≤ length request.now }
     requires waits { phase.old ≡ Wait }
     ensures turn { outcome_with result packet.new tags.new (in_phase phase.new login.now)
-        ≡ wait_reads login.now (id_of request.now) (header_of request.now) (read_of (body_of request.now)) }
+        ≡ wait_reads login.now (id_of request.now) (header_of request.now)
+        (read_of (body_of request.now)) }
     ensures capacity { replies result ≡ true → HasCapacity packet.new }
 {
     match message_in(request) {
@@ -153,7 +157,8 @@ fn known_reads<R: Records>(
     requires keys { AreKeysOf side.now.cred.psk nonce.now added.now.keys }
     requires rand_s { length added.now.rand_s ≡ 16 }
     ensures turn { let login = login_of side.now nonce.now added.now.rand_s in
-        outcome_with result packet.new tags.new (in_phase phase.new login) ≡ step (in_phase phase.old login) request.now }
+        outcome_with result packet.new tags.new (in_phase phase.new login)
+        ≡ step (in_phase phase.old login) request.now }
     ensures capacity { replies result ≡ true → HasCapacity packet.new }
 {
     let login = Login { side, nonce, added };

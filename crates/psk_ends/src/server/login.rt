@@ -42,7 +42,8 @@ impl Initial {
     /// MAC_P of PSK-2 under this AK (RFC 4764 section 5.2).
     pub fn mac_p(&self, ak: &CmacKey, psk2: &Psk2) -> [u8; 16]
         ensures { result ≡ aes_cmac ak.now
-            (mac_p_octets psk2.now.id_p.now self.now.side.id_s (rand_of self.now.nonce) psk2.now.rand_p) }
+            (mac_p_octets psk2.now.id_p.now self.now.side.id_s (rand_of self.now.nonce)
+            psk2.now.rand_p) }
     {
         let id_s = self.side.id_s.as_slice();
         let rand_s = rand_of(&self.nonce);
@@ -130,7 +131,8 @@ impl Model for Login {
 
 impl Login {
     ghost use Rattle.eap_method.specs.PskTags.{ak_record};
-    ghost use Rattle.eap_method.specs.PskServer.{rand_s_of, keys_of, mac_p_covers, mac_s_covers, mac_s_of, report_of};
+    ghost use Rattle.eap_method.specs.PskServer.{rand_s_of, keys_of, mac_p_covers, mac_s_covers};
+    ghost use Rattle.eap_method.specs.PskServer.{mac_s_of, report_of};
     ghost use Rattle.psk_ends.specs.Nonces.{server_nonces_of};
     ghost use Rattle.psk_ends.specs.ServerStage.{login_with};
 
@@ -192,7 +194,8 @@ impl Login {
     #[tactic(auto, unfolding(eap_method::specs::PskServer::mac_p_covers))]
     pub fn add_mac_p<R: Records>(&self, accepted: &mut TagList<R>, mac: &[u8; 16])
         requires { length accepted.old < 2 }
-        ensures { accepted.new ≡ accepted.old ++ ak_record self.now.psk (mac_p_covers self.now) mac.now ∷ [] }
+        ensures { accepted.new
+            ≡ accepted.old ++ ak_record self.now.psk (mac_p_covers self.now) mac.now ∷ [] }
     {
         let rand_s = self.rand_s();
         add_mac_p(
@@ -210,7 +213,8 @@ impl Login {
     #[tactic(auto, unfolding(eap_method::specs::PskServer::mac_s_covers))]
     pub fn add_mac_s<R: Records>(&self, made: &mut TagList<R>, mac: &[u8; 16])
         requires { length made.old < 2 }
-        ensures { made.new ≡ made.old ++ ak_record self.now.psk (mac_s_covers self.now) mac.now ∷ [] }
+        ensures { made.new
+            ≡ made.old ++ ak_record self.now.psk (mac_s_covers self.now) mac.now ∷ [] }
     {
         let id_s = self.own.side.id_s.as_slice();
         add_mac_s(made, &self.psk, id_s, &self.rand_p, mac);

@@ -11,7 +11,8 @@ ghost use Rattle.eap_method.specs.declared.turn.ServerAnswer.TheVariants.{Reques
 ghost use Rattle.eap_method.specs.Capacity.{HasCapacity};
 ghost use Rattle.eap_method.specs.Turns.{body_of};
 ghost use Rattle.eap_method.specs.PskTags.{psk_request, blank_tag};
-ghost use Rattle.eap_method.specs.PskServer.{checked, rand_s_of, psk3_of, psk3_records, answers, finds, asked_reads};
+ghost use Rattle.eap_method.specs.PskServer.{checked, rand_s_of, psk3_of, psk3_records, answers};
+ghost use Rattle.eap_method.specs.PskServer.{finds, asked_reads};
 ghost use Rattle.psk_ends.specs.ServerStage.{outcome_with, asked_with};
 
 use crate::channel::seal_in;
@@ -28,7 +29,8 @@ use psk_messages::{Channel, Psk2, Psk3, PskMessage, write_psk_into};
 
 /// Writes PSK-3 with this MAC_S, PCHANNEL still blank.
 fn write_psk3(login: &Login, id: u8, mac: &[u8; 16], packet: &mut Packet)
-    ensures packet { packet.new ≡ psk_request id (psk3 (rand_s_of login.now) mac.now 0 blank_tag 0) }
+    ensures packet { packet.new
+        ≡ psk_request id (psk3 (rand_s_of login.now) mac.now 0 blank_tag 0) }
     ensures capacity { HasCapacity packet.new }
 {
     let message = PskMessage::P3(Psk3 {
@@ -66,7 +68,8 @@ pub fn answer<R: Records>(
     packet: &mut Packet,
     tags: &mut Tags<R>,
 )
-    ensures turn { outcome_with Request packet.new tags.new (checked login.now) ≡ answers login.now next_id mac.now }
+    ensures turn { outcome_with Request packet.new tags.new (checked login.now)
+        ≡ answers login.now next_id mac.now }
     ensures capacity { HasCapacity packet.new }
 {
     tags.clear();
@@ -106,7 +109,8 @@ fn find<'a>(
     requires keys { All (λ user. IsTrue (is_valid_for user.kind user.psk)) users.now }
     ensures { (next_id : ℕ) → asked_with own.now next_id result
         ≡ finds own.now.side own.now.nonce next_id
-        psk2.now.rand_p psk2.now.mac psk2.now.id_p.now (user_of users.now psk2.now.id_p.now psk_kind) }
+        psk2.now.rand_p psk2.now.mac psk2.now.id_p.now
+        (user_of users.now psk2.now.id_p.now psk_kind) }
 {
     match find_user(users, psk2.id_p, PSK_KIND) {
         None => Ok(None),
@@ -126,7 +130,8 @@ pub fn asked_reads<'a>(
     requires size { 5 ≤ length response.now }
     requires keys { All (λ user. IsTrue (is_valid_for user.kind user.psk)) users.now }
     ensures { (next_id : ℕ) → asked_with own.now next_id result
-        ≡ asked_reads users.now own.now.side own.now.nonce next_id (read_of (body_of response.now)) }
+        ≡ asked_reads users.now own.now.side own.now.nonce next_id
+        (read_of (body_of response.now)) }
 {
     match message_in(response) {
         Err(cause) => Err(cause),

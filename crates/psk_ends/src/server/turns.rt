@@ -6,7 +6,8 @@ ghost use Rattle.psk_messages.specs.Reading.{read_of};
 ghost use Rattle.eap_method.specs.Capacity.{HasCapacity, requests};
 ghost use Rattle.eap_method.specs.Turns.{body_of};
 ghost use Rattle.eap_method.specs.PskTags.{header_of};
-ghost use Rattle.eap_method.specs.PskServer.{answers, asked, checked, first, is_initiated, first_step, checked_reads, step};
+ghost use Rattle.eap_method.specs.PskServer.{answers, asked, checked, first, is_initiated};
+ghost use Rattle.eap_method.specs.PskServer.{first_step, checked_reads, step};
 ghost use Rattle.login_keys.specs.Psk.{psk_keys_of};
 ghost use Rattle.psk_ends.specs.ServerStage.{in_known, login_with, view_of, outcome_with};
 ghost use Rattle.psk_ends.specs.declared.server.login.Initial.{Initial};
@@ -40,7 +41,8 @@ fn write_psk1(own: &Initial, id: u8, packet: &mut Packet)
 /// is.
 #[tactic(auto, unfolding(eap_method::specs::PskServer::first_step))]
 pub fn ask(stage: &mut Stage, id: u8, packet: &mut Packet)
-    ensures first { record { packet = packet.new; after = view_of stage.new } ≡ first_step (view_of stage.old) id }
+    ensures first { record { packet = packet.new; after = view_of stage.new }
+        ≡ first_step (view_of stage.old) id }
     ensures capacity { is_initiated (view_of stage.old) ≡ true → HasCapacity packet.new }
 {
     match stage {
@@ -87,7 +89,8 @@ fn log_in<R: Records>(
 ) -> ServerAnswer
     requires { keys.keys ≡ psk_keys_of found.kdk found.psk2.rand_p }
     ensures turn { (own : Initial) → view_of stage.old ≡ asked own.side own.nonce
-        → outcome_with result packet.new tags.new (view_of stage.new) ≡ answers (login_with own found.entry) next_id found.entry.psk2.mac }
+        → outcome_with result packet.new tags.new (view_of stage.new)
+        ≡ answers (login_with own found.entry) next_id found.entry.psk2.mac }
     ensures capacity { requests result ≡ true → HasCapacity packet.new }
 {
     let mac = found.psk2.mac;
@@ -136,7 +139,8 @@ pub fn handle_response<R: Records>(
 ) -> ServerAnswer
     requires size { 5 ≤ length response.now }
     requires keys { All (λ user. IsTrue (is_valid_for user.kind user.psk)) users.now }
-    ensures turn { outcome_with result packet.new tags.new (view_of stage.new) ≡ step users.now next_id (view_of stage.old) response.now }
+    ensures turn { outcome_with result packet.new tags.new (view_of stage.new)
+        ≡ step users.now next_id (view_of stage.old) response.now }
     ensures capacity { requests result ≡ true → HasCapacity packet.new }
 {
     match stage {

@@ -16,5 +16,6 @@ returns c =
     record {
       first_is = round_key_zero c.args.first c.fits-first.0;
       full_are = λ r h d. c.loop-round.invariant.made r (omega arith) d;
-      last_is = c.turned_last.ensures ∙ c.next_round_key.ensures c.args.first (c.loop-round.invariant.current ∙ ap (round_key c.args.first) ninth);
+      last_is = c.turned_last.ensures ∙ c.next_round_key.ensures c.args.first
+          (c.loop-round.invariant.current ∙ ap (round_key c.args.first) ninth);
     }

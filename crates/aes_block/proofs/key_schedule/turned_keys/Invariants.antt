@@ -8,5 +8,6 @@ abbrev pub invariant-loop-round : goal.invariant-loop-round
 invariant-loop-round l = record {
   count : length l.full ≡ 9;
   current : l.round_key ≡ round_key l.fn.first l.round;
-  made : (r : ℕ) → r < l.round → (d : TurnedKey) → all of_turned (slice_index_or l.full r d).lanes ≡ round_key l.fn.first (r + 1);
+  made : (r : ℕ) → r < l.round → (d : TurnedKey) → all of_turned (slice_index_or l.full r d).lanes
+      ≡ round_key l.fn.first (r + 1);
 }

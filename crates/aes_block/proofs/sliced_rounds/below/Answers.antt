@@ -5,8 +5,10 @@ use Rattle.aes_block.proofs.sliced_rounds.below.Goals as goal
 
 pub returns : goal.returns
 returns c = λ row j hr hj.
-    let result : List ℕ = c.slice_below.result ∷ c.slice_below-2.result ∷ c.slice_below-3.result ∷ c.slice_below-4.result
-    ∷ c.slice_below-5.result ∷ c.slice_below-6.result ∷ c.slice_below-7.result ∷ c.slice_below-8.result ∷ [] in
+    let result : List ℕ =
+    c.slice_below.result ∷ c.slice_below-2.result ∷ c.slice_below-3.result ∷ c.slice_below-4.result
+    ∷ c.slice_below-5.result ∷ c.slice_below-6.result ∷ c.slice_below-7.result
+    ∷ c.slice_below-8.result ∷ [] in
     let place : ℕ = 8 * row + j in
     let source : ℕ = 8 * ((row + c.args.rows) % 4) + j in
     octet_at_same result c.args.words place source

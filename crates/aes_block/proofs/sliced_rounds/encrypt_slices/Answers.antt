@@ -6,12 +6,14 @@ use Rattle.aes_block.proofs.sliced_rounds.encrypt_slices.Goals as goal
 pub loop-round-init : goal.loop-round-init
 loop-round-init c = λ kept.
     rounds_none c.args.key c.args.block c.args.key _ refl kept.first_is
-    (c.add_round_key-words.ensures 0 (lit< tt) ∙ ap (λ s. add_round_key s c.args.key) c.load.ensures.first_lane)
+    (c.add_round_key-words.ensures 0 (lit< tt)
+    ∙ ap (λ s. add_round_key s c.args.key) c.load.ensures.first_lane)
 
 pub loop-round-preserved : goal.loop-round-preserved
 loop-round-preserved c = λ kept.
     rounds_more c.args.key c.args.block c.args.key _ _ _ c.loop-round.round refl
-    (kept.full_are c.loop-round.round (omega arith) _) (c.loop-round.invariant kept) (c.full_round-next.ensures 0 (lit< tt))
+    (kept.full_are c.loop-round.round (omega arith) _) (c.loop-round.invariant kept)
+    (c.full_round-next.ensures 0 (lit< tt))
 
 pub returns : goal.returns
 returns c = λ kept.

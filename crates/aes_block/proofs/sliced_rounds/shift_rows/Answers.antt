@@ -6,8 +6,10 @@ use Rattle.aes_block.proofs.sliced_rounds.shift_rows.Goals as goal
 
 pub returns : goal.returns
 returns c =
-    let result : List ℕ = c.shift_slice.result ∷ c.shift_slice-2.result ∷ c.shift_slice-3.result ∷ c.shift_slice-4.result
-    ∷ c.shift_slice-5.result ∷ c.shift_slice-6.result ∷ c.shift_slice-7.result ∷ c.shift_slice-8.result ∷ [] in
+    let result : List ℕ =
+    c.shift_slice.result ∷ c.shift_slice-2.result ∷ c.shift_slice-3.result ∷ c.shift_slice-4.result
+    ∷ c.shift_slice-5.result ∷ c.shift_slice-6.result ∷ c.shift_slice-7.result
+    ∷ c.shift_slice-8.result ∷ [] in
     shifted_state c.args.words result (λ row j hr hj.
     let place : ℕ = 8 * row + j in
     let source : ℕ = 8 * row + (j + 2 * row) % 8 in

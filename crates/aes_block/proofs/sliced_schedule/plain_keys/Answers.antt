@@ -17,5 +17,6 @@ returns c =
       first_is = round_key_zero c.args.first c.fits-first.0;
       full_are = λ r h d. c.loop-round.invariant.made r (omega arith) d;
       last_is = c.state_of_words-2.ensures
-          ∙ c.next_columns.ensures c.args.first (c.loop-round.invariant.current ∙ ap (round_key c.args.first) ninth);
+          ∙ c.next_columns.ensures c.args.first
+          (c.loop-round.invariant.current ∙ ap (round_key c.args.first) ninth);
     }

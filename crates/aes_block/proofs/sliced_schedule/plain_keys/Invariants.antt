@@ -8,5 +8,6 @@ abbrev pub invariant-loop-round : goal.invariant-loop-round
 invariant-loop-round l = record {
   count : length l.full ≡ 9;
   current : state_of_columns l.columns ≡ round_key l.fn.first l.round;
-  made : (r : ℕ) → r < l.round → (d : TurnedKey) → (slice_index_or l.full r d).lanes ≡ round_key l.fn.first (r + 1);
+  made : (r : ℕ) → r < l.round → (d : TurnedKey) → (slice_index_or l.full r d).lanes
+      ≡ round_key l.fn.first (r + 1);
 }

@@ -16,7 +16,8 @@ loop-passed-init g c = record {
 pub loop-passed-preserved : goal.loop-passed-preserved
 loop-passed-preserved g c = record {
   run = λ setup is.
-      one_delivered setup c.loop-passed.passed _ (c.in_ok-step_event.ensures.run setup (deliveries c.loop-passed.passed) (c.loop-passed.invariant.run setup is));
+      one_delivered setup c.loop-passed.passed _ (c.in_ok-step_event.ensures.run setup
+      (deliveries c.loop-passed.passed) (c.loop-passed.invariant.run setup is));
   started = c.in_ok-step_event.ensures.started;
   packets = c.in_ok-step_event.ensures.packets;
   few = c.in_ok-step_event.ensures.few c.loop-passed.passed c.loop-passed.invariant.few;

@@ -23,10 +23,13 @@ loop-preserved g c =
       run = λ setup number place is stands.
           let here = c.loop.invariant.stands number place stands in
           let next = c.octet-v.ensures.state number (place + 2 * turns) here in
-          one_chosen setup number place turns c.octet-v.result c.octet-u.result _ _ (c.loop.invariant.run setup number place is stands)
+          one_chosen setup number place turns c.octet-v.result c.octet-u.result _ _
+          (c.loop.invariant.run setup number place is stands)
           (c.octet-v.ensures.octet number (place + 2 * turns) here)
-          (c.octet-u.ensures.octet number (place + 2 * turns + 1) next ∙ ap (octet_at number) (omega arith))
-          (c.in_ok-step_chosen.ensures.run setup (chances setup number place turns) (c.loop.invariant.run setup number place is stands));
+          (c.octet-u.ensures.octet number (place + 2 * turns + 1) next
+          ∙ ap (octet_at number) (omega arith))
+          (c.in_ok-step_chosen.ensures.run setup (chances setup number place turns)
+          (c.loop.invariant.run setup number place is stands));
       stands = λ number place is.
           let here = c.loop.invariant.stands number place is in
           let next = c.octet-v.ensures.state number (place + 2 * turns) here in

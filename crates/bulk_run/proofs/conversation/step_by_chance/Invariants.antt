@@ -10,13 +10,18 @@ use Rattle.world_laws.specs.Runs.{run_of}
 
 abbrev pub invariant-loop : goal.invariant-loop
 invariant-loop g l = record {
-  run : (setup : Setup) (number place : ℕ) → now_of g.P.PeerMethod.peer_shown g.S.ServerMethod.server_shown l.initial.world ≡ run_of setup []
+  run : (setup : Setup) (number place : ℕ)
+      → now_of g.P.PeerMethod.peer_shown g.S.ServerMethod.server_shown l.initial.world
+      ≡ run_of setup []
       → l.initial.draws.state ≡ state_at number place
-      → now_of g.P.PeerMethod.peer_shown g.S.ServerMethod.server_shown l.world ≡ run_of setup (chances setup number place l.counter);
-  stands : (number place : ℕ) → l.initial.draws.state ≡ state_at number place → l.draws.state ≡ state_at number (place + 2 * l.counter);
+      → now_of g.P.PeerMethod.peer_shown g.S.ServerMethod.server_shown l.world
+      ≡ run_of setup (chances setup number place l.counter);
+  stands : (number place : ℕ) → l.initial.draws.state ≡ state_at number place
+      → l.draws.state ≡ state_at number (place + 2 * l.counter);
   started : l.world.started ≡ true;
   packets : l.packets ≡ length l.world.sent;
   few : AreFew l.world.counts l.counter;
   objects : HasObjects g.P.PeerMethod.peer_shown g.S.ServerMethod.server_shown l.world;
-  methods : PreservesMethods g.P.PeerMethod.peer_shown g.S.ServerMethod.server_shown l.initial.world l.world;
+  methods : PreservesMethods g.P.PeerMethod.peer_shown g.S.ServerMethod.server_shown
+      l.initial.world l.world;
 }

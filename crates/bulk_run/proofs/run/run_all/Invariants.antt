@@ -13,8 +13,11 @@ invariant-loop g l = record {
   stands : l.draws.state ≡ state_at l.number (l.counter * drawn_each l.number);
   sum : l.summary ≡ summary_of l.number l.counter;
   small : IsAtMost l.summary (40 * l.counter);
-  peer : have_each (peer_kinds (map g.P.PeerMethod.peer_shown l.methods.peer.items)) login_methods ≡ true;
-  server : have_each (server_kinds (map g.S.ServerMethod.server_shown l.methods.server.items)) login_methods ≡ true;
+  peer : have_each (peer_kinds (map g.P.PeerMethod.peer_shown l.methods.peer.items)) login_methods
+      ≡ true;
+  server : have_each (server_kinds
+      (map g.S.ServerMethod.server_shown l.methods.server.items)) login_methods ≡ true;
   both_peers : both_peers.are_both (map g.P.PeerMethod.peer_shown l.methods.peer.items) ≡ true;
-  both_servers : both_servers.are_both (map g.S.ServerMethod.server_shown l.methods.server.items) ≡ true;
+  both_servers : both_servers.are_both (map g.S.ServerMethod.server_shown l.methods.server.items)
+      ≡ true;
 }

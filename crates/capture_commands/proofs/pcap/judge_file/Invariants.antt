@@ -13,7 +13,9 @@ invariant-loop-found g l = record {
   few_records : l.reader.number ≤ l.reader.taken;
   holds : HasFound l.found l.reader.number;
   underway : (octets : List ℕ) → g.S.Source.shown.octets l.initial.source ≡ Some octets
-      → Underway l.users (g.W.Sink.shown.octets l.initial.sink) (g.W.Sink.shown.octets l.sink) (contents octets) l.reader.number l.found (contents_left l.reader (g.S.Source.shown.octets l.source));
+      → Underway l.users (g.W.Sink.shown.octets l.initial.sink)
+      (g.W.Sink.shown.octets l.sink) (contents octets) l.reader.number l.found
+      (contents_left l.reader (g.S.Source.shown.octets l.source));
   read_faults : g.S.Source.shown.faults l.source ≡ g.S.Source.shown.faults l.initial.source;
   write_faults : g.W.Sink.shown.faults l.sink ≡ g.W.Sink.shown.faults l.initial.sink;
 }

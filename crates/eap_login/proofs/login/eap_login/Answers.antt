@@ -12,7 +12,10 @@ pub returns-clause-smooth_traces_agree : goal.returns-clause-smooth_traces_agree
 returns-clause-smooth_traces_agree g c = traces.smooth_traces_agree
 
 pub returns-clause-never_both : goal.returns-clause-never_both
-returns-clause-never_both g c octets h = writes_never_both _ _ _ (map string_bytes c.args.words.now.items) octets (ends_of g.S.Source.shown g.W.Sink.shown _ _ _ _ _ _ octets h c.respond.ensures)
+returns-clause-never_both g c octets h =
+    writes_never_both _ _ _ (map string_bytes c.args.words.now.items) octets
+    (ends_of g.S.Source.shown g.W.Sink.shown _ _ _ _ _ _ octets h c.respond.ensures)
 
 pub returns-clause-complete : goal.returns-clause-complete
-returns-clause-complete g c octets h = completes g.S.Source.shown g.W.Sink.shown _ _ _ _ _ _ octets h c.respond.ensures
+returns-clause-complete g c octets h =
+    completes g.S.Source.shown g.W.Sink.shown _ _ _ _ _ _ octets h c.respond.ensures

@@ -5,7 +5,8 @@ use Rattle.eap_method.proofs.peer_objects.start_one.Goals as goal
 
 pub begin-requires : goal.begin-requires
 begin-requires g c =
-    rw (c.credential_for.ensures, c.kind-kind.ensures) (credential_bounded c.args.setup.now (g.M.PeerMethod.peer_shown c.args.method.now) c.requires.sound c.requires.keys (cc))
+    rw (c.credential_for.ensures, c.kind-kind.ensures) (credential_bounded c.args.setup.now
+    (g.M.PeerMethod.peer_shown c.args.method.now) c.requires.sound c.requires.keys (cc))
 
 pub returns-then-peer_allows : goal.returns-then-peer_allows
 returns-then-peer_allows g c =

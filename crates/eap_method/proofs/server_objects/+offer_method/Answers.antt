@@ -13,25 +13,30 @@ returns-in-None-clause-offer g t c = λ order is_proposed.
 pub returns-then-kind-clause-offer : goal.returns-then-kind-clause-offer
 returns-then-kind-clause-offer g t c = λ order is_proposed.
     rw c.in-Some.ensures.cases.0
-    (offer_hit _ _ _ order _ _ _ _ _ _ c.begin.ensures c.first_into.ensures.first (sym c.kind.ensures ∙ c.if-kind.true) is_proposed)
+    (offer_hit _ _ _ order _ _ _ _ _ _ c.begin.ensures c.first_into.ensures.first
+    (sym c.kind.ensures ∙ c.if-kind.true) is_proposed)
 
 pub returns-then-kind-clause-methods : goal.returns-then-kind-clause-methods
 returns-then-kind-clause-methods g t c =
-    rw c.in-Some.ensures.cases.0 (rw (requests_method _ _ _ _ c.first_into.ensures.first ∙ ap method_of c.begin.ensures) refl)
+    rw c.in-Some.ensures.cases.0
+    (rw (requests_method _ _ _ _ c.first_into.ensures.first ∙ ap method_of c.begin.ensures) refl)
 
 pub returns-else-kind-clause-offer : goal.returns-else-kind-clause-offer
 returns-else-kind-clause-offer g t c = λ order is_proposed.
     rw c.in-Some.ensures.cases.0
-    (offer_miss _ _ _ order _ _ _ _ _ (λ same. c.if-kind.false (c.kind.ensures ∙ same)) (c.offer_method.ensures.offer order is_proposed))
+    (offer_miss _ _ _ order _ _ _ _ _ (λ same. c.if-kind.false (c.kind.ensures ∙ same))
+    (c.offer_method.ensures.offer order is_proposed))
 
 pub returns-then-kind-clause-unnamed : goal.returns-then-kind-clause-unnamed
 returns-then-kind-clause-unnamed g t c = λ order is_proposed.
     rw c.in-Some.ensures.cases.0
-    (server_hit order _ _ _ _ (ap kind_of (requests_method _ _ _ _ c.first_into.ensures.first ∙ ap method_of c.begin.ensures)) (sym c.kind.ensures ∙ c.if-kind.true) is_proposed)
+    (server_hit order _ _ _ _ (ap kind_of (requests_method _ _ _ _ c.first_into.ensures.first
+    ∙ ap method_of c.begin.ensures)) (sym c.kind.ensures ∙ c.if-kind.true) is_proposed)
 
 pub returns-else-kind-clause-unnamed : goal.returns-else-kind-clause-unnamed
 returns-else-kind-clause-unnamed g t c = λ order is_proposed.
-    rw c.in-Some.ensures.cases.0 (server_miss order _ _ _ (c.offer_method.ensures.unnamed order is_proposed))
+    rw c.in-Some.ensures.cases.0
+    (server_miss order _ _ _ (c.offer_method.ensures.unnamed order is_proposed))
 
 pub first_into-requires : goal.first_into-requires
 first_into-requires g t c = begun_initiates _ _ _ _ c.begin.ensures

@@ -6,5 +6,6 @@ use Rattle.eap_packet.proofs.packet.init_into.Goals as goal
 pub returns-clause-spells : goal.returns-clause-spells
 returns-clause-spells c body size =
     let a = c.args in
-    ap (λ (front : List ℕ). front ++ body) (c.put.ensures ∙ ap (λ (front : List ℕ). front ++ a.kind ∷ []) (c.set.ensures ∙ c.header.ensures))
+    ap (λ (front : List ℕ). front ++ body) (c.put.ensures
+    ∙ ap (λ (front : List ℕ). front ++ a.kind ∷ []) (c.set.ensures ∙ c.header.ensures))
     ∙ encoding_from_front a.code a.id a.kind a.size body c.requires.typed size

@@ -5,8 +5,9 @@ use Rattle.eap_world.proofs.nonces_left.receive.Goals as goal
 
 pub loop-back-init : goal.loop-back-init
 loop-back-init c =
-    none_received c.first_octets-firsts.result c.args.octets.now (waits c.args.nonces.now c.args.heard.now)
-    (marked_waits c.first_octets-firsts.result c.args.nonces.now c.args.heard.now c.first_octets-firsts.ensures)
+    none_received c.first_octets-firsts.result c.args.octets.now
+    (waits c.args.nonces.now c.args.heard.now) (marked_waits c.first_octets-firsts.result
+    c.args.nonces.now c.args.heard.now c.first_octets-firsts.ensures)
 
 pub loop-back-preserved : goal.loop-back-preserved
 loop-back-preserved c =

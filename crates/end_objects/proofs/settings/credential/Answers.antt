@@ -5,13 +5,16 @@ use Rattle.end_objects.proofs.Taken.{peer_name, peer_other, peer_key, first_key_
 use Rattle.end_objects.proofs.settings.credential.Goals as goal
 
 pub of-requires : goal.of-requires
-of-requires c = let size = peer_name (settings_of c.args.settings.now) c.requires.accepted in grind (arith, size)
+of-requires c = let size = peer_name (settings_of c.args.settings.now) c.requires.accepted in
+    grind (arith, size)
 
 pub accepts-requires : goal.accepts-requires
 accepts-requires c = peer_other (settings_of c.args.settings.now) c.requires.accepted
 
 pub of-requires-2 : goal.of-requires-2
-of-requires-2 c = let told = settings_of c.args.settings.now in let size = peer_key told c.requires.accepted (first_kind told) in grind (arith, size)
+of-requires-2 c = let told = settings_of c.args.settings.now in
+    let size = peer_key told c.requires.accepted (first_kind told) in grind (arith, size)
 
 pub returns-clause-key : goal.returns-clause-key
-returns-clause-key c = let fits = first_key_is_valid (settings_of c.args.settings.now) c.requires.accepted in grind (arith, fits)
+returns-clause-key c = let fits =
+    first_key_is_valid (settings_of c.args.settings.now) c.requires.accepted in grind (arith, fits)

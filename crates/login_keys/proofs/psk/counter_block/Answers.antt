@@ -4,4 +4,5 @@ use Rattle.login_keys.proofs.psk.counter_block.Goals as goal
 
 pub returns : goal.returns
 unfolding combined_with
-returns c = rw (c.encrypt.ensures, c.to_be_bytes.ensures, c.from_be_bytes.ensures, c.from.ensures) refl
+returns c =
+    rw (c.encrypt.ensures, c.to_be_bytes.ensures, c.from_be_bytes.ensures, c.from.ensures) refl

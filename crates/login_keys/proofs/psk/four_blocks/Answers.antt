@@ -10,7 +10,8 @@ counters-init c = joined_none _ _ _ _ c.new-blocks.ensures
 
 pub counters-preserved : goal.counters-preserved
 counters-preserved c =
-    joined_push _ _ _ _ _ _ _ c.counters.invariant c.counter_block.ensures (omega arith) c.put.ensures
+    joined_push _ _ _ _ _ _ _ c.counters.invariant c.counter_block.ensures
+    (omega arith) c.put.ensures
 
 pub returns : goal.returns
 returns c =
@@ -18,4 +19,5 @@ returns c =
     c.array_of.ensures
     ∙ c.as_slice.ensures.same
     ∙ c.counters.invariant.same
-    ∙ ap (λ (n : ℕ). flat_map (λ x. aes128 c.args.cipher.now (combined_with c.args.mixed.now x)) (range_with_len c.args.first n)) four
+    ∙ ap (λ (n : ℕ). flat_map (λ x. aes128 c.args.cipher.now (combined_with c.args.mixed.now x))
+    (range_with_len c.args.first n)) four

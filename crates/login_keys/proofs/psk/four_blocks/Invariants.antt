@@ -4,4 +4,5 @@ use Rattle.login_keys.proofs.Blocks.{IsJoined}
 use Rattle.login_keys.proofs.psk.four_blocks.Given as goal
 
 abbrev pub invariant-counters : goal.invariant-counters
-invariant-counters l = IsJoined (λ c. aes128 l.cipher (combined_with l.mixed c)) l.first l.i 16 l.blocks
+invariant-counters l =
+    IsJoined (λ c. aes128 l.cipher (combined_with l.mixed c)) l.first l.i 16 l.blocks

@@ -4,4 +4,5 @@ use Rattle.login_run.proofs.words.words_after_name.Given as goal
 
 -- the words so far and those to come
 abbrev pub invariant-loop-word : goal.invariant-loop-word
-invariant-loop-word l = l.words.items ++ into_iter_items l.word-iterator ≡ into_iter_items l.initial.word-iterator
+invariant-loop-word l =
+    l.words.items ++ into_iter_items l.word-iterator ≡ into_iter_items l.initial.word-iterator

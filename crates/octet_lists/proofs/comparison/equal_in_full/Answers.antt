@@ -7,4 +7,5 @@ octets-init c = record { same = λ _. refl; none = λ _. refl }
 
 pub octets-preserved : goal.octets-preserved
 octets-preserved c =
-    difference_more c.octets.difference c.octets.i c.args.left.now c.args.right.now (omega arith) (omega arith) c.octets.invariant
+    difference_more c.octets.difference c.octets.i c.args.left.now c.args.right.now (omega arith)
+    (omega arith) c.octets.invariant

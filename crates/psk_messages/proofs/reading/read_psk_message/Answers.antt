@@ -11,4 +11,5 @@ returns-clause-spelled c =
     encoding_if_received c.read_shape.result octets small c.read_shape.ensures.message
 
 pub returns-clause-refused : goal.returns-clause-refused
-returns-clause-refused c = none_if_refused c.read_shape.result c.args.body.now c.read_shape.ensures.message
+returns-clause-refused c =
+    none_if_refused c.read_shape.result c.args.body.now c.read_shape.ensures.message

@@ -5,7 +5,8 @@ use Rattle.radius_carry.proofs.attributes.first_value.Given as goal
 
 -- what is passed has none of this Type
 abbrev pub invariant-loop-attribute : goal.invariant-loop-attribute
-invariant-loop-attribute l = packet.first_value l.kind (attributes_of l.rest) ≡ packet.first_value l.kind (attributes_of l.octets)
+invariant-loop-attribute l = packet.first_value l.kind (attributes_of l.rest)
+    ≡ packet.first_value l.kind (attributes_of l.octets)
 
 abbrev pub decreases-loop-attribute : goal.decreases-loop-attribute
 decreases-loop-attribute l = length l.rest

@@ -4,5 +4,8 @@ use Rattle.radius_carry.proofs.ReadAttributes.{value_bounded}
 use Rattle.radius_carry.proofs.attributes.join_values.Goals as goal
 
 pub put-requires : goal.put-requires
-put-requires c =
-    (omega arith, value_bounded _ _ _ _ _ _ _ _ c.in-Some.ensures.attributes c.if-attribute-kind.true c.loop-attribute.invariant c.requires)
+put-requires c = (
+  omega arith,
+  value_bounded _ _ _ _ _ _ _ _ c.in-Some.ensures.attributes c.if-attribute-kind.true
+      c.loop-attribute.invariant c.requires,
+)

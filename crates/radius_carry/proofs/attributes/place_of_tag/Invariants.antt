@@ -6,7 +6,8 @@ use Rattle.radius_carry.proofs.attributes.place_of_tag.Given as goal
 -- what is passed, and what is left to pass
 abbrev pub invariant-loop-attribute : goal.invariant-loop-attribute
 invariant-loop-attribute l =
-    (l.place + tag_place (attributes_of l.rest) ≡ tag_place (attributes_of l.octets)) × (l.place + length l.rest ≡ length l.octets)
+    (l.place + tag_place (attributes_of l.rest) ≡ tag_place (attributes_of l.octets))
+    × (l.place + length l.rest ≡ length l.octets)
 
 abbrev pub decreases-loop-attribute : goal.decreases-loop-attribute
 decreases-loop-attribute l = length l.rest

@@ -15,6 +15,13 @@ pub returns-in-None-clause-sound : goal.returns-in-None-clause-sound
 unfolding value_of packet_at
 returns-in-None-clause-sound c =
     let octets = c.args.octets.now in
-    let small = All-from_get_or (λ b. b < 256) octets 0 (λ i _. omega (arith, c.type_inv.octets i)) in
-    rw (c.view_of.ensures.kind, c.view_of.ensures.id, c.view_of.ensures.authenticator, c.view_of.ensures.attributes, c.view_of.ensures.whole)
+    let small =
+    All-from_get_or (λ b. b < 256) octets 0 (λ i _. omega (arith, c.type_inv.octets i)) in
+    rw (
+      c.view_of.ensures.kind,
+      c.view_of.ensures.id,
+      c.view_of.ensures.authenticator,
+      c.view_of.ensures.attributes,
+      c.view_of.ensures.whole,
+    )
     (radius_if_starts octets small (starts_if_none octets cc))

@@ -11,9 +11,11 @@ loop-rest-preserved c =
     let size = c.split_at.ensures.front_len in
     let left = c.split_at.ensures.back_len in
     let more = ap length c.put_attribute.ensures in
-    let count = length-append c.loop-rest.packet (attribute_octets (79, c.split_at.result.0.now)) in (
+    let count =
+    length-append c.loop-rest.packet (attribute_octets (79, c.split_at.result.0.now)) in (
       rw c.put_attribute.ensures
-          (octets_of_pieces c.loop-rest.rest.now c.loop-rest.packet c.split_at.result.0.now c.split_at.result.1.now c.min.result some c.min.ensures
+          (octets_of_pieces c.loop-rest.rest.now c.loop-rest.packet c.split_at.result.0.now
+          c.split_at.result.1.now c.min.result some c.min.ensures
           c.split_at.ensures.front c.split_at.ensures.back
           ∙ c.loop-rest.invariant.0),
       λ later. omega (arith, c.loop-rest.invariant.1 some),

@@ -13,4 +13,10 @@ returns c =
     let tag = c.tag_over-tag.ensures list (c.as_slice.ensures.same ∙ octets) in
     let asked = c.framed-asked.ensures list (c.as_slice-2.ensures.same ∙ octets) in
     c.framed.ensures list (c.as_slice-4.ensures.same ∙ octets)
-    ∙ rw (c.response_over-response.ensures, c.as_slice-3.ensures.same, asked, tag, c.code_of-code.ensures) refl
+    ∙ rw (
+      c.response_over-response.ensures,
+      c.as_slice-3.ensures.same,
+      asked,
+      tag,
+      c.code_of-code.ensures,
+    ) refl

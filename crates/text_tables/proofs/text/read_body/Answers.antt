@@ -7,7 +7,8 @@ use Rattle.text_tables.proofs.text.read_body.Goals as goal
 pub returns-then-is_comment-clause-read : goal.returns-then-is_comment-clause-read
 returns-then-is_comment-clause-read g c =
     read_body_passed _ _ _ _ (sym c.is_comment.ensures ∙ c.if-is_comment.true)
-    ∙ ap (λ i. Ok (line_of i c.args.text.now)) (sym (c.nothing.ensures.item c.args.text.now c.args.event.now))
+    ∙ ap (λ i. Ok (line_of i c.args.text.now))
+    (sym (c.nothing.ensures.item c.args.text.now c.args.event.now))
 
 pub returns-in-Err-clause-read : goal.returns-in-Err-clause-read
 returns-in-Err-clause-read g c =

@@ -7,4 +7,5 @@ use Rattle.text_tables.proofs.words.word_count.Goals as goal
 pub returns : goal.returns
 returns c =
     count_from_yields_List c.split.result _ c.count.ensures.ran
-    (YieldsList-from_slice_split _ (λ b. b == 32) c.args.line.now c.split.ensures.rest c.split.ensures.done c.split.ensures.closure (λ x r q k. search (rules, tests)))
+    (YieldsList-from_slice_split _ (λ b. b == 32) c.args.line.now c.split.ensures.rest
+    c.split.ensures.done c.split.ensures.closure (λ x r q k. search (rules, tests)))

@@ -7,5 +7,5 @@ use Rattle.tuvaddri_c.specs.declared.session.End.{End}
 
 pub returns-in-Peer-clause-settled : goal.returns-in-Peer-clause-settled
 returns-in-Peer-clause-settled c before =
-    peer_delivered c.in-Peer.machine c.deliver_step-step.new.self _ c.args.octets.now c.deliver_step-step.ensures.step
-    (subst (λ (e : End). is_settled e ≡ true) c.in-Peer.is before)
+    peer_delivered c.in-Peer.machine c.deliver_step-step.new.self _ c.args.octets.now
+    c.deliver_step-step.ensures.step (subst (λ (e : End). is_settled e ≡ true) c.in-Peer.is before)

@@ -7,10 +7,12 @@ use Rattle.tuvaddri_c.specs.declared.session.End.{End}
 
 pub returns-in-Server-clause-settled : goal.returns-in-Server-clause-settled
 returns-in-Server-clause-settled c before =
-    server_delivered c.in-Server.machine c.deliver_step-step.new.self _ c.args.octets.now c.deliver_step-step.ensures.step
+    server_delivered c.in-Server.machine c.deliver_step-step.new.self _ c.args.octets.now
+    c.deliver_step-step.ensures.step
     (subst (λ (e : End). is_settled e ≡ true) c.in-Server.is before)
 
 pub returns-in-Backend-clause-settled : goal.returns-in-Backend-clause-settled
 returns-in-Backend-clause-settled c before =
-    server_delivered c.in-Backend.machine c.deliver_step-step-in-Backend.new.self _ c.args.octets.now c.deliver_step-step-in-Backend.ensures.step
+    server_delivered c.in-Backend.machine c.deliver_step-step-in-Backend.new.self _
+    c.args.octets.now c.deliver_step-step-in-Backend.ensures.step
     (subst (λ (e : End). is_settled e ≡ true) c.in-Backend.is before)

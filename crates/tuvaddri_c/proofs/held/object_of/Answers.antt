@@ -4,11 +4,14 @@ use Rattle.tuvaddri_c.proofs.held.object_of.Goals as goal
 
 pub returns-in-Peer : goal.returns-in-Peer
 returns-in-Peer c =
-    rw (c.in-Peer.is, of_peer c.in-Peer.machine _ c.selected.ensures.shown c.selected.ensures.view) c.of_peer.ensures
+    rw (c.in-Peer.is, of_peer c.in-Peer.machine _ c.selected.ensures.shown c.selected.ensures.view)
+    c.of_peer.ensures
 
 pub returns-in-Server : goal.returns-in-Server
-returns-in-Server c = rw (c.in-Server.is, of_server c.in-Server.machine _ c.current.ensures) c.of_server.ensures
+returns-in-Server c =
+    rw (c.in-Server.is, of_server c.in-Server.machine _ c.current.ensures) c.of_server.ensures
 
 pub returns-in-Backend : goal.returns-in-Backend
 returns-in-Backend c =
-    rw (c.in-Backend.is, of_server c.in-Backend.machine _ c.current-in-Backend.ensures) c.of_server-in-Backend.ensures
+    rw (c.in-Backend.is, of_server c.in-Backend.machine _ c.current-in-Backend.ensures)
+    c.of_server-in-Backend.ensures

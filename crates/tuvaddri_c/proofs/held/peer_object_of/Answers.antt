@@ -5,4 +5,5 @@ use Rattle.tuvaddri_c.proofs.held.peer_object_of.Goals as goal
 
 pub returns-in-Peer : goal.returns-in-Peer
 returns-in-Peer c =
-    rw (c.in-Peer.is, of_peer c.in-Peer.machine _ c.selected.ensures.shown c.selected.ensures.view) refl
+    rw (c.in-Peer.is, of_peer c.in-Peer.machine _ c.selected.ensures.shown c.selected.ensures.view)
+    refl

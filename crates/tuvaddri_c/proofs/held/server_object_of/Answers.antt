@@ -7,4 +7,5 @@ pub returns-in-Server : goal.returns-in-Server
 returns-in-Server c = rw (c.in-Server.is, of_server c.in-Server.machine _ c.current.ensures) refl
 
 pub returns-in-Backend : goal.returns-in-Backend
-returns-in-Backend c = rw (c.in-Backend.is, of_server c.in-Backend.machine _ c.current-in-Backend.ensures) refl
+returns-in-Backend c =
+    rw (c.in-Backend.is, of_server c.in-Backend.machine _ c.current-in-Backend.ensures) refl

@@ -4,4 +4,5 @@ use Rattle.tuvaddri_c.proofs.pass.tuv_pass_aaa_timeout.Goals as goal
 
 pub returns-in-Pass-clause-settled : goal.returns-in-Pass-clause-settled
 returns-in-Pass-clause-settled c before =
-    backend_lost c.in-Pass.machine c.aaa_timeout_step-step.new.self _ c.aaa_timeout_step-step.ensures
+    backend_lost c.in-Pass.machine c.aaa_timeout_step-step.new.self _
+    c.aaa_timeout_step-step.ensures

@@ -8,6 +8,6 @@ use Rattle.tuvaddri_c.specs.declared.session.Session.{Session}
 
 pub returns-in-Pass-clause-settled : goal.returns-in-Pass-clause-settled
 returns-in-Pass-clause-settled c before =
-    peer_passed c.in-Pass.machine c.from_peer_step-step.new.self _ c.args.octets.now c.from_peer_step-step.ensures.step
-    (subst (λ (e : End). is_settled e ≡ true) c.in-Pass.is
+    peer_passed c.in-Pass.machine c.from_peer_step-step.new.self _ c.args.octets.now
+    c.from_peer_step-step.ensures.step (subst (λ (e : End). is_settled e ≡ true) c.in-Pass.is
     (subst (λ (s : Session). is_settled s.end ≡ true) (sym c.session-session.ensures.value) before))

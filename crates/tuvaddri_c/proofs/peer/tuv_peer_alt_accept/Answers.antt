@@ -8,6 +8,6 @@ use Rattle.tuvaddri_c.specs.declared.session.Session.{Session}
 
 pub returns-in-Peer-clause-settled : goal.returns-in-Peer-clause-settled
 returns-in-Peer-clause-settled c before =
-    peer_accepted c.in-Peer.machine c.alt_accept_step-step.new.self _ c.alt_accept_step-step.ensures.step
-    (subst (λ (e : End). is_settled e ≡ true) c.in-Peer.is
+    peer_accepted c.in-Peer.machine c.alt_accept_step-step.new.self _
+    c.alt_accept_step-step.ensures.step (subst (λ (e : End). is_settled e ≡ true) c.in-Peer.is
     (subst (λ (s : Session). is_settled s.end ≡ true) (sym c.session-session.ensures.value) before))

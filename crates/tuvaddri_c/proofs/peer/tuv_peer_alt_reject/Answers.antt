@@ -4,4 +4,5 @@ use Rattle.tuvaddri_c.proofs.peer.tuv_peer_alt_reject.Goals as goal
 
 pub returns-in-Peer-clause-settled : goal.returns-in-Peer-clause-settled
 returns-in-Peer-clause-settled c before =
-    peer_rejected c.in-Peer.machine c.alt_reject_step-step.new.self _ c.alt_reject_step-step.ensures.step
+    peer_rejected c.in-Peer.machine c.alt_reject_step-step.new.self _
+    c.alt_reject_step-step.ensures.step

@@ -4,8 +4,10 @@ use Rattle.tuvaddri_c.proofs.restart.restart_server.Goals as goal
 
 pub returns-in-Server-clause-settled : goal.returns-in-Server-clause-settled
 returns-in-Server-clause-settled c before =
-    server_restarted c.in-Server.machine c.restart_step-step.new.self _ c.args.nonce.now c.restart_step-step.ensures.step
+    server_restarted c.in-Server.machine c.restart_step-step.new.self _ c.args.nonce.now
+    c.restart_step-step.ensures.step
 
 pub returns-in-Backend-clause-settled : goal.returns-in-Backend-clause-settled
 returns-in-Backend-clause-settled c before =
-    server_restarted c.in-Backend.machine c.restart_step-step-in-Backend.new.self _ c.args.nonce.now c.restart_step-step-in-Backend.ensures.step
+    server_restarted c.in-Backend.machine c.restart_step-step-in-Backend.new.self _ c.args.nonce.now
+    c.restart_step-step-in-Backend.ensures.step

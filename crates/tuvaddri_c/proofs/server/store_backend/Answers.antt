@@ -9,4 +9,8 @@ pub returns-in-Backend-clause-initial : goal.returns-in-Backend-clause-initial
 unfolding server_setup_of
 returns-in-Backend-clause-initial c =
     let told = settings_of c.args.settings.now in
-    search (server_started_with role.Backend told c.args.nonce.now c.server_alone.result 0 0 c.unbegun.result, rules)
+    search (
+      server_started_with role.Backend told c.args.nonce.now c.server_alone.result 0 0
+          c.unbegun.result,
+      rules,
+    )

@@ -9,4 +9,8 @@ pub returns-in-Server-clause-initial : goal.returns-in-Server-clause-initial
 unfolding server_setup_of
 returns-in-Server-clause-initial c =
     let told = settings_of c.args.settings.now in
-    search (server_started_with role.StandAlone told c.args.nonce.now c.server_alone.result c.args.first_id c.args.max_retrans c.unbegun.result, rules)
+    search (
+      server_started_with role.StandAlone told c.args.nonce.now c.server_alone.result
+          c.args.first_id c.args.max_retrans c.unbegun.result,
+      rules,
+    )

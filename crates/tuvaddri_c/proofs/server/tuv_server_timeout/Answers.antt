@@ -8,6 +8,6 @@ use Rattle.tuvaddri_c.specs.declared.session.Session.{Session}
 
 pub returns-in-Server-clause-settled : goal.returns-in-Server-clause-settled
 returns-in-Server-clause-settled c before =
-    server_timed_out c.in-Server.machine c.timeout_step-step.new.self _ c.timeout_step-step.ensures.step
-    (subst (λ (e : End). is_settled e ≡ true) c.in-Server.is
+    server_timed_out c.in-Server.machine c.timeout_step-step.new.self _
+    c.timeout_step-step.ensures.step (subst (λ (e : End). is_settled e ≡ true) c.in-Server.is
     (subst (λ (s : Session). is_settled s.end ≡ true) (sym c.session-session.ensures.value) before))

@@ -17,10 +17,12 @@ returns-in-Ok g c =
     let nothing_read : Reading = record { phase = Unread; settings = no_settings } in
     let begun : ReplayNow = record { names = c.args.names; reader = nothing_read; world = None } in
     reads_after trace_header c.in-Ok.ensures.writes c.in-Ok.ensures.uncounted
-    (λ octets. ap (after_text trace_header) (sym (answers_before begun (lines octets) 0 nothing_read (AtUnread refl))))
-    (λ may octets e. lacks_only_with_setup begun (lines octets) 0 nothing_read (AtUnread refl) (may octets e))
-    (rw c.new-command.ensures at c.drive.ensures.responds)
+    (λ octets. ap (after_text trace_header)
+    (sym (answers_before begun (lines octets) 0 nothing_read (AtUnread refl))))
+    (λ may octets e. lacks_only_with_setup begun (lines octets) 0 nothing_read (AtUnread refl)
+    (may octets e)) (rw c.new-command.ensures at c.drive.ensures.responds)
 
 pub returns-in-Err : goal.returns-in-Err
 unfolding Appends
-returns-in-Err g c = cut (λ octets e. front_first _ _ _ _ c.in-Err.ensures.writes) refl refl c.in-Err.ensures.counted
+returns-in-Err g c =
+    cut (λ octets e. front_first _ _ _ _ c.in-Err.ensures.writes) refl refl c.in-Err.ensures.counted

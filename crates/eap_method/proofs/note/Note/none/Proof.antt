@@ -25,7 +25,8 @@ made_value = vstruct vnil
 
 pub none_spec : {M : Type 1} → statement M
 none_spec 𝓤 𝓛 𝓜 𝓡 wired =
-    let c = f.clauses 𝓛 𝓜.mem 𝓡.returns in let W = walk_of 𝓛 f.ended stayed c in let 𝓣 = tables 𝓤 𝓛.H 𝓜 𝓡 𝓡.env in
+    let c = f.clauses 𝓛 𝓜.mem 𝓡.returns in let W = walk_of 𝓛 f.ended stayed c in
+    let 𝓣 = tables 𝓤 𝓛.H 𝓜 𝓡 𝓡.env in
     proved 𝓛 f.ended stayed c 𝓜 𝓡 tt
     f.Key.name code.function (code.unfolded 𝓤 𝓛.H 𝓜 𝓡 wired)
     (λ κs. tt) (λ κs. tt) (λ κs qs bounds a _ are.
@@ -36,7 +37,7 @@ none_spec 𝓤 𝓛 𝓜 𝓡 wired =
     enter ! _ _ _ _ _ $ alloc_all ! (λ l. pass_all ! refl tt $
     sets ! (agg ! (no_more !)) refl (tt, tt) $
     nothing ! $ nothing ! $ feq_i ! (List Val) (made_value ∷ []) (made_value ∷ []) refl $ fjoin ! $
-    fpack ! (Valss []) (within (record { name = []; args = []; types = []; fields = [] }) tt (made_value ∷ [])) tt $ fjoin ! $
-    returns ! (look_at ! 0 refl) $ free_all ! refl $
+    fpack ! (Valss []) (within (record { name = []; args = []; types = []; fields = [] }) tt
+    (made_value ∷ [])) tt $ fjoin ! $ returns ! (look_at ! 0 refl) $ free_all ! refl $
     suffices ! _ (ends_at 𝓛 f.ended stayed c y made_value made tt tt) $ says ! refl $
     nothing ! $ move ! (2 ∷ 0 ∷ 1 ∷ []) $ done !))

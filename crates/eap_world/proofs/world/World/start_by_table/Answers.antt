@@ -6,8 +6,10 @@ use Rattle.eap_world.proofs.world.World.start_by_table.Goals as goal
 pub invariant_of-self-2 : goal.invariant_of-self-2
 invariant_of-self-2 g c =
     let was = c.self.invariant in
-    let unstarted : c.self.inside.started ≡ false = ap (λ (w : WorldValue _ _). w.started) c.self.view_is ∙ c.requires in
-    let serving = start_serves _ _ _ c.start-action.ensures.acts was.role (was.unstarted unstarted) in
+    let unstarted : c.self.inside.started ≡ false =
+    ap (λ (w : WorldValue _ _). w.started) c.self.view_is ∙ c.requires in
+    let serving =
+    start_serves _ _ _ c.start-action.ensures.acts was.role (was.unstarted unstarted) in
     record {
       few_events = was.few_events;
       few_sent = search rules;

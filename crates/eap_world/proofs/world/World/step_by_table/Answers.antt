@@ -6,8 +6,10 @@ use Rattle.eap_world.proofs.world.World.step_by_table.Goals as goal
 pub invariant_of-self-2 : goal.invariant_of-self-2
 invariant_of-self-2 g c =
     let was = c.self.invariant in
-    let begun : c.self.inside.started ≡ true = ap (λ (w : WorldValue _ _). w.started) c.self.view_is ∙ c.requires.started in
-    let serving = act_serves _ _ _ _ _ _ c.act-action.ensures.acts (record { role = was.role; ready = was.ready begun }) in
+    let begun : c.self.inside.started ≡ true =
+    ap (λ (w : WorldValue _ _). w.started) c.self.view_is ∙ c.requires.started in
+    let serving = act_serves _ _ _ _ _ _ c.act-action.ensures.acts
+    (record { role = was.role; ready = was.ready begun }) in
     record {
       few_events = search rules;
       few_sent = search rules;

@@ -11,7 +11,8 @@ returns-clause-stored c =
     let held_is : c.as_slice-held.result.now ≡ held = cc in
     let room : length frame ≤ max_stored = omega arith in
     let kept : c.min-kept.result ≡ min count (max_stored - length frame) = omega arith in
-    let put : c.put.new.self ≡ frame ++ take (min count (max_stored - length frame)) held = rw (held_is, kept) at c.put.ensures in
+    let put : c.put.new.self ≡ frame ++ take (min count (max_stored - length frame)) held =
+    rw (held_is, kept) at c.put.ensures in
     let frame_now : c.args.self.now.frame ≡ frame = cc in
     let held_now : c.args.self.now.held ≡ held = cc in
     rw (frame_now, held_now, put) (kept_part max_stored frame held count room)

@@ -3,4 +3,5 @@ use Rattle.scenario_text.proofs.ValidReading.{peer_setup_of_valid}
 use Rattle.end_pipe.proofs.reader.EndReader.peer_setup.Goals as goal
 
 pub returns-clause-valid : goal.returns-clause-valid
-returns-clause-valid c = rw c.peer.ensures (peer_setup_of_valid c.self.inside.settings c.self.invariant)
+returns-clause-valid c =
+    rw c.peer.ensures (peer_setup_of_valid c.self.inside.settings c.self.invariant)

@@ -9,10 +9,12 @@ use Rattle.end_pipe.proofs.reader.EndReaderText.add.Goals as goal
 
 pub invariant_of-self : goal.invariant_of-self
 invariant_of-self c =
-    subst AreValid (sym c.set.ensures) (with_setting_valid c.self.inside.settings c.in-Set.setting c.self.invariant (rw c.in-Set.is at c.requires.valid))
+    subst AreValid (sym c.set.ensures) (with_setting_valid c.self.inside.settings c.in-Set.setting
+    c.self.invariant (rw c.in-Set.is at c.requires.valid))
 
 pub returns-in-Events-clause-so : goal.returns-in-Events-clause-so
 returns-in-Events-clause-so c =
     let IsSo : EndReading → Type 0 = λ r. AreWhole r.role r.settings in
-    let is_there : lacks_some c.args.self.now.role c.args.self.now.settings ≡ false = rw c.in-Events.is at (c.requires.none_missing inputs.Idle) in
+    let is_there : lacks_some c.args.self.now.role c.args.self.now.settings ≡ false =
+    rw c.in-Events.is at (c.requires.none_missing inputs.Idle) in
     subst IsSo (sym c.self.view_is) (whole c.args.self.now.role c.args.self.now.settings is_there)

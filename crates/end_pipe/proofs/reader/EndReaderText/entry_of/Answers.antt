@@ -5,4 +5,5 @@ use Rattle.end_pipe.proofs.reader.EndReaderText.entry_of.Goals as goal
 
 pub returns-clause-valid : goal.returns-clause-valid
 returns-clause-valid c =
-    read_valid c.args.word (words c.args.line.now) c.entry_of.result c.entry_of.new.input c.requires c.entry_of.ensures
+    read_valid c.args.word (words c.args.line.now)
+    c.entry_of.result c.entry_of.new.input c.requires c.entry_of.ensures

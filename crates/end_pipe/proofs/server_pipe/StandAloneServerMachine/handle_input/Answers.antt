@@ -8,13 +8,15 @@ use Rattle.end_pipe.proofs.server_pipe.StandAloneServerMachine.handle_input.Goal
 pub invariant_of-self : goal.invariant_of-self
 invariant_of-self g c =
     let shown = g.M.ServerMethod.server_shown in
-    (still_serves (now_of shown c.self.inside.machine) (now_of shown c.deliver_step.new.self) (Some (octets c.as_slice.result.now)) _ c.deliver_step.ensures.step
+    (still_serves (now_of shown c.self.inside.machine) (now_of shown c.deliver_step.new.self)
+    (Some (octets c.as_slice.result.now)) _ c.deliver_step.ensures.step
     (record { role = c.self.invariant; started = rw c.self.view_is c.requires.running })).role
 
 pub returns-in-Octets-clause-running : goal.returns-in-Octets-clause-running
 returns-in-Octets-clause-running g c =
     let shown = g.M.ServerMethod.server_shown in
-    (still_serves (now_of shown c.self.inside.machine) (now_of shown c.deliver_step.new.self) (Some (octets c.as_slice.result.now)) _ c.deliver_step.ensures.step
+    (still_serves (now_of shown c.self.inside.machine) (now_of shown c.deliver_step.new.self)
+    (Some (octets c.as_slice.result.now)) _ c.deliver_step.ensures.step
     (record { role = c.self.invariant; started = rw c.self.view_is c.requires.running })).started
 
 pub invariant_of-self-in-Timeout : goal.invariant_of-self-in-Timeout

@@ -6,4 +6,5 @@ use Rattle.gpsk_ends.proofs.peer.turns.repeat_fail.Goals as goal
 
 pub returns-clause-capacity : goal.returns-clause-capacity
 returns-clause-capacity g c =
-    message_has_capacity code.Response c.args.id (fail c.args.code) c.write_gpsk_into.new.packet refl (omega arith) c.write_gpsk_into.ensures
+    message_has_capacity code.Response c.args.id (fail c.args.code)
+    c.write_gpsk_into.new.packet refl (omega arith) c.write_gpsk_into.ensures

@@ -7,4 +7,5 @@ use Rattle.gpsk_ends.proofs.server.gpsk2.refuse.Goals as goal
 
 pub returns-clause-capacity : goal.returns-clause-capacity
 returns-clause-capacity g c =
-    message_has_capacity code.Request c.args.next_id (fail psk_not_found) c.write_gpsk_into.new.packet refl (omega arith) c.write_gpsk_into.ensures
+    message_has_capacity code.Request c.args.next_id (fail psk_not_found)
+    c.write_gpsk_into.new.packet refl (omega arith) c.write_gpsk_into.ensures

@@ -7,5 +7,6 @@ pub invariant_of-self : goal.invariant_of-self
 invariant_of-self g c =
     let none = none_copied c.find.result c.is_some.result c.is_some.ensures c.if-is_some.false in
     let absent : user_of c.self.inside.list.items c.args.user.name c.args.user.kind ≡ None = cc in
-    let pushed : AreUsers (c.self.inside.list.items ++ c.args.user ∷ []) = AreUsers_push c.self.inside.list.items c.args.user c.self.invariant absent (grind arith) in
+    let pushed : AreUsers (c.self.inside.list.items ++ c.args.user ∷ []) =
+    AreUsers_push c.self.inside.list.items c.args.user c.self.invariant absent (grind arith) in
     rw c.push.ensures.items pushed

@@ -15,6 +15,7 @@ returns-then-is_empty-clause-lines c left nothing =
 pub returns-else-is_empty-clause-lines : goal.returns-else-is_empty-clause-lines
 returns-else-is_empty-clause-lines c left nothing =
     let some : c.args.self.now.line ≢ [] =
-    λ empty. let inside_empty : c.self.inside.line ≡ [] = ap (λ (r : LineReading). r.line) c.self.view_is ∙ empty in
+    λ empty. let inside_empty : c.self.inside.line ≡ [] =
+    ap (λ (r : LineReading). r.line) c.self.view_is ∙ empty in
     true_false c.is_empty.result (c.is_empty.ensures.1 inside_empty) c.if-is_empty.false in
     ends_last_line c.args.self.now left c.requires some nothing

@@ -8,4 +8,5 @@ use Rattle.request_text.proofs.capture.CaptureReaderText.add.Goals as goal
 pub invariant_of-self : goal.invariant_of-self
 invariant_of-self c =
     let HasItsKey : User → Type 0 = λ user. IsTrue (is_valid_for user.kind user.psk) in
-    subst (All HasItsKey) (sym c.add_user.ensures) (with_user_all HasItsKey c.self.inside.users c.in-User.user c.self.invariant (rw c.in-User.is at c.requires.valid))
+    subst (All HasItsKey) (sym c.add_user.ensures) (with_user_all HasItsKey c.self.inside.users
+    c.in-User.user c.self.invariant (rw c.in-User.is at c.requires.valid))

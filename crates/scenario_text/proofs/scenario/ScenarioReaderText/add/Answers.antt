@@ -8,10 +8,12 @@ use Rattle.scenario_text.proofs.scenario.ScenarioReaderText.add.Goals as goal
 
 pub invariant_of-self : goal.invariant_of-self
 invariant_of-self c =
-    subst AreValid (sym c.set.ensures) (with_setting_valid c.self.inside.settings c.in-Set.setting c.self.invariant (rw c.in-Set.is at c.requires.valid))
+    subst AreValid (sym c.set.ensures) (with_setting_valid c.self.inside.settings c.in-Set.setting
+    c.self.invariant (rw c.in-Set.is at c.requires.valid))
 
 pub returns-in-Events-clause-so : goal.returns-in-Events-clause-so
 returns-in-Events-clause-so c =
     let IsWhole : Reading → Type 0 = λ r. IsOk (setup_of r.settings) in
-    let is_there : is_err (setup_of c.args.self.now.settings) ≡ false = rw c.in-Events.is at (c.requires.none_missing event.Idle) in
+    let is_there : is_err (setup_of c.args.self.now.settings) ≡ false =
+    rw c.in-Events.is at (c.requires.none_missing event.Idle) in
     subst IsWhole (sym c.self.view_is) (whole (setup_of c.args.self.now.settings) is_there)

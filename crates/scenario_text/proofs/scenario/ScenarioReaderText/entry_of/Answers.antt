@@ -7,4 +7,5 @@ use Rattle.scenario_text.proofs.scenario.ScenarioReaderText.entry_of.Goals as go
 
 pub returns-clause-valid : goal.returns-clause-valid
 returns-clause-valid c =
-    valid_reported c.item_of.result c.item_of.new.event (subst IsValidEntry c.item_of.ensures (item_of_valid c.args.word (words c.args.line.now) c.requires))
+    valid_reported c.item_of.result c.item_of.new.event (subst IsValidEntry c.item_of.ensures
+    (item_of_valid c.args.word (words c.args.line.now) c.requires))

@@ -9,7 +9,8 @@ pub returns-in-None-clause-step : goal.returns-in-None-clause-step
 returns-in-None-clause-step g c =
     let inside = c.self.inside in
     rw (← c.self.view_is)
-    (none_settles (before_proposal c.args.way) inside.vars c.end_badly.new.vars (map g.M.ServerMethod.server_shown inside.methods.items) c.args.id
+    (none_settles (before_proposal c.args.way) inside.vars c.end_badly.new.vars
+    (map g.M.ServerMethod.server_shown inside.methods.items) c.args.id
     (option_copied c.args.desired) (step_with c.end_badly.result c.end_badly.new.packet no_tags)
     c.in-None.ensures c.end_badly.ensures.step c.end_badly.ensures.setup)
 
@@ -19,7 +20,8 @@ returns-in-Some-clause-step g c =
     let shown = g.M.ServerMethod.server_shown in
     let first = c.write_first-has_first in
     rw (← c.self.view_is)
-    (offer_settles (before_proposal c.args.way) inside.vars c.settle_offer.new.vars (map shown inside.methods.items)
-    (map shown first.new.methods.items) c.args.id c.in-Some.kind (option_copied c.args.desired) (if first.result then Some first.new.packet else None)
+    (offer_settles (before_proposal c.args.way) inside.vars c.settle_offer.new.vars
+    (map shown inside.methods.items) (map shown first.new.methods.items) c.args.id c.in-Some.kind
+    (option_copied c.args.desired) (if first.result then Some first.new.packet else None)
     (step_with c.settle_offer.result c.settle_offer.new.packet no_tags)
     c.in-Some.ensures first.ensures.offer c.settle_offer.ensures.step c.settle_offer.ensures.setup)

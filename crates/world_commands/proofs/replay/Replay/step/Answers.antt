@@ -9,5 +9,6 @@ returns-clause-ready_after g c =
     let peer_shown = g.P.PeerMethod.peer_shown in
     let server_shown = g.S.ServerMethod.server_shown in
     ready_in peer_shown server_shown _ c.step_brief.new.self refl
-    (step_starts _ (now_of peer_shown server_shown c.step_brief.new.self) c.args.event.now c.in-Ok.told c.in-Ok.ensures.reported)
+    (step_starts _ (now_of peer_shown server_shown c.step_brief.new.self)
+    c.args.event.now c.in-Ok.told c.in-Ok.ensures.reported)
     c.step_brief.ensures.objects
