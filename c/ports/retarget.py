@@ -48,6 +48,8 @@ PORTS = {
     "riscv64-unknown-linux-gnu": Port("riscv64-unknown-linux-gnu", RISCV64, 8, RV64, "", "riscv64-linux-gnu-gcc"),
     "riscv32-unknown-none-elf": Port("riscv32-unknown-none-elf", RISCV32, 4, RV32, "", "riscv64-unknown-elf-gcc", False),
 }
+# (half of what clang inlines for size otherwise: a peer has 3 KB less)
+CORTEX = ("-Os", "-mllvm", "-inline-threshold=25")
 for name, triple, cpu in (
     ("thumbv6m-none-eabi", "thumbv6m", "cortex-m0"),
     ("thumbv7m-none-eabi", "thumbv7m", "cortex-m3"),
@@ -55,7 +57,7 @@ for name, triple, cpu in (
     ("thumbv7em-none-eabi-cached", "thumbv7em", "cortex-m7"),
 ):
     words = (f"-mcpu={cpu}", "-mthumb", "-mfloat-abi=soft")
-    PORTS[name] = Port(f"{triple}-none-unknown-eabi", ARM, 4, words, "", "arm-none-eabi-gcc", False)
+    PORTS[name] = Port(f"{triple}-none-unknown-eabi", ARM, 4, words, "", "arm-none-eabi-gcc", False, CORTEX)
 SHUFFLE = "@llvm.x86.ssse3.pshuf.b.128"
 # The function that says whether the processor shuffles octets.
 CHOICE = re.compile(r'^(define internal [^@\n]*\bi1 @"aes_block::processor::shuffles"\(\)[^\n]*\{\n)(.*?^\}\n)', re.S | re.M)
