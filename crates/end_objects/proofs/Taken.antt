@@ -9,8 +9,8 @@ use Rattle.std.proofs.lemmas.List.Folds.{list_all-map}
 use Rattle.std.proofs.lemmas.List.Sums.{AllPass-from_list_all, list_all-from_AllPass}
 use Rattle.octet_lists.specs.Among.{psk_kind, gpsk_kind, is_kind, is_among, are_distinct, is_filled}
 use Rattle.octet_lists.specs.Sizes.{max_name}
-use Rattle.login_setup.specs.Setup.{key_of, are_kinds, are_suites, is_valid_for, IsSoundPeer}
-use Rattle.login_setup.specs.Setup.{HasKeys, IsSoundServer}
+use Rattle.login_setup.specs.Setup.{are_kinds, are_suites, has_key, is_method_kind, is_valid_for}
+use Rattle.login_setup.specs.Setup.{HasKeys, IsSoundPeer, IsSoundServer}
 use Rattle.login_setup.specs.declared.setup.PeerSetup.{PeerSetup}
 use Rattle.login_setup.specs.declared.users.User.{User}
 use Rattle.end_objects.specs.Settings.{SettingsValue, or_else, kind_if, keyed_kinds, named_kinds}
@@ -23,11 +23,10 @@ use Rattle.end_objects.specs.Refusals.{has_key_of_user, end_refusal, peer_refusa
 use Rattle.end_objects.specs.Refusals.{user_refusal, IsSoundOther}
 use Rattle.eap_method.specs.Peer.{have_each}
 use Rattle.eap_method.proofs.Amongs.{each_one}
-use Rattle.login_setup.specs.Soundness.{is_sound_user}
 use Rattle.end_objects.specs.declared.refusals.Refusal.{Refusal}
 use Rattle.end_objects.specs.declared.refusals.Refusal.TheVariants as refusal
 use Rattle.end_objects.proofs.AllKinds.{both_fit, key_size}
-use Rattle.login_setup.proofs.Sound.{kind_of_key, have_keys, have_kinds}
+use Rattle.login_setup.proofs.Sound.{kinds_are_of_methods}
 
 -- ---- tests
 
@@ -186,7 +185,7 @@ unfolding peer_setup_of
 peer_is_sound told nonce none =
     let p = peer_passes told none in
     let both = both_fit told (keys_are_valid (kinds_of told) told p.keys) in record {
-      methods = p.kinds;
+      methods = kinds_are_of_methods (kinds_of told) p.kinds;
       suites = p.suites;
       psk47 = both.0;
       psk51 = both.1;
@@ -200,10 +199,10 @@ kind_is_keyed told kind none is = each_one (is_among (keyed_kinds told)) (kinds_
 
 -- there is a key for each method that has octets of one
 keyed_have : (setup : PeerSetup) (psk gpsk : List ℕ)
-    → list_all (λ kind. is_some (key_of (record setup {
+    → list_all (has_key (record setup {
       psk47 = key_or_none psk;
       psk51 = key_or_none gpsk;
-    }) kind)) (kind_if gpsk gpsk_kind ++ kind_if psk psk_kind) ≡ true
+    })) (kind_if gpsk gpsk_kind ++ kind_if psk psk_kind) ≡ true
 keyed_have setup [] [] = refl
 keyed_have setup [] (octet ∷ rest) = refl
 keyed_have setup (octet ∷ rest) [] = refl
@@ -213,7 +212,7 @@ pub peer_has_keys : (told : SettingsValue) (nonce : List ℕ) → peer_refusal t
     → HasKeys (peer_setup_of told nonce)
 unfolding peer_setup_of keyed_kinds
 peer_has_keys told nonce none =
-    let has : ℕ → Bool = λ kind. is_some (key_of (peer_setup_of told nonce) kind) in
+    let has : ℕ → Bool = has_key (peer_setup_of told nonce) in
     let keyed = are_keyed (kinds_of told) told (peer_passes told none).keys in
     list_all-from_AllPass has (kinds_of told) (λ k d below.
     each_one has (keyed_kinds told) (slice_index_or (kinds_of told) k d)
@@ -264,38 +263,55 @@ pub user_key_size : (told : SettingsValue) (kind : ℕ) → IsSoundOther told
     → length (key_for told kind) ≤ 64
 user_key_size told kind other is = key_size told kind (keys_are_valid [] told other.keys)
 
-pub user_is_known : (told : SettingsValue) (kind : ℕ) → IsSoundOther told
-    → is_among (keyed_kinds told) kind ≡ true → is_kind kind ≡ true
-user_is_known told kind other is =
-    kind_of_key kind (key_for told kind) (user_key_is_valid told kind other is)
+-- a method for which there is a key is one of the two
+known_if : (gpsk psk : List ℕ) → list_all is_kind (kind_if gpsk gpsk_kind ++ kind_if psk psk_kind)
+    ≡ true
+known_if [] [] = refl
+known_if [] (octet ∷ rest) = refl
+known_if (octet ∷ rest) [] = refl
+known_if (octet ∷ rest) (other ∷ more) = refl
 
-sound_if : (there : Bool) (users : List User) → list_all is_sound_user users ≡ true
-    → list_all is_sound_user (if there then users else []) ≡ true
-sound_if true users h = h
-sound_if false users h = refl
+keyed_are_known : (told : SettingsValue) → list_all is_kind (keyed_kinds told) ≡ true
+unfolding keyed_kinds
+keyed_are_known told = known_if told.gpsk_key told.psk_key
 
-users_are_sound : (told : SettingsValue) → IsSoundOther told
-    → list_all is_sound_user (users_of told) ≡ true
+pub user_is_known : (told : SettingsValue) (kind : ℕ) → is_among (keyed_kinds told) kind ≡ true
+    → is_kind kind ≡ true
+user_is_known told kind is = each_one is_kind (keyed_kinds told) kind (keyed_are_known told) is
+
+-- a test that the user of each such method passes is passed by the users
+pass_if : (passes : User → Bool) (there : Bool) (users : List User) → list_all passes users ≡ true
+    → list_all passes (if there then users else []) ≡ true
+pass_if passes true users h = h
+pass_if passes false users h = refl
+
+users_pass : (passes : User → Bool) (told : SettingsValue)
+    → list_all (λ kind. passes (user_with told kind)) (keyed_kinds told) ≡ true
+    → list_all passes (users_of told) ≡ true
 unfolding users_of
-users_are_sound told other =
-    sound_if (is_filled told.other) (map (user_with told) (keyed_kinds told))
-    (list_all-map is_sound_user (user_with told) (keyed_kinds told)
-    ∙ keys_are_valid [] told other.keys)
+users_pass passes told each =
+    pass_if passes (is_filled told.other) (map (user_with told) (keyed_kinds told))
+    (list_all-map passes (user_with told) (keyed_kinds told) ∙ each)
 
 pub users_have_keys : (told : SettingsValue) → IsSoundOther told
     → All (λ user. IsTrue (is_valid_for user.kind user.psk)) (users_of told)
-users_have_keys told other = have_keys (users_of told) (users_are_sound told other)
+users_have_keys told other =
+    let has_key : User → Bool = λ user. is_valid_for user.kind user.psk in
+    AllPass-from_list_all has_key (users_of told)
+    (users_pass has_key told (keys_are_valid [] told other.keys))
 
-pub users_have_kinds : (told : SettingsValue) → IsSoundOther told
+pub users_have_kinds : (told : SettingsValue)
     → All (λ user. IsTrue (is_kind user.kind)) (users_of told)
-users_have_kinds told other = have_kinds (users_of told) (users_are_sound told other)
+users_have_kinds told = let is_known : User → Bool = λ user. is_kind user.kind in
+    AllPass-from_list_all is_known (users_of told)
+    (users_pass is_known told (keyed_are_known told))
 
 pub alone_is_sound : (told : SettingsValue) (nonce : List ℕ) → server_refusal told ≡ None
     → IsSoundServer (record (server_setup_of told nonce) { users = [] })
 unfolding server_setup_of
 alone_is_sound told nonce none = let p = server_passes told none in record {
-  methods = p.kinds;
+  methods = kinds_are_of_methods (kinds_of told) p.kinds;
   suites = p.suites;
-  kinds = All-nil (λ (user : User). IsTrue (is_kind user.kind));
+  kinds = All-nil (λ (user : User). IsTrue (is_method_kind user.kind));
   keys = All-nil (λ (user : User). IsTrue (is_valid_for user.kind user.psk));
 }

@@ -10,3 +10,5 @@ mod Finding
 mod Firsts
 -- Worked values of the definitions of Expanded Naks.
 mod Worked
+-- The Types that a server has proposed, of its order and each at most once.
+pub mod Proposed

@@ -1,7 +1,8 @@
 //! What a peer allows and desires, which suite it picks, and which method the server proposes next.
 
-ghost use Rattle.std.specs.Prelude.{◌≡◌, ◌&&◌, not, None, option_copied};
-ghost use Rattle.octet_lists.specs.Among.{is_among};
+ghost use Rattle.std.specs.Prelude.{◌≡◌, ◌<◌, ◌&&◌, not, true, None, option_copied, length, IsSome};
+ghost use Rattle.std.specs.List.{list_all};
+ghost use Rattle.octet_lists.specs.Among.{is_among, are_distinct};
 ghost use Rattle.login_policy.specs.Policy.{nak_of, picked_suite, is_allowed, suite_or, is_desired};
 ghost use Rattle.login_policy.specs.Policy.{next_kind};
 
@@ -63,13 +64,23 @@ fn is_allowed(allowed: &Suites, entry: &[u8], suite: Suite) -> bool
 }
 
 /// The first Type of the server's order that is not yet proposed and that the peer's Nak, if one has
-/// come, desires (RFC 3748 section 5.3.1); None if there is none.
-#[tactic(auto, unfolding(crate::specs::Policy::next_kind))]
+/// come, desires (RFC 3748 section 5.3.1); None if there is none. It finds room among those proposed, if these are of
+/// the order, each once.
+#[tactic(auto, using(crate::proofs::Proposed::next_has_capacity))]
 pub fn next_method(order: &Kinds, proposed: &Kinds, nak: Option<&[u8]>) -> Option<u8>
+    ensures next { result ≡ next_kind order.now proposed.now (option_copied nak.entry) }
+    ensures capacity { IsSome result → are_distinct proposed.now ≡ true
+        → list_all (is_among order.now) proposed.now ≡ true → length proposed.now < 2 }
+{
+    first_open(order.as_slice(), proposed, nak)
+}
+
+/// The first Type of these that is not yet proposed and that a Nak, if one has come, desires.
+#[tactic(auto, unfolding(crate::specs::Policy::next_kind))]
+fn first_open(order: &[u8], proposed: &Kinds, nak: Option<&[u8]>) -> Option<u8>
     ensures { result ≡ next_kind order.now proposed.now (option_copied nak.entry) }
 {
     order
-        .as_slice()
         .iter()
         .copied()
         .find(|kind| is_open(proposed, nak, *kind))

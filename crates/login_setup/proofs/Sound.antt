@@ -1,38 +1,60 @@
--- Users pass their test exactly where each is of one of the two methods and has a key that fits it.
-use Rattle.std.proofs.Common.{◌≡◌, ℕ, List, length, Bool, true, false, refl, IsTrue, slice_index_or}
-use Rattle.std.specs.Prelude.{◌&&◌, ◌||◌, ◌==◌, if◌then◌else◌, nat_le, All}
+-- Users pass their test exactly where each is of a method and has a key that fits it; Types of the
+-- two methods are Types of methods.
+use Rattle.std.proofs.Common.{◌≡◌, ℕ, ◌<◌, List, [], ◌∷◌, length, Bool, true, refl, IsTrue, inl, inr}
+use Rattle.std.proofs.Common.{slice_index_or, subst, sym}
+use Rattle.std.specs.Prelude.{◌&&◌, ◌||◌, ◌==◌, All}
 use Rattle.std.specs.List.{list_all}
+use Rattle.std.proofs.lemmas.Bool.{and_parts, and_from, or_cases, eqb-true}
 use Rattle.std.proofs.lemmas.List.Sums.{AllPass-from_list_all, list_all-from_AllPass}
 use Rattle.login_setup.specs.declared.users.User.{User}
-use Rattle.octet_lists.specs.Among.{psk_kind, gpsk_kind, is_kind}
-use Rattle.login_setup.specs.Setup.{is_valid_for}
+use Rattle.octet_lists.specs.Among.{psk_kind, gpsk_kind, is_kind, are_distinct}
+use Rattle.login_setup.specs.Setup.{is_valid_for, is_method_kind, are_kinds, are_method_kinds}
 use Rattle.login_setup.specs.Soundness.{is_sound_user}
 
--- a key that fits is of one of the two methods
+-- where users pass, each is of a method, and has a key that fits it
+module _ (users : List User) (ok : list_all is_sound_user users ≡ true) where
+  parts : (k : ℕ) (d : User) → k < length users
+      → (is_method_kind (slice_index_or users k d).kind ≡ true)
+      × (is_valid_for (slice_index_or users k d).kind (slice_index_or users k d).psk ≡ true)
+  parts k d below =
+      let user = slice_index_or users k d in
+      and_parts (is_method_kind user.kind) (is_valid_for user.kind user.psk)
+      (AllPass-from_list_all is_sound_user users ok k d below)
 
-one_of_both : (psk gpsk short wide : Bool) → (if psk then short else (gpsk && wide)) ≡ true
-    → (psk || gpsk) ≡ true
-one_of_both true gpsk short wide fits = refl
-one_of_both false true short wide fits = refl
-one_of_both false false short wide fits = absurd (cc fits)
+  pub have_keys : All (λ user. IsTrue (is_valid_for user.kind user.psk)) users
+  have_keys = λ k d below. (parts k d below).1
 
-pub kind_of_key : (kind : ℕ) (key : List ℕ) → is_valid_for kind key ≡ true → is_kind kind ≡ true
-kind_of_key kind key fits =
-    one_of_both (kind == psk_kind) (kind == gpsk_kind) (length key == 16)
-    (nat_le 32 (length key) && nat_le (length key) 64) fits
+  pub have_kinds : All (λ user. IsTrue (is_method_kind user.kind)) users
+  have_kinds = λ k d below. (parts k d below).0
 
--- where users pass, each has a key that fits, and is so of one of the two methods
-pub have_keys : (users : List User) → list_all is_sound_user users ≡ true
+-- a list of users of methods whose keys fit passes
+pub passes : (users : List User) → All (λ user. IsTrue (is_method_kind user.kind)) users
     → All (λ user. IsTrue (is_valid_for user.kind user.psk)) users
-have_keys users ok = AllPass-from_list_all is_sound_user users ok
-
-pub have_kinds : (users : List User) → list_all is_sound_user users ≡ true
-    → All (λ user. IsTrue (is_kind user.kind)) users
-have_kinds users ok = λ k d below.
-    let user =
-    slice_index_or users k d in kind_of_key user.kind user.psk (have_keys users ok k d below)
-
--- a list of users whose keys fit passes
-pub passes : (users : List User) → All (λ user. IsTrue (is_valid_for user.kind user.psk)) users
     → list_all is_sound_user users ≡ true
-passes users keys = list_all-from_AllPass is_sound_user users keys
+passes users kinds keys = list_all-from_AllPass is_sound_user users (λ k d below.
+    let user = slice_index_or users k d in
+    and_from (is_method_kind user.kind) (is_valid_for user.kind user.psk) (kinds k d below)
+    (keys k d below))
+
+-- the Types of the two methods are Types of methods
+pub kind_is_of_method : (kind : ℕ) → is_kind kind ≡ true → is_method_kind kind ≡ true
+kind_is_of_method kind is =
+    elim (or_cases (kind == psk_kind) (kind == gpsk_kind) is) [
+      | inl psk ↦ subst (λ (k : ℕ). is_method_kind k ≡ true) (sym (eqb-true kind psk_kind psk)) refl
+      | inr gpsk ↦ subst (λ (k : ℕ). is_method_kind k ≡ true)
+          (sym (eqb-true kind gpsk_kind gpsk)) refl
+    ]
+
+all_of_methods : (kinds : List ℕ) → list_all is_kind kinds ≡ true
+    → list_all is_method_kind kinds ≡ true
+all_of_methods [] are = refl
+all_of_methods (kind ∷ rest) are =
+    let both = and_parts (is_kind kind) (list_all is_kind rest) are in
+    and_from (is_method_kind kind) (list_all is_method_kind rest) (kind_is_of_method kind both.0)
+    (all_of_methods rest both.1)
+
+pub kinds_are_of_methods : (kinds : List ℕ) → IsTrue (are_kinds kinds)
+    → IsTrue (are_method_kinds kinds)
+kinds_are_of_methods kinds are =
+    let both = and_parts (list_all is_kind kinds) (are_distinct kinds) are in
+    and_from (list_all is_method_kind kinds) (are_distinct kinds) (all_of_methods kinds both.0) both.1

@@ -3,8 +3,8 @@ use Rattle.std.proofs.Common.{◌≡◌, ℕ, Bool, false, List, [], ◌∷◌, 
 use Rattle.std.proofs.Common.{refl, sym, ◌∙◌, arith, IsTrue}
 use Rattle.std.proofs.lemmas.Bool.{true≢false}
 use Rattle.std.proofs.lemmas.List.Elements.{All-from_recursion}
-use Rattle.octet_lists.specs.Among.{is_kind}
 use Rattle.login_setup.specs.Setup.{IsSoundPeer, HasKeys, IsSoundServer, is_valid_for}
+use Rattle.login_setup.specs.Setup.{is_method_kind}
 use Rattle.login_setup.specs.declared.setup.Accepts.TheVariants.{Any}
 use Rattle.login_setup.specs.declared.setup.PeerSetup.{PeerSetup}
 use Rattle.login_setup.specs.Setup.{ServerSetup}
@@ -71,9 +71,20 @@ empty_psk_key t = not_so _ refl t.0.psk47
 idle_gpsk_key : IsConsumed (peer (47 ∷ []) both (key 16) (key 16)) → ⊥
 idle_gpsk_key t = not_so _ refl t.0.psk51
 
--- another method, one twice; no suite, another suite, one twice
-other_method : IsConsumed (peer (4 ∷ []) both (key 16) (key 32)) → ⊥
-other_method t = not_so _ refl t.0.methods
+-- a method of a maker brings its own key; beside one of the two, whose key is missing, it is
+-- refused
+other_method : IsConsumed (peer (4 ∷ []) both None None)
+other_method = (record { methods = refl; suites = refl; psk47 = tt; psk51 = tt }, refl)
+
+last_method : IsConsumed (peer (47 ∷ 255 ∷ []) both (key 16) None)
+last_method = (record { methods = refl; suites = refl; psk47 = refl; psk51 = tt }, refl)
+
+other_and_no_key : IsConsumed (peer (255 ∷ 47 ∷ []) both None (key 32)) → ⊥
+other_and_no_key t = not_so _ refl t.1
+
+-- no method's Type, one twice; no suite, another suite, one twice
+nak_method : IsConsumed (peer (3 ∷ []) both (key 16) (key 32)) → ⊥
+nak_method t = not_so _ refl t.0.methods
 
 expanded_method : IsConsumed (peer (51 ∷ 254 ∷ []) both (key 16) (key 32)) → ⊥
 expanded_method t = not_so _ refl t.0.methods
@@ -111,7 +122,7 @@ psk_and_gpsk : IsSoundServer (server (51 ∷ 47 ∷ []) both (users 47 16 51 64)
 psk_and_gpsk = record {
   methods = refl;
   suites = refl;
-  kinds = All-from_recursion (λ (it : User). IsTrue (is_kind it.kind)) (users 47 16 51 64)
+  kinds = All-from_recursion (λ (it : User). IsTrue (is_method_kind it.kind)) (users 47 16 51 64)
       (refl, (refl, tt));
   keys = All-from_recursion (λ (it : User). IsTrue (is_valid_for it.kind it.psk))
       (users 47 16 51 64) (refl, (refl, tt));
@@ -122,15 +133,26 @@ no_methods : IsSoundServer (server [] (1 ∷ []) (users 51 32 51 33))
 no_methods = record {
   methods = refl;
   suites = refl;
-  kinds = All-from_recursion (λ (it : User). IsTrue (is_kind it.kind)) (users 51 32 51 33)
+  kinds = All-from_recursion (λ (it : User). IsTrue (is_method_kind it.kind)) (users 51 32 51 33)
       (refl, (refl, tt));
   keys = All-from_recursion (λ (it : User). IsTrue (is_valid_for it.kind it.psk))
       (users 51 32 51 33) (refl, (refl, tt));
 }
 
--- a user of another method, and one with a key of another size, the first and the second
-other_kind : IsSoundServer (server (51 ∷ 47 ∷ []) both (users 4 16 51 32)) → ⊥
-other_kind s = not_so _ refl (s.kinds 0 (user 97 4 16) (omega arith))
+-- a method of a maker, and users of such methods, with keys of any size
+other_methods : IsSoundServer (server (255 ∷ 51 ∷ []) both (users 4 0 255 64))
+other_methods = record {
+  methods = refl;
+  suites = refl;
+  kinds = All-from_recursion (λ (it : User). IsTrue (is_method_kind it.kind)) (users 4 0 255 64)
+      (refl, (refl, tt));
+  keys = All-from_recursion (λ (it : User). IsTrue (is_valid_for it.kind it.psk))
+      (users 4 0 255 64) (refl, (refl, tt));
+}
+
+-- a user of no method's Type, and one with a key of another size, the first and the second
+nak_kind : IsSoundServer (server (51 ∷ 47 ∷ []) both (users 3 16 51 32)) → ⊥
+nak_kind s = not_so _ refl (s.kinds 0 (user 97 3 16) (omega arith))
 
 expanded_kind : IsSoundServer (server (51 ∷ 47 ∷ []) both (users 47 16 254 32)) → ⊥
 expanded_kind s = not_so _ refl (s.kinds 1 (user 98 254 32) (omega arith))
@@ -144,12 +166,12 @@ psk_key_for_gpsk s = not_so _ refl (s.keys 1 (user 98 51 16) (omega arith))
 short_key : IsSoundServer (server (51 ∷ 47 ∷ []) both (users 47 16 51 31)) → ⊥
 short_key s = not_so _ refl (s.keys 1 (user 98 51 31) (omega arith))
 
--- another method, one twice; no suite, another suite, one twice
+-- no method's Type, one twice; no suite, another suite, one twice
 server_method_twice : IsSoundServer (server (51 ∷ 51 ∷ []) both (users 47 16 51 32)) → ⊥
 server_method_twice s = not_so _ refl s.methods
 
-server_other_method : IsSoundServer (server (13 ∷ []) both (users 47 16 51 32)) → ⊥
-server_other_method s = not_so _ refl s.methods
+server_no_method : IsSoundServer (server (1 ∷ []) both (users 47 16 51 32)) → ⊥
+server_no_method s = not_so _ refl s.methods
 
 server_no_suite : IsSoundServer (server (47 ∷ []) [] (users 47 16 51 32)) → ⊥
 server_no_suite s = not_so _ refl s.suites

@@ -1,7 +1,7 @@
 //! The settings of a run: what each end is configured with before it begins.
 
 ghost use Rattle.std.specs.Prelude.{◌≡◌, option_copied};
-ghost use Rattle.login_setup.specs.Setup.{accepts_name, key_of, has_keys, no_later};
+ghost use Rattle.login_setup.specs.Setup.{accepts_name, key_of, has_key, has_keys, no_later};
 
 use crate::nonces::Nonces;
 use crate::users::{UserList, Users};
@@ -70,7 +70,8 @@ pub struct PeerSetup {
     pub name: Identity,
     /// The server names that it accepts.
     pub accepts: Accepts,
-    /// The methods that it allows, 47 (EAP-PSK) or 51 (EAP-GPSK), each at most once.
+    /// The methods that it allows, each at most once: 47 (EAP-PSK), 51 (EAP-GPSK), or the Type of a maker's (RFC 3748
+    /// section 5: 4 to 253, or 255).
     pub methods: Kinds,
     /// The EAP-GPSK suites that it allows, 1 or 2, each at most once.
     pub suites: Suites,
@@ -98,14 +99,21 @@ impl PeerSetup {
         }
     }
 
-    /// True if it has a key for each method that it allows.
+    /// True if it has a key for each of the two methods that it allows.
     pub fn has_keys(&self) -> bool
         ensures { result ≡ has_keys self.now }
     {
         self.methods
             .as_slice()
             .iter()
-            .all(|kind| self.key(*kind).is_some())
+            .all(|kind| self.has_key(*kind))
+    }
+
+    /// True if it has the key that the method takes of its settings; one of a maker brings its own.
+    fn has_key(&self, kind: u8) -> bool
+        ensures { result ≡ has_key self.now kind }
+    {
+        (kind != PSK_KIND && kind != GPSK_KIND) || self.key(kind).is_some()
     }
 
     /// An equal value.
@@ -130,7 +138,8 @@ impl PeerSetup {
 pub struct ServerSetup<U = Users> {
     /// The server's name, of 1 to 253 octets.
     pub name: Identity,
-    /// The methods that it proposes, in this order: 47 (EAP-PSK) or 51 (EAP-GPSK), each at most once.
+    /// The methods that it proposes, in this order, each at most once: 47 (EAP-PSK), 51 (EAP-GPSK), or the Type of a
+    /// maker's.
     pub methods: Kinds,
     /// The EAP-GPSK suites that it offers, in this order: 1 or 2, each at most once.
     pub suites: Suites,

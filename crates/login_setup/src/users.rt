@@ -16,9 +16,9 @@ pub const MAX_USERS: usize = 16;
 pub struct User {
     /// The user's name, of 1 to 253 octets.
     pub name: Identity,
-    /// The method that the key is for: 47 (EAP-PSK) or 51 (EAP-GPSK).
+    /// The method that the key is for: 47 (EAP-PSK), 51 (EAP-GPSK), or the Type of a maker's.
     pub kind: u8,
-    /// The key: 16 octets for 47, 32 to 64 for 51.
+    /// The key: 16 octets for 47, 32 to 64 for 51, at most 64 for any other.
     pub psk: Secret,
     /// True if the server refuses the user by a protected failure.
     pub barred: bool,

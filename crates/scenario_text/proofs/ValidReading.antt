@@ -10,7 +10,8 @@ use Rattle.std.proofs.lemmas.Result.{IfOk-weaker}
 use Rattle.std.proofs.lemmas.Slice.Eq.{bytes_eq-Decides}
 use Rattle.std.specs.Str.{bytes_eq}
 use Rattle.octet_lists.specs.Among.{psk_kind, gpsk_kind, is_kind}
-use Rattle.login_setup.specs.Setup.{are_kinds, are_suites, is_valid_for, no_later}
+use Rattle.login_setup.proofs.Sound.{kind_is_of_method, kinds_are_of_methods}
+use Rattle.login_setup.specs.Setup.{are_kinds, are_suites, is_method_kind, is_valid_for, no_later}
 use Rattle.login_setup.specs.declared.event.Event.{Event}
 use Rattle.login_setup.specs.declared.setup.Accepts.TheVariants.{Any, One}
 use Rattle.login_setup.specs.declared.setup.PeerSetup.{PeerSetup}
@@ -266,10 +267,12 @@ alone Second v setup m other =
 
 valid_peer : (version : Version) (s : Settings) (later : List (List ℕ)) (peer : PeerSetup)
     → AreValid s → MakesPeer version (joined s no_values) later peer → IsValidPeer peer
-valid_peer version s later peer h m = record {
+valid_peer version s later peer h m =
+    let kinds = held (λ kinds. IsTrue (are_kinds kinds))
+    s.peer_methods peer.methods h.peer_methods m.methods in record {
+  methods = kinds;
   sound = record {
-    methods = held (λ kinds. IsTrue (are_kinds kinds))
-        s.peer_methods peer.methods h.peer_methods m.methods;
+    methods = kinds_are_of_methods peer.methods kinds;
     suites = held_or (λ suites. IsTrue (are_suites suites))
         s.peer_suites both_suites peer.suites h.peer_suites refl m.suites;
     psk47 = held_key (λ key. IsTrue (is_valid_for psk_kind key))
@@ -289,14 +292,16 @@ valid_server : (version : Version) (s : Settings) (later : List (List ℕ)) (ser
 valid_server version s later server h m =
     let users : All IsValidUser server.users =
     subst (All IsValidUser) (sym (append-nil s.users) ∙ m.users) h.users in
+    let kinds = held (λ kinds. IsTrue (are_kinds kinds))
+    s.server_methods server.methods h.server_methods m.methods in
     record {
+      methods = kinds;
       sound = record {
-        methods = held (λ kinds. IsTrue (are_kinds kinds))
-            s.server_methods server.methods h.server_methods m.methods;
+        methods = kinds_are_of_methods server.methods kinds;
         suites = held_or (λ suites. IsTrue (are_suites suites))
             s.server_suites both_suites server.suites h.server_suites refl m.suites;
-        kinds = All-weaker IsValidUser (λ user. IsTrue (is_kind user.kind)) (λ user v. v.kind)
-            server.users users;
+        kinds = All-weaker IsValidUser (λ user. IsTrue (is_method_kind user.kind))
+            (λ user v. kind_is_of_method user.kind v.kind) server.users users;
         keys = All-weaker IsValidUser (λ user. IsTrue (is_valid_for user.kind user.psk))
             (λ user v. v.psk) server.users users;
       };

@@ -108,6 +108,7 @@ pub record AreValid (s : Settings) : Type 0 where
 -- the settings of each end and of a run, within their limits
 pub record IsValidPeer (peer : PeerSetup) : Type 0 where
   pub sound : IsSoundPeer peer
+  pub methods : IsTrue (are_kinds peer.methods)
   pub keys : HasKeys peer
   pub name : IsName peer.name
   pub accepts : AcceptsName peer.accepts
@@ -115,6 +116,7 @@ pub record IsValidPeer (peer : PeerSetup) : Type 0 where
 
 pub record IsValidServer (server : ServerSetup) : Type 0 where
   pub sound : IsSoundServer server
+  pub methods : IsTrue (are_kinds server.methods)
   pub name : IsName server.name
   pub users : All IsValidUser server.users
   pub nonce : IsNonce server.nonce

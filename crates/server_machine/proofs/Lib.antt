@@ -5,8 +5,6 @@ pub mod ServerRows
 pub mod Receiving
 -- A discard changes nothing.
 pub mod Discards
--- The methods already proposed: two kinds there are, so a kind that isn't among them finds room.
-pub mod Proposed
 -- A decoded Response is one that its method may be handed.
 pub mod Responses
 -- An offer and a turn of a method, settled in the variables, are the server's rows.

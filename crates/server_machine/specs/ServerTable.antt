@@ -6,8 +6,9 @@ use Rattle.std.specs.Prelude.{◌&&◌, ◌||◌, not, nat_le, if◌then◌else�
 use Rattle.std.specs.Prelude.{Ok, Err, map}
 use Rattle.login_setup.specs.Setup.{ServerSetup}
 use Rattle.login_setup.specs.declared.users.User.{User}
-use Rattle.octet_lists.specs.Among.{is_among, identity_kind, nak_kind}
-use Rattle.login_setup.specs.Setup.{are_kinds, IsSoundServer}
+use Rattle.std.specs.List.{list_all}
+use Rattle.octet_lists.specs.Among.{is_among, are_distinct, identity_kind, nak_kind}
+use Rattle.login_setup.specs.Setup.{IsSoundServer}
 use Rattle.eap_packet.specs.Packet.{PacketValue, request, response, success, failure, spelled}
 use Rattle.eap_packet.specs.Fault.{packet_of}
 use Rattle.eap_packet.specs.declared.cause.Cause.{Cause}
@@ -376,8 +377,9 @@ pub record AreInOrder (vars : ServerVariables) : Type 0 where
   pub sound : IsSoundServer vars.setup
   -- the current method is Identity or one of the order
   pub current : is_current vars.setup.methods vars.current ≡ true
-  -- no method was proposed twice
-  pub proposed : are_kinds vars.proposed ≡ true
+  -- the methods proposed are of the order, and none was proposed twice
+  pub proposed : are_distinct vars.proposed ≡ true
+  pub ordered : list_all (is_among vars.setup.methods) vars.proposed ≡ true
   -- a server that has not ended has sent its Request again at most MaxRetrans times
   pub in_time : is_end vars.state ≡ false → vars.retrans_count ≤ vars.max_retrans
   pub few : vars.max_retrans ≤ 10

@@ -12,8 +12,7 @@
 //! timer.
 
 ghost use Rattle.std.specs.Prelude.{◌≡◌, ◌↔◌, [], ◌∷◌, ◌++◌, map, true, option_map, All, IsTrue};
-ghost use Rattle.octet_lists.specs.Among.{is_kind};
-ghost use Rattle.login_setup.specs.Setup.{IsSoundServer, is_valid_for};
+ghost use Rattle.login_setup.specs.Setup.{IsSoundServer, is_method_kind, is_valid_for};
 ghost use Rattle.login_setup.specs.Users as users;
 ghost use Rattle.eap_method.specs.Peer.{have_each};
 ghost use Rattle.eap_method.specs.Server.{server_kinds, server_views};
@@ -187,10 +186,10 @@ impl<M: ServerMethod, const N: usize> SizedBackend<M, N> {
         self.machine.current()
     }
 
-    /// The users that the backend knows are these from now on, in any state; nothing else changes. Each has a key
-    /// for one of the two methods, of the size that the method requires.
+    /// The users that the backend knows are these from now on, in any state; nothing else changes. Each is of a method
+    /// (RFC 3748 section 5: Type 4 to 253, or 255), and has a key of the size that it requires.
     pub fn set_users(&mut self, users: UserList<N>)
-        requires kinds { All (λ user. IsTrue (is_kind user.kind)) users }
+        requires kinds { All (λ user. IsTrue (is_method_kind user.kind)) users }
         requires keys { All (λ user. IsTrue (is_valid_for user.kind user.psk)) users }
         ensures { self.new ≡ with_users self.old users.entry }
     {
@@ -200,7 +199,7 @@ impl<M: ServerMethod, const N: usize> SizedBackend<M, N> {
     /// The backend knows this user too from now on, as [`ServerMachine::add_user`].
     pub fn add_user(&mut self, user: User)
         requires capacity { users.HasCapacity N self.old.vars.setup.users user }
-        requires kind { is_kind user.kind ≡ true }
+        requires kind { is_method_kind user.kind ≡ true }
         requires key { is_valid_for user.kind user.psk ≡ true }
         ensures { self.new ≡ with_users self.old (self.old.vars.setup.users ++ user ∷ []) }
     {

@@ -21,8 +21,8 @@
 ghost use Rattle.std.specs.Prelude.{◌≡◌, ◌≤◌, ◌↔◌, [], ◌∷◌, ◌++◌, true, false, map, length, Some};
 ghost use Rattle.std.specs.Prelude.{None, Ok, option_copied, option_map, All, IsTrue};
 ghost use Rattle.std.specs.Prelude.{if◌then◌else◌};
-ghost use Rattle.octet_lists.specs.Among.{is_among, is_kind};
-ghost use Rattle.login_setup.specs.Setup.{IsSoundServer, are_suites, is_valid_for};
+ghost use Rattle.octet_lists.specs.Among.{is_among};
+ghost use Rattle.login_setup.specs.Setup.{IsSoundServer, are_suites, is_method_kind, is_valid_for};
 ghost use Rattle.login_setup.specs.Users as users;
 ghost use Rattle.eap_packet.specs.Packet.{spelled, value_of, IsPacket, max_type_data};
 ghost use Rattle.eap_packet.specs.Packet as packets;
@@ -476,23 +476,23 @@ impl<M: ServerMethod, const N: usize> SizedServer<M, N> {
         }
     }
 
-    /// The users that the server knows are these from now on, in any state; nothing else changes. Each has a key for
-    /// one of the two methods, of the size that the method requires.
+    /// The users that the server knows are these from now on, in any state; nothing else changes. Each is of a method
+    /// (RFC 3748 section 5: Type 4 to 253, or 255), and has a key of the size that it requires.
     #[tactic(auto, using(crate::proofs::Restarting::sound_with_users))]
     pub fn set_users(&mut self, users: UserList<N>)
-        requires kinds { All (λ user. IsTrue (is_kind user.kind)) users }
+        requires kinds { All (λ user. IsTrue (is_method_kind user.kind)) users }
         requires keys { All (λ user. IsTrue (is_valid_for user.kind user.psk)) users }
         ensures { self.new ≡ with_users self.old users.entry }
     {
         self.vars.setup.users = users;
     }
 
-    /// The server knows this user too from now on, in any state; nothing else changes. There is room for the user, who has a
-    /// key for one of the two methods, of the size that the method requires.
+    /// The server knows this user too from now on, in any state; nothing else changes. There is room for the user, who is
+    /// of a method, and has a key of the size that it requires.
     #[tactic(auto, using(crate::proofs::Restarting::sound_with_user))]
     pub fn add_user(&mut self, user: User)
         requires capacity { users.HasCapacity N self.old.vars.setup.users user }
-        requires kind { is_kind user.kind ≡ true }
+        requires kind { is_method_kind user.kind ≡ true }
         requires key { is_valid_for user.kind user.psk ≡ true }
         ensures { self.new ≡ with_users self.old (self.old.vars.setup.users ++ user ∷ []) }
     {

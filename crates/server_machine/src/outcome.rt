@@ -1,6 +1,6 @@
 //! What follows a proposal, and a method's turn (RFC 4137 section 5.4): the variables, the packet and the step.
 
-ghost use Rattle.std.specs.Prelude.{◌≡◌, ◌≢◌, ◌≤◌, [], ◌∷◌, ◌++◌, length, false, true, not, Some};
+ghost use Rattle.std.specs.Prelude.{◌≡◌, ◌≢◌, ◌≤◌, ◌<◌, [], ◌∷◌, ◌++◌, length, false, true, not, Some};
 ghost use Rattle.std.specs.Prelude.{None, IsTrue, if◌then◌else◌};
 ghost use Rattle.octet_lists.specs.Among.{is_among};
 ghost use Rattle.eap_packet.specs.Fault.{code_of};
@@ -96,7 +96,7 @@ pub fn end_badly<const N: usize>(
 
 /// PROPOSE_METHOD, METHOD_REQUEST and SEND_REQUEST of a method that isn't yet proposed, whose first
 /// Request is `packet`; without one, FAILURE.
-#[tactic(auto, using(crate::proofs::Proposed::proposed_has_capacity, crate::proofs::Proposed::proposed_grows, crate::proofs::Proposed::order_is_kind))]
+#[tactic(auto, using(login_policy::proofs::Proposed::distinct_grow, login_policy::proofs::Proposed::ordered_grow))]
 pub fn settle_offer<const N: usize>(
     vars: &mut ServerVariables<UserList<N>>,
     way: ProposalPath,
@@ -107,6 +107,7 @@ pub fn settle_offer<const N: usize>(
 ) -> Step
     requires ordered { is_among vars.old.setup.methods kind ≡ true }
     requires unproposed { is_among vars.old.proposed kind ≡ false }
+    requires few { length vars.old.proposed < 2 }
     requires in_order { AreInOrder vars.old }
     requires capacity { has_first ≡ true → HasCapacity packet.old }
     ensures step { (views : ServerViews) → offers (before_proposal way) vars.old views id kind (if

@@ -25,6 +25,8 @@ still_whole : (setup : Setup) (one two : List ℕ) → length one ≡ 32 → len
 still_whole setup one two one_size two_size whole = record {
   peer = peers.still_sound setup.peer one whole.peer;
   keys = whole.keys;
+  peer_kinds = whole.peer_kinds;
+  server_kinds = whole.server_kinds;
   server = servers.still_sound setup.server two whole.server;
   peer_nonce = one_size;
   server_nonce = two_size;

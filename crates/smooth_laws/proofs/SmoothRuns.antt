@@ -58,7 +58,7 @@ module _ (setup : Setup) (whole : IsWhole setup) (names : HasShortNames setup) w
 
     kinds : list_all is_kind setup.server.methods ≡ true
     kinds = (and_parts (list_all is_kind setup.server.methods) (are_distinct setup.server.methods)
-        whole.server.methods).0
+        whole.server_kinds).0
 
     talks : (runs : Mode) (id : ℕ) (begun : ServerViews) → Has begun fit.kind
         → Talks setup.peer (made_in runs setup) fit.kind id begun
@@ -129,8 +129,8 @@ module _ (setup : Setup) (whole : IsWhole setup) (names : HasShortNames setup) w
         (proposes_next setup.peer (made_in runs setup)
         runs form w n id first fit.kind setup.first_id offer.asks _ talk.asks offer.asked talk.asked
         fit.reads refl offer.is_method talk.is_method offer.fits talk.asks_bounded
-        (reads_back setup.peer.methods whole.peer.methods
-        (few_kinds setup.peer.methods whole.peer.methods)) (ids_differ setup.first_id)
+        (reads_back setup.peer.methods whole.peer_kinds
+        (few_kinds setup.peer.methods whole.peer_kinds)) (ids_differ setup.first_id)
         refuses next talk.offered
         (opens setup runs form refl first offer.asks offer.asked names.peer offer.is_method
         offer.fits (first_chosen first rest order) offer.offered))

@@ -7,8 +7,7 @@ use Rattle.login_setup.specs.declared.setup.Mode.{Mode}
 use Rattle.login_setup.specs.declared.setup.Mode.TheVariants.{Alone, Through}
 use Rattle.login_setup.specs.declared.setup.Setup.{Setup}
 use Rattle.login_setup.specs.declared.users.User.{User}
-use Rattle.octet_lists.specs.Among.{is_kind}
-use Rattle.login_setup.specs.Setup.{is_valid_for}
+use Rattle.login_setup.specs.Setup.{is_method_kind, is_valid_for}
 use Rattle.login_setup.specs.Plain.{plain_peer, plain_server, plain_setup}
 use Rattle.world_laws.specs.Agreement.{IsWhole}
 use Rattle.smooth_laws.specs.Smooth.{EndsCompatible, HasShortNames, event_bound, common_kind}
@@ -109,11 +108,13 @@ whole_at_once = record {
   server = record {
     methods = refl;
     suites = refl;
-    kinds = All-from_recursion (λ (user : User). IsTrue (is_kind user.kind))
+    kinds = All-from_recursion (λ (user : User). IsTrue (is_method_kind user.kind))
         (example_setup Alone both both).server.users (refl, (refl, tt));
     keys = All-from_recursion (λ (user : User). IsTrue (is_valid_for user.kind user.psk))
         (example_setup Alone both both).server.users (refl, (refl, tt));
   };
+  peer_kinds = refl;
+  server_kinds = refl;
   peer_nonce = refl;
   server_nonce = refl;
   peer_later = All-from_recursion (λ (nonce : List ℕ). length nonce ≡ 32) [] tt;

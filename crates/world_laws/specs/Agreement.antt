@@ -1,9 +1,10 @@
 -- Agreement over an altering network, if each end may begin new conversations.
 use Rattle.std.specs.Prelude.{◌≡◌, ◌≤◌, ◌⊎◌, ◌+◌, ◌*◌, List, [], length, true, false, Some, All}
+use Rattle.std.specs.Prelude.{IsTrue}
 use Rattle.login_setup.specs.declared.event.Event.{Event}
 use Rattle.login_setup.specs.declared.setup.Setup.{Setup}
 use Rattle.login_setup.specs.declared.users.User.{User}
-use Rattle.login_setup.specs.Setup.{IsSoundPeer, IsSoundServer, HasKeys}
+use Rattle.login_setup.specs.Setup.{IsSoundPeer, IsSoundServer, HasKeys, are_kinds}
 use Rattle.login_setup.specs.Users.{user_of}
 use Rattle.eap_method.specs.declared.values.Report.{Report}
 use Rattle.eap_method.specs.Peer.{key_for}
@@ -24,11 +25,14 @@ use Rattle.eap_world.specs.World.{WorldNow}
 use Rattle.world_laws.specs.Records.{tags_by}
 use Rattle.world_laws.specs.Runs.{run_of}
 
--- a setup as a scenario gives it: both ends are sound, and each nonce has 32 octets
+-- a setup as a scenario gives it: both ends are sound and name the two methods alone, and each
+-- nonce has 32 octets
 pub record IsWhole (setup : Setup) : Type 0 where
   pub peer : IsSoundPeer setup.peer
   pub keys : HasKeys setup.peer
   pub server : IsSoundServer setup.server
+  pub peer_kinds : IsTrue (are_kinds setup.peer.methods)
+  pub server_kinds : IsTrue (are_kinds setup.server.methods)
   pub peer_nonce : length setup.peer.nonce ≡ 32
   pub server_nonce : length setup.server.nonce ≡ 32
   pub peer_later : All (λ nonce. length nonce ≡ 32) setup.later.peer

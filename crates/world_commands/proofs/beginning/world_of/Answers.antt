@@ -9,5 +9,5 @@ returns-clause-initial g c =
     starts_as_run c.args.setup (map g.P.PeerMethod.peer_shown c.args.methods.peer.items)
     (map g.S.ServerMethod.server_shown c.args.methods.server.items) _
     c.new.ensures.initial both.both_peers
-    (both.peer c.args.setup.peer.methods valid.peer.sound.methods)
-    both.both_servers (both.server c.args.setup.server.methods valid.server.sound.methods)
+    (both.peer c.args.setup.peer.methods valid.peer.methods)
+    both.both_servers (both.server c.args.setup.server.methods valid.server.methods)

@@ -12,7 +12,7 @@ returns-in-None-clause-step g c =
     (none_settles (before_proposal c.args.way) inside.vars c.end_badly.new.vars
     (map g.M.ServerMethod.server_shown inside.methods.items) c.args.id
     (option_copied c.args.desired) (step_with c.end_badly.result c.end_badly.new.packet no_tags)
-    c.in-None.ensures c.end_badly.ensures.step c.end_badly.ensures.setup)
+    c.in-None.ensures.next c.end_badly.ensures.step c.end_badly.ensures.setup)
 
 pub returns-in-Some-clause-step : goal.returns-in-Some-clause-step
 returns-in-Some-clause-step g c =
@@ -24,4 +24,4 @@ returns-in-Some-clause-step g c =
     (map shown inside.methods.items) (map shown first.new.methods.items) c.args.id c.in-Some.kind
     (option_copied c.args.desired) (if first.result then Some first.new.packet else None)
     (step_with c.settle_offer.result c.settle_offer.new.packet no_tags)
-    c.in-Some.ensures first.ensures.offer c.settle_offer.ensures.step c.settle_offer.ensures.setup)
+    c.in-Some.ensures.next first.ensures.offer c.settle_offer.ensures.step c.settle_offer.ensures.setup)
