@@ -1,8 +1,9 @@
 //! What a peer brings into a method, with its server's name.
 
-ghost use Rattle.std.specs.Prelude.{◌≡◌, ◌≤◌, [], length, true};
+ghost use Rattle.std.specs.Prelude.{◌≡◌, ◌≤◌, length, true};
 ghost use Rattle.octet_lists.specs.Sizes.{max_name};
 ghost use Rattle.login_setup.specs.Setup.{accepts_name};
+ghost use Rattle.eap_method.specs.PeerSide.{before_login, no_credential};
 
 use crate::values::Credential;
 use login_setup::Accepts;
@@ -36,7 +37,7 @@ impl Model for PeerSide {
 impl PeerSide {
     /// No name, no suite and no key.
     pub fn new() -> PeerSide
-        ensures { result.cred.psk ≡ [] }
+        ensures { result ≡ before_login no_credential }
     {
         PeerSide {
             id_p: Identity::new(),
@@ -50,7 +51,7 @@ impl PeerSide {
     /// Replaces what was there by a credential; there is no server yet.
     #[inline(never)]
     pub fn set(&mut self, cred: &Credential)
-        ensures { self.new.cred ≡ cred.now }
+        ensures { self.new ≡ before_login cred.now }
     {
         self.id_p.set(cred.id_p.as_slice());
         self.suites.set(cred.suites.as_slice());

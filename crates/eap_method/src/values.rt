@@ -78,7 +78,7 @@ impl ServerSide {
 #[derive(Drop)]
 #[derive_where(Debug)]
 pub struct Report {
-    /// The method: 47 (EAP-PSK) or 51 (EAP-GPSK).
+    /// The method: 47 (EAP-PSK), 51 (EAP-GPSK), or the Type of a maker's.
     pub method: u8,
     /// The peer's name.
     pub id_p: Identity,

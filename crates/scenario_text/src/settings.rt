@@ -1,9 +1,9 @@
 //! The settings of a scenario that have been read so far.
 
 ghost use Rattle.std.specs.Prelude.{◌≡◌, ◌==◌, ◌∷◌, [], unwrap_or, is_err, is_some, if◌then◌else◌};
-ghost use Rattle.std.specs.Prelude.{None};
+ghost use Rattle.std.specs.Prelude.{None, true};
 ghost use Rattle.std.specs.List.{list_all};
-ghost use Rattle.octet_lists.specs.Among.{psk_kind, gpsk_kind};
+ghost use Rattle.octet_lists.specs.Among.{psk_kind, gpsk_kind, is_kind};
 ghost use Rattle.scenario_text.specs.Reading.{no_settings, is_full, with_later, with_nonce};
 ghost use Rattle.scenario_text.specs.Reading.{has_setting, with_setting, both_suites};
 ghost use Rattle.scenario_text.specs.Reading.{later_nonces, later_of, peer_setup_of};
@@ -118,21 +118,23 @@ impl Settings {
 
     /// True if the key for each of these methods has come.
     fn has_each(&self, kinds: &[u8]) -> bool
-        ensures { result ≡ list_all (λ kind. is_some (if kind == psk_kind then self.now.peer_psk47
-            else if kind == gpsk_kind then self.now.peer_psk51 else None)) kinds.now }
+        ensures { result ≡ list_all (λ kind. if is_kind kind then is_some (if kind == psk_kind
+            then self.now.peer_psk47 else if kind == gpsk_kind then self.now.peer_psk51 else None)
+            else true) kinds.now }
     {
         kinds.iter().all(|kind| self.has_key(*kind))
     }
 
-    /// True if the key for this method has come.
+    /// True if the key for this method has come, or it is none of the two.
     fn has_key(&self, kind: u8) -> bool
-        ensures { result ≡ is_some (if kind == psk_kind then self.now.peer_psk47 else if kind
-            == gpsk_kind then self.now.peer_psk51 else None) }
+        ensures { result ≡ (if is_kind kind then is_some (if kind == psk_kind
+            then self.now.peer_psk47 else if kind == gpsk_kind then self.now.peer_psk51 else None)
+            else true) }
     {
         match kind {
             PSK_KIND => self.peer_psk47.is_some(),
             GPSK_KIND => self.peer_psk51.is_some(),
-            _ => false,
+            _ => true,
         }
     }
 

@@ -278,7 +278,9 @@ pub(crate) fn is_valid_for(kind: u8, word: &[u8]) -> bool
     let count = octet_count(word);
     if kind == PSK_KIND {
         count == 16
+    } else if kind == GPSK_KIND {
+        32 <= count && count <= 64
     } else {
-        kind == GPSK_KIND && (32 <= count && count <= 64)
+        count <= 64
     }
 }

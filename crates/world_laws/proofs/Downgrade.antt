@@ -3,7 +3,7 @@
 use Rattle.std.proofs.Common.{◌≡◌, ℕ, ◌+◌, Bool, true, false, List, [], ◌∷◌, ◌++◌, Option, Some}
 use Rattle.std.proofs.Common.{None, Ok, refl, sym, ap, subst, ◌∙◌, arith, inl, inr}
 use Rattle.std.specs.Prelude.{◌⊎◌, ◌==◌, not, find}
-use Rattle.std.specs.List.{list_any}
+use Rattle.std.specs.List.{list_all, list_any}
 use Rattle.std.proofs.lemmas.Bool.{and_parts, cond_both, cond-true, false≢true}
 use Rattle.login_setup.specs.declared.event.Event.{Event}
 use Rattle.login_setup.specs.declared.event.Event.TheVariants as event
@@ -13,14 +13,15 @@ use Rattle.login_setup.specs.declared.setup.Party.{Party}
 use Rattle.login_setup.specs.declared.setup.Mode.{Mode}
 use Rattle.login_setup.specs.declared.setup.Mode.TheVariants.{Alone, Through}
 use Rattle.login_setup.specs.declared.setup.Party.TheVariants as party
-use Rattle.login_setup.specs.Setup.{ServerSetup}
+use Rattle.login_setup.specs.Setup.{ServerSetup, is_method_kind}
 use Rattle.login_setup.specs.declared.setup.Setup.{Setup}
-use Rattle.octet_lists.specs.Among.{identity_kind, is_among, is_kind}
+use Rattle.octet_lists.specs.Among.{identity_kind, is_among, are_distinct}
 use Rattle.eap_packet.specs.Fault.{code_of, packet_of}
 use Rattle.eap_packet.specs.Packet.{response}
 use Rattle.eap_packet.specs.declared.state.State.{State}
 use Rattle.login_policy.specs.Policy.{next_kind}
 use Rattle.world_laws.specs.ServerInvariant.{ServerHasBoth}
+use Rattle.eap_method.proofs.Amongs.{each_one}
 use Rattle.eap_method.specs.Server.{Offer, ServerViews, side_of}
 use Rattle.eap_method.specs.declared.values.ServerSide.{ServerSide}
 use Rattle.server_machine.specs.Expanded.{discards_bad, response_octets, wraps_sent}
@@ -35,7 +36,6 @@ use Rattle.server_machine.specs.ServerTable.{ServerAnswer, ServerNow, awaits_fir
 use Rattle.server_machine.specs.ServerTable.{is_started, next_id, server_restart, server_start}
 use Rattle.server_machine.specs.Variables.{ServerVariables}
 use Rattle.server_machine.proofs.Receiving.{ServerReceiving, as_it_is, bad, wrapping}
-use Rattle.server_machine.proofs.Proposed.{order_is_kind}
 use Rattle.server_machine.proofs.ServerRows.{server_answers_are_rows}
 use Rattle.tag_book.specs.declared.book.End.TheVariants as end
 use Rattle.eap_world.specs.Conversations.{Conversations, beginning, initiated_by, peer_initiates}
@@ -500,8 +500,10 @@ not_over : (setup : Setup) (w : WorldNow) → IsWhole setup → w.parties.server
     → Unrefused w.parties.server.vars → ⊥
 not_over setup w whole methods over (unproposed none no_method) =
     let is : over.other ≡ identity_kind = no_method over.other over.current in
-    false≢true (subst (λ (k : ℕ). is_kind k ≡ true) is
-    (order_is_kind setup.peer.methods over.other whole.peer.methods over.allowed))
+    let kinds = and_parts (list_all is_method_kind setup.peer.methods)
+    (are_distinct setup.peer.methods) whole.peer.methods in
+    false≢true (subst (λ (k : ℕ). is_method_kind k ≡ true) is
+    (each_one is_method_kind setup.peer.methods over.other kinds.0 over.allowed))
 not_over setup w whole methods over (proposed kind no_identity only current is_first) =
     let same : kind ≡ over.other = some_kind kind over.other (sym current ∙ over.current) in
     let head : next_kind setup.server.methods [] None ≡ Some kind =
