@@ -3,8 +3,8 @@
 use Rattle.std.proofs.Common.{◌≡◌, ℕ, ◌≤◌, ◌<◌, suc, List, [], ◌∷◌, ◌++◌, length, Bool, true, false}
 use Rattle.std.proofs.Common.{Option, None, Some, refl, sym, ap, ◌∙◌, arith, inl, inr}
 use Rattle.std.proofs.Common.{length-append}
-use Rattle.std.specs.Prelude.{◌==◌, ◌&&◌, ◌||◌, not, if◌then◌else◌, IsSome}
-use Rattle.std.specs.List.{list_all, list_any}
+use Rattle.std.specs.Prelude.{◌==◌, ◌||◌, not, if◌then◌else◌, IsSome}
+use Rattle.std.specs.List.{list_all}
 use Rattle.std.proofs.lemmas.Bool.{cases_Bool, and_parts, and_from, or_parts, eqb-true, eqb-false}
 use Rattle.std.proofs.lemmas.Bool.{ne_eqb, not-true, cond-true, cond-false}
 use Rattle.octet_lists.specs.Among.{is_among, are_distinct}
@@ -66,7 +66,7 @@ few_of_order order (x ∷ rest) once ordered =
     let apart = and_parts (not (is_among rest x)) (are_distinct rest) once in
     let both = and_parts (is_among order x) (list_all (is_among order) rest) ordered in
     let less = few_of_order (without x order) rest apart.1
-        (still_all x order rest (not-true (is_among rest x) apart.0) both.1) in
+    (still_all x order rest (not-true (is_among rest x) apart.0) both.1) in
     omega (arith, less, without_shorter x order both.0)
 
 -- ---- one Type more

@@ -131,7 +131,6 @@ fn is_sound_key(kind: u8, key: &Option<Secret>) -> bool
 fn are_sound(users: &[User]) -> bool
     ensures { result ≡ list_all is_sound_user users.now }
 {
-    users
-        .iter()
-        .all(|user| is_method_kind(user.kind) && has_key_size(user.kind, user.psk.as_slice()))
+    users.iter().all(|user| is_method_kind(user.kind)
+        && has_key_size(user.kind, user.psk.as_slice()))
 }

@@ -1,5 +1,5 @@
 -- Lines, and a whole scenario, read by the definitions alone.
-use Rattle.std.proofs.Common.{◌≡◌, List, ℕ, true, false, [], ◌∷◌, ◌++◌, replicate, Some, None, find}
+use Rattle.std.proofs.Common.{◌≡◌, List, ℕ, true, false, [], ◌∷◌, ◌++◌, replicate, Some, find}
 use Rattle.std.proofs.Common.{Result, Ok, Err, refl}
 use Rattle.std.specs.Prelude.{codes}
 use Rattle.login_setup.specs.Setup.{no_later}

@@ -270,21 +270,21 @@ valid_peer : (version : Version) (s : Settings) (later : List (List ℕ)) (peer 
 valid_peer version s later peer h m =
     let kinds = held (λ kinds. IsTrue (are_kinds kinds))
     s.peer_methods peer.methods h.peer_methods m.methods in record {
-  methods = kinds;
-  sound = record {
-    methods = kinds_are_of_methods peer.methods kinds;
-    suites = held_or (λ suites. IsTrue (are_suites suites))
-        s.peer_suites both_suites peer.suites h.peer_suites refl m.suites;
-    psk47 = held_key (λ key. IsTrue (is_valid_for psk_kind key))
-        s.peer_psk47 peer.psk47 h.peer_psk47 m.psk47;
-    psk51 = held_key (λ key. IsTrue (is_valid_for gpsk_kind key))
-        s.peer_psk51 peer.psk51 h.peer_psk51 m.psk51;
-  };
-  keys = m.keys;
-  name = held IsName s.peer_name peer.name h.peer_name m.name;
-  accepts = held AcceptsName s.peer_server peer.accepts h.peer_server m.accepts;
-  nonce = (held_nonces version s.peer_nonces peer.nonce later h.peer_nonces m.nonces).first;
-}
+      methods = kinds;
+      sound = record {
+        methods = kinds_are_of_methods peer.methods kinds;
+        suites = held_or (λ suites. IsTrue (are_suites suites))
+            s.peer_suites both_suites peer.suites h.peer_suites refl m.suites;
+        psk47 = held_key (λ key. IsTrue (is_valid_for psk_kind key))
+            s.peer_psk47 peer.psk47 h.peer_psk47 m.psk47;
+        psk51 = held_key (λ key. IsTrue (is_valid_for gpsk_kind key))
+            s.peer_psk51 peer.psk51 h.peer_psk51 m.psk51;
+      };
+      keys = m.keys;
+      name = held IsName s.peer_name peer.name h.peer_name m.name;
+      accepts = held AcceptsName s.peer_server peer.accepts h.peer_server m.accepts;
+      nonce = (held_nonces version s.peer_nonces peer.nonce later h.peer_nonces m.nonces).first;
+    }
 
 valid_server : (version : Version) (s : Settings) (later : List (List ℕ)) (server : ServerSetup)
     → AreValid s → MakesServer version (joined s no_values) later server →
