@@ -114,6 +114,8 @@ static bool report_by(reporter *whole_by, struct tuv_end *end, void *report)
 	size_t known = size < sizeof(whole) ? size : sizeof(whole);
 	bool held;
 
+	if (size_of(report) == sizeof(whole))
+		return whole_by(end, report);
 	if (size < FIRST_REPORT || size > MOST_SIZE)
 		return false;
 	memset(&whole, 0, sizeof(whole));

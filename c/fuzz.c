@@ -13,8 +13,8 @@
  * - after a call that sends nothing the packet has no octets, and the one that
  *   was sent last since the begin or restart can be had again;
  * - a packet is asked for by a room that is too small and then by one that fits;
- * - no call takes memory but tuv_end_new, of tuv_end_size octets, and the begins
- *   of a peer, a server and a backend;
+ * - no call takes memory but tuv_end_new, of tuv_end_size octets, and the begins:
+ *   one block, and a server and a backend two;
  * - an end's report has its own nonce and names and a suite that both allow;
  *   whenever both ends hold a report, both hold the same, with the same
  *   Session-Ids, and none where their keys differ;
@@ -612,18 +612,19 @@ static struct tuv_settings spoiled(struct tuv_settings s)
 	return s;
 }
 
-static uint8_t begin_of(enum handle h, const struct tuv_settings *s,
-			const uint8_t *nonce, uint8_t retries)
+static uint8_t begin_as(enum role role, struct tuv_end *end,
+			const struct tuv_settings *s, const uint8_t *nonce,
+			uint8_t retries)
 {
-	switch (role_of(h)) {
-	case A_PASS: return tuv_pass_begin(ends[h], among(0, 255), retries);
-	case A_PEER_METHOD: return tuv_peer_method_begin(ends[h], s, nonce);
+	switch (role) {
+	case A_PASS: return tuv_pass_begin(end, among(0, 255), retries);
+	case A_PEER_METHOD: return tuv_peer_method_begin(end, s, nonce);
 	case A_SERVER_METHOD:
-		return tuv_server_method_begin(ends[h], s, nonce, among(0, 255));
-	case A_PEER: return tuv_peer_begin(ends[h], s, nonce);
-	case A_BACKEND: return tuv_backend_begin(ends[h], s, nonce);
+		return tuv_server_method_begin(end, s, nonce, among(0, 255));
+	case A_PEER: return tuv_peer_begin(end, s, nonce);
+	case A_BACKEND: return tuv_backend_begin(end, s, nonce);
 	default:
-		return tuv_server_begin(ends[h], s, nonce, among(0, 255), retries);
+		return tuv_server_begin(end, s, nonce, among(0, 255), retries);
 	}
 }
 
@@ -637,7 +638,7 @@ static uint8_t begin(enum handle h, const struct tuv_settings *s,
 	fill(nonce, sizeof(nonce));
 	remember(h);
 	s = handed(s);
-	answer = begin_of(h, s, copied(nonce, sizeof(nonce)), retries);
+	answer = begin_as(role_of(h), ends[h], s, copied(nonce, sizeof(nonce)), retries);
 	if (answer != judged(h, s, retries))
 		fail("a begin is refused otherwise than the header says");
 	if (answer != TUV_BEGUN) {
@@ -646,8 +647,8 @@ static uint8_t begin(enum handle h, const struct tuv_settings *s,
 		return answer;
 	}
 	m->role = role_of(h);
-	if (m->role >= A_PASS && allocations != blocks)
-		fail("a begin takes memory");
+	if (allocations - blocks != (m->role == A_SERVER || m->role == A_BACKEND ? 2 : 1))
+		fail("a begin takes other blocks than it says");
 	m->state = m->role == A_PEER ? TUV_STATE_IDLE : TUV_STATE_INITIALIZE;
 	m->last.len = 0;
 	m->sends = m->role == A_SERVER_METHOD;
@@ -978,17 +979,15 @@ static void drop(struct tuv_end *end)
 
 /* Begins at an end whose allocations may fail: asked again, it has begun. Whether
  * one did fail. */
-static bool starved(enum handle h, struct tuv_end *end)
+static bool starved(enum role role, struct tuv_end *end)
 {
-	const struct tuv_settings *s = handed(&told[h != PEER]);
+	bool at_peer = role == A_PEER || role == A_PEER_METHOD;
+	const struct tuv_settings *s = handed(&told[!at_peer]);
 	unsigned int i;
 
 	for (i = 0; i < 2; i++) {
-		uint8_t answer = h == PEER
-			? tuv_peer_begin(end, s, fresh(PEER))
-			: h == SERVER
-			? tuv_server_begin(end, s, fresh(SERVER), among(0, 255), among(0, 10))
-			: tuv_backend_begin(end, s, fresh(SERVER));
+		uint8_t answer = begin_as(role, end, s, fresh(at_peer ? PEER : SERVER),
+					  among(0, 10));
 
 		calls++;
 		if (answer == TUV_BEGUN)
@@ -1003,7 +1002,7 @@ static bool starved(enum handle h, struct tuv_end *end)
 /* Each allocation of a login fails in its turn. */
 static void starve(void)
 {
-	unsigned int refusals, h;
+	unsigned int refusals, role;
 	struct tuv_end *end;
 
 	prepare();
@@ -1020,8 +1019,8 @@ static void starve(void)
 			if (!tuv_end_new(&end->at))
 				fail("memory is refused twice");
 		}
-		for (h = 0; h < HANDLES; h++)
-			refusals += starved(h, end);
+		for (role = A_PEER; role <= A_SERVER_METHOD; role++)
+			refusals += starved(role, end);
 		if (refusals != (fails_at <= allocations))
 			fail("want of memory is not said");
 		drop(end);

@@ -379,7 +379,6 @@ uint8_t tuv_server_user(struct tuv_end *end, const struct tuv_settings *settings
 
 /* --- the pass-through (section 7) --- */
 
-/* It takes no memory. */
 uint8_t tuv_pass_begin(struct tuv_end *end, uint8_t first_id,
 		       uint8_t max_retrans);
 
@@ -400,7 +399,6 @@ struct tuv_turn tuv_pass_aaa_noreq(struct tuv_end *end);
 
 /* --- a method alone, for a program with machines of its own --- */
 
-/* These take no memory. */
 uint8_t tuv_peer_method_begin(struct tuv_end *end,
 			      const struct tuv_settings *settings,
 			      const uint8_t nonce[TUV_NONCE_LEN]);

@@ -240,6 +240,14 @@ impl<M: PeerMethod> PeerMachine<M> {
         self.vars.state
     }
 
+    /// lastRespData (RFC 4137 section 4.3.1): the packet that the peer sent last since its begin or restart, of at most
+    /// 1,500 octets; of none before the first.
+    pub fn last_response(&self) -> &[u8]
+        ensures { result.now ≡ self.now.vars.last_response }
+    {
+        self.vars.last_response.as_slice()
+    }
+
     /// True in SUCCESS and in FAILURE.
     pub fn ended(&self) -> bool
         ensures { result ≡ is_end self.now.vars.state }

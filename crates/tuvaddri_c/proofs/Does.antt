@@ -10,8 +10,7 @@ use Rattle.peer_machine.specs.PeerTable as peer
 use Rattle.server_machine.specs.ServerTable.{ServerValue, ServerAnswer}
 use Rattle.server_machine.specs.ServerTable as server
 use Rattle.end_objects.specs.Objects.{peer_object_shown, server_object_shown}
-use Rattle.tuvaddri_c.specs.declared.session.Sent.{Sent}
-use Rattle.tuvaddri_c.specs.Sent.{after_turn}
+use Rattle.tuvaddri_c.specs.Sent.{Sent, after_turn}
 use Rattle.tuvaddri_c.specs.Turns.{turn_of, PeerDoes, ServerDoes, PassDoes, is_some}
 use Rattle.pass_through.specs.PassTable.{Side, PassAnswer, step_to}
 use Rattle.pass_through.specs.PassTable as pass

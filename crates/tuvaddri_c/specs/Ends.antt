@@ -29,41 +29,41 @@ AsPeer e P = elim e [ ends.Peer m ↦ P m | _ ↦ ⊥ ]
 
 -- if the end is a stand-alone server, this holds of it
 abbrev pub IfServer : End → (ServerValue ServerObject → Type 0) → Type 0
-IfServer e P = elim e [ ends.Server m ↦ P m | _ ↦ ⊤ ]
+IfServer e P = elim e [ ends.Server m last ↦ P m | _ ↦ ⊤ ]
 
 -- the end is a stand-alone server, and this holds of it
 abbrev pub AsServer : End → (ServerValue ServerObject → Type 0) → Type 0
-AsServer e P = elim e [ ends.Server m ↦ P m | _ ↦ ⊥ ]
+AsServer e P = elim e [ ends.Server m last ↦ P m | _ ↦ ⊥ ]
 
 -- if the end is a backend, this holds of it
 abbrev pub IfBackend : End → (ServerValue ServerObject → Type 0) → Type 0
-IfBackend e P = elim e [ ends.Backend m ↦ P m | _ ↦ ⊤ ]
+IfBackend e P = elim e [ ends.Backend m last ↦ P m | _ ↦ ⊤ ]
 
 -- the end is a backend, and this holds of it
 abbrev pub AsBackend : End → (ServerValue ServerObject → Type 0) → Type 0
-AsBackend e P = elim e [ ends.Backend m ↦ P m | _ ↦ ⊥ ]
+AsBackend e P = elim e [ ends.Backend m last ↦ P m | _ ↦ ⊥ ]
 
 -- if the end is a pass-through, this holds of it
 abbrev pub IfPass : End → (PassVariables → Type 0) → Type 0
-IfPass e P = elim e [ ends.Pass m ↦ P m | _ ↦ ⊤ ]
+IfPass e P = elim e [ ends.Pass m last ↦ P m | _ ↦ ⊤ ]
 
 -- the end is a pass-through, and this holds of it
 abbrev pub AsPass : End → (PassVariables → Type 0) → Type 0
-AsPass e P = elim e [ ends.Pass m ↦ P m | _ ↦ ⊥ ]
+AsPass e P = elim e [ ends.Pass m last ↦ P m | _ ↦ ⊥ ]
 
 -- whether octets may come: to a peer, to a backend, and to a server that has started
 abbrev pub receives_octets : End → Bool
 receives_octets e = elim e [
   | ends.Peer m ↦ true
-  | ends.Server m ↦ is_ready m.vars
-  | ends.Backend m ↦ true
+  | ends.Server m last ↦ is_ready m.vars
+  | ends.Backend m last ↦ true
   | _ ↦ false
 ]
 
 -- whether Responses may come: to a backend, and to a server that has started
 abbrev pub receives_responses : End → Bool
 receives_responses e =
-    elim e [ ends.Server m ↦ is_ready m.vars | ends.Backend m ↦ true | _ ↦ false ]
+    elim e [ ends.Server m last ↦ is_ready m.vars | ends.Backend m last ↦ true | _ ↦ false ]
 
 -- whether the end is a peer
 abbrev pub is_peer : End → Bool
@@ -71,7 +71,7 @@ is_peer e = elim e [ ends.Peer m ↦ true | _ ↦ false ]
 
 -- whether the end is a peer or a peer's method
 abbrev pub is_at_peer : End → Bool
-is_at_peer e = elim e [ ends.Peer m ↦ true | ends.PeerMethod object key ↦ true | _ ↦ false ]
+is_at_peer e = elim e [ ends.Peer m ↦ true | ends.PeerMethod object key last ↦ true | _ ↦ false ]
 
 -- whether the lower layer may report to the peer: it has not ended
 abbrev pub is_running_peer : End → Bool
@@ -80,11 +80,11 @@ is_running_peer e = elim e [ ends.Peer m ↦ not (is_end m.vars.state) | _ ↦ f
 -- whether a server may start: it has not yet
 abbrev pub can_start : End → Bool
 can_start e =
-    elim e [ ends.Server m ↦ not (is_started m.vars) && not (is_backend m.vars) | _ ↦ false ]
+    elim e [ ends.Server m last ↦ not (is_started m.vars) && not (is_backend m.vars) | _ ↦ false ]
 
 -- whether a server's retransmission timer runs
 abbrev pub has_timer : End → Bool
-has_timer e = elim e [ ends.Server m ↦ server.has_timer m.vars | _ ↦ false ]
+has_timer e = elim e [ ends.Server m last ↦ server.has_timer m.vars | _ ↦ false ]
 
 -- whether each method of a peer's settings has an object; of a server's
 abbrev pub peer_has_objects : PeerValue PeerObject → Bool
@@ -99,8 +99,8 @@ server_has_objects m =
 abbrev pub can_restart : End → Bool
 can_restart e = elim e [
   | ends.Peer m ↦ peer_has_objects m
-  | ends.Server m ↦ server_has_objects m
-  | ends.Backend m ↦ server_has_objects m
+  | ends.Server m last ↦ server_has_objects m
+  | ends.Backend m last ↦ server_has_objects m
   | _ ↦ false
 ]
 
@@ -110,24 +110,24 @@ can_restart_peer e = elim e [ ends.Peer m ↦ peer_has_objects m | _ ↦ false ]
 
 abbrev pub can_restart_server : End → Bool
 can_restart_server e = elim e [
-  | ends.Server m ↦ server_has_objects m
-  | ends.Backend m ↦ server_has_objects m
+  | ends.Server m last ↦ server_has_objects m
+  | ends.Backend m last ↦ server_has_objects m
   | _ ↦ false
 ]
 
 -- whether the end is a pass-through; one that may start; one whose retransmission timer runs; one
 -- that waits for the backend
 abbrev pub is_pass : End → Bool
-is_pass e = elim e [ ends.Pass m ↦ true | _ ↦ false ]
+is_pass e = elim e [ ends.Pass m last ↦ true | _ ↦ false ]
 
 abbrev pub can_start_pass : End → Bool
-can_start_pass e = elim e [ ends.Pass m ↦ not (pass.is_started m.state) | _ ↦ false ]
+can_start_pass e = elim e [ ends.Pass m last ↦ not (pass.is_started m.state) | _ ↦ false ]
 
 abbrev pub has_timer_pass : End → Bool
-has_timer_pass e = elim e [ ends.Pass m ↦ pass.has_timer m.state | _ ↦ false ]
+has_timer_pass e = elim e [ ends.Pass m last ↦ pass.has_timer m.state | _ ↦ false ]
 
 abbrev pub waits_for_backend : End → Bool
-waits_for_backend e = elim e [ ends.Pass m ↦ pass.is_aaa_idle m.state | _ ↦ false ]
+waits_for_backend e = elim e [ ends.Pass m last ↦ pass.is_aaa_idle m.state | _ ↦ false ]
 
 -- what a peer's selected method shows, and a server's current one
 abbrev pub selected_shown_of : PeerValue PeerObject → Option PeerShown
@@ -139,12 +139,12 @@ current_shown_of m = current_view (server.now_of server_object_shown m)
 -- the report of a method that succeeded
 abbrev pub end_reports : End → Option Report
 end_reports ends.Closed = None
-end_reports (ends.PeerMethod object key) = peer_report (peer_object_shown object)
-end_reports (ends.ServerMethod object known) = server_report (server_object_shown object)
+end_reports (ends.PeerMethod object key last) = peer_report (peer_object_shown object)
+end_reports (ends.ServerMethod object known last) = server_report (server_object_shown object)
 end_reports (ends.Peer m) = peer_reports (peer.now_of peer_object_shown m)
-end_reports (ends.Server m) = server_reports (server.now_of server_object_shown m)
-end_reports (ends.Backend m) = server_reports (server.now_of server_object_shown m)
-end_reports (ends.Pass m) = None
+end_reports (ends.Server m last) = server_reports (server.now_of server_object_shown m)
+end_reports (ends.Backend m last) = server_reports (server.now_of server_object_shown m)
+end_reports (ends.Pass m last) = None
 
 -- its nonces
 abbrev pub nonces_of_peer : Option PeerShown → Option Nonces
@@ -157,9 +157,9 @@ nonces_of_server (Some shown) = server_nonces shown
 
 abbrev pub end_nonces : End → Option Nonces
 end_nonces ends.Closed = None
-end_nonces (ends.PeerMethod object key) = peer_nonces (peer_object_shown object)
-end_nonces (ends.ServerMethod object known) = server_nonces (server_object_shown object)
+end_nonces (ends.PeerMethod object key last) = peer_nonces (peer_object_shown object)
+end_nonces (ends.ServerMethod object known last) = server_nonces (server_object_shown object)
 end_nonces (ends.Peer m) = nonces_of_peer (selected_shown_of m)
-end_nonces (ends.Server m) = nonces_of_server (current_shown_of m)
-end_nonces (ends.Backend m) = nonces_of_server (current_shown_of m)
-end_nonces (ends.Pass m) = None
+end_nonces (ends.Server m last) = nonces_of_server (current_shown_of m)
+end_nonces (ends.Backend m last) = nonces_of_server (current_shown_of m)
+end_nonces (ends.Pass m last) = None

@@ -92,12 +92,12 @@ pass_ended s = elim s [
 -- why the login of an end, which has sent this packet last, has failed
 abbrev pub end_failure : End → List ℕ → TuvFailure
 end_failure ends.Closed sent = not_failed
-end_failure (ends.PeerMethod object key) sent =
+end_failure (ends.PeerMethod object key last) sent =
     peer_failure (Some (peer_object_shown object)) sent not_failed
-end_failure (ends.ServerMethod object known) sent =
+end_failure (ends.ServerMethod object known last) sent =
     shown_failure (server_object_shown object) not_failed
 end_failure (ends.Peer m) sent =
     peer_failure (selected_shown_of m) sent (peer_ended m.vars.state (selected_shown_of m))
-end_failure (ends.Server m) sent = server_failure (current_shown_of m) (server_ended m.vars.state)
-end_failure (ends.Backend m) sent = server_failure (current_shown_of m) (server_ended m.vars.state)
-end_failure (ends.Pass m) sent = pass_ended m.state
+end_failure (ends.Server m last) sent = server_failure (current_shown_of m) (server_ended m.vars.state)
+end_failure (ends.Backend m last) sent = server_failure (current_shown_of m) (server_ended m.vars.state)
+end_failure (ends.Pass m last) sent = pass_ended m.state

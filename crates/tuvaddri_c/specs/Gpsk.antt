@@ -36,12 +36,12 @@ key_in users name = option_map (λ user. user.psk) (user_of users name gpsk_kind
 
 abbrev pub end_key : End → List ℕ → Option (List ℕ)
 end_key ends.Closed name = None
-end_key (ends.PeerMethod object key) name = Some key
-end_key (ends.ServerMethod object known) name = key_in known.users name
+end_key (ends.PeerMethod object key last) name = Some key
+end_key (ends.ServerMethod object known last) name = key_in known.users name
 end_key (ends.Peer m) name = m.vars.setup.psk51
-end_key (ends.Server m) name = key_in m.vars.setup.users name
-end_key (ends.Backend m) name = key_in m.vars.setup.users name
-end_key (ends.Pass m) name = None
+end_key (ends.Server m last) name = key_in m.vars.setup.users name
+end_key (ends.Backend m last) name = key_in m.vars.setup.users name
+end_key (ends.Pass m last) name = None
 
 -- EAP-GPSK's Session-Id
 abbrev pub gpsk_session_id : Suite → List ℕ → EndReport → List ℕ

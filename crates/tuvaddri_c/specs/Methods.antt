@@ -26,26 +26,25 @@ use Rattle.end_objects.specs.declared.objects.PeerObject.{PeerObject}
 use Rattle.end_objects.specs.declared.objects.ServerObject.{ServerObject}
 use Rattle.tuvaddri_c.specs.declared.session.End.{End}
 use Rattle.tuvaddri_c.specs.declared.session.CheckedUsers.{CheckedUsers}
-use Rattle.tuvaddri_c.specs.declared.session.Sent.{Sent}
 use Rattle.tuvaddri_c.specs.declared.session.Session.{Session}
-use Rattle.tuvaddri_c.specs.Sent.{after_turn, session_after_silence}
+use Rattle.tuvaddri_c.specs.Sent.{Sent, after_turn, session_after_silence}
 use Rattle.tuvaddri_c.specs.declared.session.End.TheVariants as ends
 
 -- if the session has a peer's method, this holds of it and its key
 abbrev pub IfPeerMethod : End → (PeerObject → List ℕ → Type 0) → Type 0
-IfPeerMethod e P = elim e [ ends.PeerMethod o key ↦ P o key | _ ↦ ⊤ ]
+IfPeerMethod e P = elim e [ ends.PeerMethod o key last ↦ P o key | _ ↦ ⊤ ]
 
 -- the session has a peer's method, and this holds of it and its key
 abbrev pub AsPeerMethod : End → (PeerObject → List ℕ → Type 0) → Type 0
-AsPeerMethod e P = elim e [ ends.PeerMethod o key ↦ P o key | _ ↦ ⊥ ]
+AsPeerMethod e P = elim e [ ends.PeerMethod o key last ↦ P o key | _ ↦ ⊥ ]
 
 -- if the session has a server's method, this holds of it and its users
 abbrev pub IfServerMethod : End → (ServerObject → CheckedUsers → Type 0) → Type 0
-IfServerMethod e P = elim e [ ends.ServerMethod o users ↦ P o users | _ ↦ ⊤ ]
+IfServerMethod e P = elim e [ ends.ServerMethod o users last ↦ P o users | _ ↦ ⊤ ]
 
 -- the session has a server's method, and this holds of it and its users
 abbrev pub AsServerMethod : End → (ServerObject → CheckedUsers → Type 0) → Type 0
-AsServerMethod e P = elim e [ ends.ServerMethod o users ↦ P o users | _ ↦ ⊥ ]
+AsServerMethod e P = elim e [ ends.ServerMethod o users last ↦ P o users | _ ↦ ⊥ ]
 
 -- the numbers of methodState and of decision, in the order of their declarations
 abbrev pub method_number : MethodState → ℕ
@@ -179,7 +178,7 @@ response_in kind (Ok (failure id)) = Err cause.WrongRole
 
 -- whether the session has a peer's method; a server's method
 abbrev pub is_peer_method : End → Bool
-is_peer_method e = elim e [ ends.PeerMethod o key ↦ true | _ ↦ false ]
+is_peer_method e = elim e [ ends.PeerMethod o key last ↦ true | _ ↦ false ]
 
 abbrev pub is_server_method : End → Bool
-is_server_method e = elim e [ ends.ServerMethod o users ↦ true | _ ↦ false ]
+is_server_method e = elim e [ ends.ServerMethod o users last ↦ true | _ ↦ false ]

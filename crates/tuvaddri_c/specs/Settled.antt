@@ -40,8 +40,8 @@ pass_settled s = elim s [
 abbrev pub is_settled : End → Bool
 is_settled e = elim e [
   | ends.Peer m ↦ peer_settled m.vars.state
-  | ends.Server m ↦ server_settled m.vars.state
-  | ends.Backend m ↦ server_settled m.vars.state
-  | ends.Pass m ↦ pass_settled m.state
+  | ends.Server m last ↦ server_settled m.vars.state
+  | ends.Backend m last ↦ server_settled m.vars.state
+  | ends.Pass m last ↦ pass_settled m.state
   | _ ↦ true
 ]

@@ -16,10 +16,9 @@ use Rattle.pass_through.specs.declared.variables.PassVariables.{PassVariables}
 use Rattle.end_objects.specs.Objects.{peer_object_shown, server_object_shown}
 use Rattle.end_objects.specs.declared.objects.PeerObject.{PeerObject}
 use Rattle.end_objects.specs.declared.objects.ServerObject.{ServerObject}
-use Rattle.tuvaddri_c.specs.declared.session.Sent.{Sent}
 use Rattle.tuvaddri_c.specs.declared.session.Session.{Session}
 use Rattle.tuvaddri_c.specs.declared.turn.TuvTurn.{TuvTurn}
-use Rattle.tuvaddri_c.specs.Sent.{after_turn, session_after_silence}
+use Rattle.tuvaddri_c.specs.Sent.{Sent, after_turn, session_after_silence}
 
 -- the number of a cause, in the order of its declaration
 unfoldable pub cause_number : Cause → ℕ

@@ -12,7 +12,7 @@ use Rattle.tuvaddri_c.specs.declared.session.End.TheVariants as ends
 
 -- whether the end is a machine that has users
 abbrev pub has_users : End → Bool
-has_users e = elim e [ ends.Server m ↦ true | ends.Backend m ↦ true | _ ↦ false ]
+has_users e = elim e [ ends.Server m last ↦ true | ends.Backend m last ↦ true | _ ↦ false ]
 
 -- whether there is a key for the method of an object
 abbrev pub has_key_for : SettingsValue → ServerObject → Bool

@@ -10,6 +10,7 @@ ghost use Rattle.server_machine.specs.ServerTable as server;
 ghost use Rattle.end_objects.specs.Objects.{peer_object_shown, server_object_shown};
 ghost use Rattle.tuvaddri_c.specs.Ends.{IfPeer, AsPeer, IfServer, AsServer, IfBackend, AsBackend};
 ghost use Rattle.tuvaddri_c.specs.Ends.{is_peer, receives_responses, receives_octets, can_restart};
+ghost use Rattle.tuvaddri_c.specs.Sent.{sent_of};
 ghost use Rattle.tuvaddri_c.specs.Settled.{is_settled};
 ghost use Rattle.tuvaddri_c.specs.Turns.{PeerDoes, ServerDoes, IsMisplaced};
 
@@ -20,12 +21,12 @@ use eap_method::{NoRecords, Tags};
 use octet_lists::Packet;
 
 /// Octets arrive at a peer.
-#[tactic(auto, using(crate::proofs::Does::peer_does, crate::proofs::TwoRecords::peer_preserved))]
+#[tactic(auto, using(crate::proofs::TwoRecords::peer_preserved))]
 #[inline(never)]
 fn deliver_to_peer(session: &mut Session, octets: &[u8]) -> TuvTurn
     ensures peer { IfPeer session.old.end (λ m. AsPeer session.new.end (λ n.
         PeerDoes (peer_receives (peer.now_of peer_object_shown m) octets.now)
-        session.old.sent result session.new.sent n)) }
+        (sent_of session.old) result (sent_of session.new) n)) }
     ensures misplaced { is_peer session.old.end ≡ false
         → IsMisplaced session.old result session.new }
     ensures objects { can_restart session.old.end ≡ true → can_restart session.new.end ≡ true }
@@ -36,9 +37,9 @@ fn deliver_to_peer(session: &mut Session, octets: &[u8]) -> TuvTurn
             let mut packet = Packet::new();
             let mut tags: Tags<NoRecords> = Tags::new();
             let step = machine.deliver_step(octets, &mut packet, &mut tags);
-            TuvTurn::of(&step, packet.as_slice(), machine.state(), &mut session.sent)
+            TuvTurn::of_peer(&step, machine.state(), &mut session.fresh)
         }
-        _ => TuvTurn::none(&mut session.sent),
+        _ => TuvTurn::none(&mut session.fresh),
     }
 }
 
@@ -49,10 +50,10 @@ fn deliver_to_server(session: &mut Session, octets: &[u8]) -> TuvTurn
     ensures server { IfServer session.old.end
         (λ m. is_ready m.vars ≡ true → AsServer session.new.end (λ n.
         ServerDoes (server_receives (server.now_of server_object_shown m) octets.now)
-        session.old.sent result session.new.sent n)) }
+        (sent_of session.old) result (sent_of session.new) n)) }
     ensures backend { IfBackend session.old.end (λ m. AsBackend session.new.end (λ n.
         ServerDoes (server_receives (server.now_of server_object_shown m) octets.now)
-        session.old.sent result session.new.sent n)) }
+        (sent_of session.old) result (sent_of session.new) n)) }
     ensures misplaced { receives_responses session.old.end ≡ false
         → IsMisplaced session.old result session.new }
     ensures objects { can_restart session.old.end ≡ true → can_restart session.new.end ≡ true }
@@ -61,15 +62,27 @@ fn deliver_to_server(session: &mut Session, octets: &[u8]) -> TuvTurn
     let mut packet = Packet::new();
     let mut tags: Tags<NoRecords> = Tags::new();
     match &mut session.end {
-        End::Server(machine) if machine.ready() => {
+        End::Server(machine, last) if machine.ready() => {
             let step = machine.deliver_step(octets, &mut packet, &mut tags);
-            TuvTurn::of(&step, packet.as_slice(), machine.state(), &mut session.sent)
+            TuvTurn::of(
+                &step,
+                packet.as_slice(),
+                machine.state(),
+                last,
+                &mut session.fresh,
+            )
         }
-        End::Backend(machine) => {
+        End::Backend(machine, last) => {
             let step = machine.deliver_step(octets, &mut packet, &mut tags);
-            TuvTurn::of(&step, packet.as_slice(), machine.state(), &mut session.sent)
+            TuvTurn::of(
+                &step,
+                packet.as_slice(),
+                machine.state(),
+                last,
+                &mut session.fresh,
+            )
         }
-        _ => TuvTurn::none(&mut session.sent),
+        _ => TuvTurn::none(&mut session.fresh),
     }
 }
 
@@ -78,7 +91,7 @@ fn deliver_to_server(session: &mut Session, octets: &[u8]) -> TuvTurn
 pub extern "C" fn tuv_peer_deliver(end: &mut TuvEnd, octets: &[u8]) -> TuvTurn
     ensures peer { IfPeer end.old.value.end (λ m. AsPeer end.new.value.end (λ n.
         PeerDoes (peer_receives (peer.now_of peer_object_shown m) octets.now)
-        end.old.value.sent result end.new.value.sent n)) }
+        (sent_of end.old.value) result (sent_of end.new.value) n)) }
     ensures misplaced { is_peer end.old.value.end ≡ false
         → IsMisplaced end.old.value result end.new.value }
     ensures objects { can_restart end.old.value.end ≡ true → can_restart end.new.value.end ≡ true }
@@ -93,10 +106,10 @@ pub extern "C" fn tuv_server_deliver(end: &mut TuvEnd, octets: &[u8]) -> TuvTurn
     ensures server { IfServer end.old.value.end
         (λ m. is_ready m.vars ≡ true → AsServer end.new.value.end (λ n.
         ServerDoes (server_receives (server.now_of server_object_shown m) octets.now)
-        end.old.value.sent result end.new.value.sent n)) }
+        (sent_of end.old.value) result (sent_of end.new.value) n)) }
     ensures backend { IfBackend end.old.value.end (λ m. AsBackend end.new.value.end (λ n.
         ServerDoes (server_receives (server.now_of server_object_shown m) octets.now)
-        end.old.value.sent result end.new.value.sent n)) }
+        (sent_of end.old.value) result (sent_of end.new.value) n)) }
     ensures misplaced { receives_responses end.old.value.end ≡ false
         → IsMisplaced end.old.value result end.new.value }
     ensures objects { can_restart end.old.value.end ≡ true → can_restart end.new.value.end ≡ true }
@@ -110,14 +123,14 @@ pub extern "C" fn tuv_server_deliver(end: &mut TuvEnd, octets: &[u8]) -> TuvTurn
 pub extern "C" fn tuv_end_deliver(end: &mut TuvEnd, octets: &[u8]) -> TuvTurn
     ensures peer { IfPeer end.old.value.end (λ m. AsPeer end.new.value.end (λ n.
         PeerDoes (peer_receives (peer.now_of peer_object_shown m) octets.now)
-        end.old.value.sent result end.new.value.sent n)) }
+        (sent_of end.old.value) result (sent_of end.new.value) n)) }
     ensures server { IfServer end.old.value.end
         (λ m. is_ready m.vars ≡ true → AsServer end.new.value.end (λ n.
         ServerDoes (server_receives (server.now_of server_object_shown m) octets.now)
-        end.old.value.sent result end.new.value.sent n)) }
+        (sent_of end.old.value) result (sent_of end.new.value) n)) }
     ensures backend { IfBackend end.old.value.end (λ m. AsBackend end.new.value.end (λ n.
         ServerDoes (server_receives (server.now_of server_object_shown m) octets.now)
-        end.old.value.sent result end.new.value.sent n)) }
+        (sent_of end.old.value) result (sent_of end.new.value) n)) }
     ensures misplaced { receives_octets end.old.value.end ≡ false
         → IsMisplaced end.old.value result end.new.value }
     ensures objects { can_restart end.old.value.end ≡ true → can_restart end.new.value.end ≡ true }

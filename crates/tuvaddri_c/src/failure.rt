@@ -6,6 +6,7 @@ ghost use Rattle.end_objects.specs.Objects.{peer_object_shown, server_object_sho
 ghost use Rattle.tuvaddri_c.specs.Failures.{failing, code_in, sent_code, peer_failure, peer_ended};
 ghost use Rattle.tuvaddri_c.specs.Failures.{shown_failure, server_failure, server_ended};
 ghost use Rattle.tuvaddri_c.specs.Failures.{pass_ended, end_failure};
+ghost use Rattle.tuvaddri_c.specs.Sent.{sent_of};
 
 use crate::by_method::{code_by, repeated_by};
 use crate::handle::TuvEnd;
@@ -154,20 +155,23 @@ fn pass_ended(state: State) -> TuvFailure
 #[unsafe(no_mangle)]
 pub extern "C" fn tuv_end_failure(end: &mut TuvEnd) -> TuvFailure
     ensures same { end.new.value ≡ end.old.value }
-    ensures failure { result ≡ end_failure end.old.value.end end.old.value.sent.packet }
+    ensures failure { result ≡ end_failure end.old.value.end (sent_of end.old.value).packet }
 {
-    let session = end.session();
-    let sent = session.sent.packet.as_slice();
-    match &session.end {
+    let end = &end.session().end;
+    let sent = end.last_packet();
+    match end {
         End::Closed => failing(0, 0),
-        End::PeerMethod(object, _) => peer_failure(Some(object), sent, failing(0, 0)),
-        End::ServerMethod(object, _) => shown_failure(object, failing(0, 0)),
+        End::PeerMethod(object, _, _) => peer_failure(Some(object), sent, failing(0, 0)),
+        End::ServerMethod(object, _, _) => shown_failure(object, failing(0, 0)),
         End::Peer(machine) => {
             let selected = machine.selected();
             peer_failure(selected, sent, peer_ended(machine.state(), selected))
         }
-        End::Server(machine) => server_failure(machine.current(), server_ended(machine.state())),
-        End::Backend(machine) => server_failure(machine.current(), server_ended(machine.state())),
-        End::Pass(machine) => pass_ended(machine.state()),
+        End::Server(machine, _) => server_failure(machine.current(), server_ended(machine.state())),
+        End::Backend(machine, _) => server_failure(
+            machine.current(),
+            server_ended(machine.state()),
+        ),
+        End::Pass(machine, _) => pass_ended(machine.state()),
     }
 }

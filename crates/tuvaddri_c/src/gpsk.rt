@@ -68,12 +68,12 @@ pub fn key_of(end: &End, name: &[u8]) -> Option<Secret>
 {
     match end {
         End::Closed => None,
-        End::PeerMethod(_, key) => Some(key.copy()),
-        End::ServerMethod(_, known) => key_in(&known.users, name),
+        End::PeerMethod(_, key, _) => Some(key.copy()),
+        End::ServerMethod(_, known, _) => key_in(&known.users, name),
         End::Peer(machine) => machine.setup().psk51.as_ref().map(|key| key.copy()),
-        End::Server(machine) => key_in(&machine.setup().users, name),
-        End::Backend(machine) => key_in(&machine.setup().users, name),
-        End::Pass(_) => None,
+        End::Server(machine, _) => key_in(&machine.setup().users, name),
+        End::Backend(machine, _) => key_in(&machine.setup().users, name),
+        End::Pass(_, _) => None,
     }
 }
 

@@ -3,14 +3,14 @@
 ghost use Rattle.std.specs.Prelude.{◌≡◌, IsTrue, Some};
 ghost use Rattle.tuvaddri_c.specs.declared.session.Session.{Session};
 ghost use Rattle.tuvaddri_c.specs.Capacities.{IsCopied};
-ghost use Rattle.tuvaddri_c.specs.Sent.{no_end, turn_packet};
+ghost use Rattle.tuvaddri_c.specs.Sent.{no_end, sent_of, turn_packet};
 ghost use Rattle.tuvaddri_c.specs.contracts.session.Session.{the_row};
 ghost use denote.Param.{layout};
 ghost use prog.Memory.{size, capped};
 
 use crate::place::TuvPlace;
 use crate::rooms::copy;
-use crate::session::{End, Sent, Session};
+use crate::session::{End, Session};
 use std::alloc::Global;
 use std::marker::Model;
 use std::mem::size_of;
@@ -83,7 +83,7 @@ pub extern "C" fn tuv_end_close(end: &mut TuvEnd)
 {
     let session = end.session();
     session.end = End::Closed;
-    session.sent.clear();
+    session.fresh = false;
 }
 
 /// Answers the length of the packet of the end's last turn, or of `tuv_server_method_begin`: 0 if that turn sent none.
@@ -91,16 +91,16 @@ pub extern "C" fn tuv_end_close(end: &mut TuvEnd)
 #[unsafe(no_mangle)]
 pub extern "C" fn tuv_end_packet(end: &mut TuvEnd, room: &mut [u8]) -> usize
     ensures same { end.new.value ≡ end.old.value }
-    ensures packet { IsCopied (turn_packet end.old.value.sent) room.old result room.new }
+    ensures packet { IsCopied (turn_packet (sent_of end.old.value)) room.old result room.new }
 {
-    copy_fresh(&end.session().sent, room)
+    copy_fresh(end.session(), room)
 }
 
-fn copy_fresh(sent: &Sent, room: &mut [u8]) -> usize
-    ensures { IsCopied (turn_packet sent.now) room.old result room.new }
+fn copy_fresh(session: &Session, room: &mut [u8]) -> usize
+    ensures { IsCopied (turn_packet (sent_of session.now)) room.old result room.new }
 {
-    if sent.fresh {
-        copy(sent.packet.as_slice(), room)
+    if session.fresh {
+        copy(session.end.last_packet(), room)
     } else {
         copy(&[], room)
     }
@@ -110,7 +110,7 @@ fn copy_fresh(sent: &Sent, room: &mut [u8]) -> usize
 #[unsafe(no_mangle)]
 pub extern "C" fn tuv_end_again(end: &mut TuvEnd, room: &mut [u8]) -> usize
     ensures same { end.new.value ≡ end.old.value }
-    ensures packet { IsCopied end.old.value.sent.packet room.old result room.new }
+    ensures packet { IsCopied (sent_of end.old.value).packet room.old result room.new }
 {
-    copy(end.session().sent.packet.as_slice(), room)
+    copy(end.session().end.last_packet(), room)
 }

@@ -72,12 +72,12 @@ pub fn object_of<'a>(end: &'a End) -> Object<'a>
 {
     match end {
         End::Closed => Object::None,
-        End::PeerMethod(object, _) => Object::Peer(object),
-        End::ServerMethod(object, _) => Object::Server(object),
+        End::PeerMethod(object, _, _) => Object::Peer(object),
+        End::ServerMethod(object, _, _) => Object::Server(object),
         End::Peer(machine) => of_peer(machine.selected()),
-        End::Server(machine) => of_server(machine.current()),
-        End::Backend(machine) => of_server(machine.current()),
-        End::Pass(_) => Object::None,
+        End::Server(machine, _) => of_server(machine.current()),
+        End::Backend(machine, _) => of_server(machine.current()),
+        End::Pass(_, _) => Object::None,
     }
 }
 
@@ -87,7 +87,7 @@ pub fn peer_object_of<'a>(end: &'a End) -> Option<&'a PeerObject>
         ≡ stored_at_peer end.now }
 {
     match end {
-        End::PeerMethod(object, _) => Some(object),
+        End::PeerMethod(object, _, _) => Some(object),
         End::Peer(machine) => machine.selected(),
         _ => None,
     }
@@ -99,9 +99,9 @@ pub fn server_object_of<'a>(end: &'a End) -> Option<&'a ServerObject>
         ≡ stored_at_server end.now }
 {
     match end {
-        End::ServerMethod(object, _) => Some(object),
-        End::Server(machine) => machine.current(),
-        End::Backend(machine) => machine.current(),
+        End::ServerMethod(object, _, _) => Some(object),
+        End::Server(machine, _) => machine.current(),
+        End::Backend(machine, _) => machine.current(),
         _ => None,
     }
 }

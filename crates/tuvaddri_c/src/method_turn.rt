@@ -1,11 +1,9 @@
 //! The result of a call of a method alone, as numbers.
 
-ghost use Rattle.std.specs.Prelude.{◌≡◌};
-ghost use Rattle.tuvaddri_c.specs.Sent.{after_silence};
+ghost use Rattle.std.specs.Prelude.{◌≡◌, false};
 ghost use Rattle.tuvaddri_c.specs.Methods.{no_method_turn, discarding, taking, peer_brief};
 ghost use Rattle.tuvaddri_c.specs.Methods.{server_brief, method_number, decision_number};
 
-use crate::session::Sent;
 use crate::turn::number_of_cause;
 use eap_method::{Decision, MethodState, PeerAnswer, ServerAnswer};
 use eap_packet::Cause;
@@ -30,11 +28,11 @@ pub struct TuvMethodTurn {
 
 impl TuvMethodTurn {
     /// A call that has no place; it sends nothing.
-    pub fn none(sent: &mut Sent) -> TuvMethodTurn
+    pub fn none(fresh: &mut bool) -> TuvMethodTurn
         ensures turn { result ≡ no_method_turn }
-        ensures sent { sent.new ≡ after_silence sent.old }
+        ensures silent { fresh.new ≡ false }
     {
-        sent.rest();
+        *fresh = false;
         TuvMethodTurn {
             sends: false,
             discards: false,
@@ -46,11 +44,11 @@ impl TuvMethodTurn {
     }
 
     /// What came is discarded, and nothing is sent.
-    pub fn discard(cause: Cause, sent: &mut Sent) -> TuvMethodTurn
+    pub fn discard(cause: Cause, fresh: &mut bool) -> TuvMethodTurn
         ensures turn { result ≡ discarding cause }
-        ensures sent { sent.new ≡ after_silence sent.old }
+        ensures silent { fresh.new ≡ false }
     {
-        sent.rest();
+        *fresh = false;
         TuvMethodTurn::discarding(cause)
     }
 

@@ -8,18 +8,19 @@ ghost use Rattle.end_objects.specs.Objects.{peer_object_shown, server_object_sho
 ghost use Rattle.end_objects.specs.Refusals.{IsSoundOther, peer_refusal, server_refusal};
 ghost use Rattle.end_objects.specs.Settings.{settings_of, first_kind, users_of, credential_of};
 ghost use Rattle.end_objects.specs.Settings.{side_of};
-ghost use Rattle.tuvaddri_c.specs.Answers.{begun, refusal_number};
+ghost use Rattle.tuvaddri_c.specs.Answers.{begun, no_memory, refusal_number};
 ghost use Rattle.tuvaddri_c.specs.ByMethod.{peer_fresh, server_fresh};
-ghost use Rattle.tuvaddri_c.specs.Sent.{none_sent};
+ghost use Rattle.tuvaddri_c.specs.Sent.{sent_of, sent_packet, none_sent};
 ghost use Rattle.tuvaddri_c.specs.declared.session.End.TheVariants as ends;
 ghost use Rattle.tuvaddri_c.specs.Methods.{IfPeerMethod, AsPeerMethod, IfServerMethod};
 ghost use Rattle.tuvaddri_c.specs.Methods.{AsServerMethod, PeerTurns, ServerTurns, request_in};
 ghost use Rattle.tuvaddri_c.specs.Methods.{response_in, is_peer_method, is_server_method};
 ghost use Rattle.tuvaddri_c.specs.Methods.{IsMisplaced, IsDiscarded};
 
-use crate::answers::{STARTED, number_of_refusal};
+use crate::answers::{NO_MEMORY, STARTED, number_of_refusal};
 use crate::handle::TuvEnd;
 use crate::method_turn::TuvMethodTurn;
+use crate::sent::{empty_packet, store_sent};
 use crate::session::{CheckedUsers, End};
 use crate::users::put;
 use eap_method::{NoRecords, PeerMethod, ServerMethod, Tags};
@@ -30,38 +31,48 @@ use end_objects::{
 };
 use login_setup::UserList;
 use octet_lists::{Nonce, Packet, Secret};
+use std::alloc::Global;
 
 /// Makes the end this peer's method. (By itself, since the compiler then builds it where it stays.)
-fn store_peer(end: &mut End, object: PeerObject, key: Secret)
-    ensures { end.new ≡ ends.PeerMethod object key }
+fn store_peer(end: &mut End, object: PeerObject, key: Secret, last: Box<Packet>)
+    ensures { end.new ≡ ends.PeerMethod object key last }
 {
-    *end = End::PeerMethod(object, key);
+    *end = End::PeerMethod(object, key, last);
 }
 
 /// Makes the end the first of the peer's methods, alone, which has begun, and answers 0. Else it answers the number of
-/// the refusal, and the end stays as it was. It allocates no memory.
+/// the refusal, or 8 for want of memory, and the end stays as it was.
 #[unsafe(no_mangle)]
 #[tactic(auto, using(crate::proofs::Fresh::peer_is_fresh))]
-pub extern "C" fn tuv_peer_method_begin(end: &mut TuvEnd, settings: &Settings, nonce: &Nonce) -> u8
+pub extern "C" fn tuv_peer_method_begin(
+    alloc: Global,
+    end: &mut TuvEnd,
+    settings: &Settings,
+    nonce: &Nonce,
+) -> u8
     ensures refused { IfSome (peer_refusal (settings_of settings.now))
         (λ reason. result ≡ refusal_number reason) }
-    ensures started { peer_refusal (settings_of settings.now) ≡ None → result ≡ begun }
+    ensures started { peer_refusal (settings_of settings.now) ≡ None → (result ≡ no_memory → ⊥)
+        → result ≡ begun }
     ensures initial { result ≡ begun → AsPeerMethod end.new.value.end (λ n key.
         (key ≡ (credential_of (settings_of settings.now)).psk)
         × (peer_object_shown n ≡ peer_fresh (first_kind (settings_of settings.now)) (credential_of
         (settings_of settings.now)) nonce.now)) }
-    ensures sent { result ≡ begun → end.new.value.sent ≡ none_sent }
+    ensures sent { result ≡ begun → sent_of end.new.value ≡ none_sent }
     ensures unchanged { (result ≡ begun → ⊥) → end.new.value ≡ end.old.value }
 {
     if let Some(refusal) = peer_refusal(settings) {
         return number_of_refusal(refusal);
     }
+    let Some(last) = empty_packet(alloc) else {
+        return NO_MEMORY;
+    };
     let credential = credential(settings);
     let mut object = peer_object(first_kind(settings));
     object.begin(&credential, nonce);
     let session = end.session();
-    store_peer(&mut session.end, object, credential.psk.copy());
-    session.sent.clear();
+    store_peer(&mut session.end, object, credential.psk.copy(), last);
+    session.fresh = false;
     STARTED
 }
 
@@ -91,7 +102,7 @@ pub extern "C" fn tuv_peer_method_handle(end: &mut TuvEnd, octets: &[u8]) -> Tuv
         IfOk (request_in (peer_kind (peer_object_shown o)) (packet_of octets.now)) (λ whole.
         AsPeerMethod end.new.value.end (λ n after. (after ≡ key)
         × PeerTurns (peer_step (peer_object_shown o) whole)
-        end.old.value.sent result end.new.value.sent n))) }
+        (sent_of end.old.value) result (sent_of end.new.value) n))) }
     ensures discarded { IfPeerMethod end.old.value.end (λ o key.
         IfErr (request_in (peer_kind (peer_object_shown o)) (packet_of octets.now)) (λ cause.
         IsDiscarded cause end.old.value result end.new.value)) }
@@ -100,8 +111,8 @@ pub extern "C" fn tuv_peer_method_handle(end: &mut TuvEnd, octets: &[u8]) -> Tuv
 {
     let session = end.session();
     match &mut session.end {
-        End::PeerMethod(object, _) => match request_of(octets, object.kind()) {
-            Err(cause) => TuvMethodTurn::discard(cause, &mut session.sent),
+        End::PeerMethod(object, _, last) => match request_of(octets, object.kind()) {
+            Err(cause) => TuvMethodTurn::discard(cause, &mut session.fresh),
             Ok(whole) => {
                 let mut packet = Packet::new();
                 let mut tags: Tags<NoRecords> = Tags::new();
@@ -110,24 +121,25 @@ pub extern "C" fn tuv_peer_method_handle(end: &mut TuvEnd, octets: &[u8]) -> Tuv
                     &mut packet,
                     &mut tags,
                 ));
-                session.sent.set(turn.sends, packet.as_slice());
+                store_sent(turn.sends, packet.as_slice(), last, &mut session.fresh);
                 turn
             }
         },
-        _ => TuvMethodTurn::none(&mut session.sent),
+        _ => TuvMethodTurn::none(&mut session.fresh),
     }
 }
 
 /// Makes the end this server's method. (By itself, since the compiler then builds it where it stays.)
-fn store_server(end: &mut End, object: ServerObject, settings: &Settings)
+fn store_server(end: &mut End, object: ServerObject, settings: &Settings, last: Box<Packet>)
     requires { IsSoundOther (settings_of settings.now) }
-    ensures { AsServerMethod end.new
+    ensures method { AsServerMethod end.new
         (λ n known. (n ≡ object) × (known.users ≡ users_of (settings_of settings.now))) }
+    ensures sent { sent_packet end.new ≡ last.value }
 {
     let users = UserList::new();
-    *end = End::ServerMethod(object, CheckedUsers { users });
+    *end = End::ServerMethod(object, CheckedUsers { users }, last);
     match end {
-        End::ServerMethod(_, known) => put(known, settings),
+        End::ServerMethod(_, known, _) => put(known, settings),
         _ => {}
     }
 }
@@ -137,6 +149,7 @@ fn store_server(end: &mut End, object: ServerObject, settings: &Settings)
 #[unsafe(no_mangle)]
 #[tactic(auto, using(crate::proofs::Sides::side_has_suites, crate::proofs::Fresh::server_is_fresh, eap_method::proofs::ServerViews::begun_initiates))]
 pub extern "C" fn tuv_server_method_begin(
+    alloc: Global,
     end: &mut TuvEnd,
     settings: &Settings,
     nonce: &Nonce,
@@ -144,25 +157,30 @@ pub extern "C" fn tuv_server_method_begin(
 ) -> u8
     ensures refused { IfSome (server_refusal (settings_of settings.now))
         (λ reason. result ≡ refusal_number reason) }
-    ensures started { server_refusal (settings_of settings.now) ≡ None → result ≡ begun }
+    ensures started { server_refusal (settings_of settings.now) ≡ None → (result ≡ no_memory → ⊥)
+        → result ≡ begun }
     ensures initial { result ≡ begun → AsServerMethod end.new.value.end (λ n known.
         (known.users ≡ users_of (settings_of settings.now))
         × (server_first_step (server_fresh (first_kind (settings_of settings.now))
         (side_of (settings_of settings.now)) nonce.now) id
-        ≡ record { packet = end.new.value.sent.packet; after = server_object_shown n })) }
-    ensures sent { result ≡ begun → end.new.value.sent.fresh ≡ true }
+        ≡ record { packet = sent_packet end.new.value.end; after = server_object_shown n })) }
+    ensures sent { result ≡ begun → end.new.value.fresh ≡ true }
     ensures unchanged { (result ≡ begun → ⊥) → end.new.value ≡ end.old.value }
 {
     if let Some(refusal) = server_refusal(settings) {
         return number_of_refusal(refusal);
     }
+    let Some(last) = empty_packet(alloc) else {
+        return NO_MEMORY;
+    };
+    let mut last = last;
     let own = server_side(settings);
     let mut object = server_object(first_kind(settings));
     object.begin(&own, nonce);
+    object.first_into(id, &mut last);
     let session = end.session();
-    object.first_into(id, &mut session.sent.packet);
-    session.sent.fresh = true;
-    store_server(&mut session.end, object, settings);
+    store_server(&mut session.end, object, settings, last);
+    session.fresh = true;
     STARTED
 }
 
@@ -196,7 +214,7 @@ pub extern "C" fn tuv_server_method_handle(
         IfOk (response_in (server_kind (server_object_shown o)) (packet_of octets.now)) (λ whole.
         AsServerMethod end.new.value.end (λ n after. (after.users ≡ known.users)
         × ServerTurns (server_step known.users next_id (server_object_shown o) whole)
-        end.old.value.sent result end.new.value.sent n))) }
+        (sent_of end.old.value) result (sent_of end.new.value) n))) }
     ensures discarded { IfServerMethod end.old.value.end (λ o known.
         IfErr (response_in (server_kind (server_object_shown o)) (packet_of octets.now)) (λ cause.
         IsDiscarded cause end.old.value result end.new.value)) }
@@ -205,8 +223,8 @@ pub extern "C" fn tuv_server_method_handle(
 {
     let session = end.session();
     match &mut session.end {
-        End::ServerMethod(object, known) => match response_of(octets, object.kind()) {
-            Err(cause) => TuvMethodTurn::discard(cause, &mut session.sent),
+        End::ServerMethod(object, known, last) => match response_of(octets, object.kind()) {
+            Err(cause) => TuvMethodTurn::discard(cause, &mut session.fresh),
             Ok(whole) => {
                 let mut packet = Packet::new();
                 let mut tags: Tags<NoRecords> = Tags::new();
@@ -218,10 +236,10 @@ pub extern "C" fn tuv_server_method_handle(
                     &mut tags,
                 );
                 let turn = TuvMethodTurn::of_server(turn);
-                session.sent.set(turn.sends, packet.as_slice());
+                store_sent(turn.sends, packet.as_slice(), last, &mut session.fresh);
                 turn
             }
         },
-        _ => TuvMethodTurn::none(&mut session.sent),
+        _ => TuvMethodTurn::none(&mut session.fresh),
     }
 }

@@ -12,7 +12,7 @@ ghost use Rattle.end_objects.specs.Settings.{settings_of, kinds_of, peer_setup_o
 ghost use Rattle.tuvaddri_c.specs.Answers.{begun, no_memory, refusal_number};
 ghost use Rattle.tuvaddri_c.specs.Ends.{IfPeer, AsPeer, is_running_peer, can_restart};
 ghost use Rattle.tuvaddri_c.specs.declared.session.End.TheVariants as ends;
-ghost use Rattle.tuvaddri_c.specs.Sent.{none_sent};
+ghost use Rattle.tuvaddri_c.specs.Sent.{sent_of, none_sent};
 ghost use Rattle.tuvaddri_c.specs.Settled.{is_settled};
 ghost use Rattle.tuvaddri_c.specs.Turns.{PeerDoes, IsMisplaced};
 
@@ -35,7 +35,7 @@ fn store_machine(end: &mut End, machine: PeerMachine<PeerObject>)
 /// Makes the end a peer with these settings, and answers 0. Else it answers the number of the refusal, or 8 for want
 /// of memory, and the end stays as it was.
 #[unsafe(no_mangle)]
-#[tactic(auto, using(crate::proofs::TwoRecords::peer_started_with, crate::proofs::TwoRecords::peer_created_with, crate::proofs::Stays::peer_created), unfolding(end_objects::specs::Settings::peer_setup_of))]
+#[tactic(auto, using(crate::proofs::TwoRecords::peer_started_with, crate::proofs::TwoRecords::peer_created_with, crate::proofs::Stays::peer_created, crate::proofs::LastResponse::created), unfolding(end_objects::specs::Settings::peer_setup_of))]
 pub extern "C" fn tuv_peer_begin(
     alloc: Global,
     end: &mut TuvEnd,
@@ -52,7 +52,7 @@ pub extern "C" fn tuv_peer_begin(
         (both_of (kinds_of (settings_of settings.now)))) }
     ensures objects { result ≡ begun → can_restart end.new.value.end ≡ true }
     ensures settled { result ≡ begun → is_settled end.new.value.end ≡ true }
-    ensures sent { result ≡ begun → end.new.value.sent ≡ none_sent }
+    ensures sent { result ≡ begun → sent_of end.new.value ≡ none_sent }
     ensures unchanged { (result ≡ begun → ⊥) → end.new.value ≡ end.old.value }
 {
     if let Some(refusal) = peer_refusal(settings) {
@@ -65,18 +65,18 @@ pub extern "C" fn tuv_peer_begin(
     let setup = peer_setup(settings, nonce);
     let session = end.session();
     store_machine(&mut session.end, PeerMachine::new(setup, methods));
-    session.sent.clear();
+    session.fresh = false;
     STARTED
 }
 
 /// The lower layer is idle: to a peer that has not ended.
 #[unsafe(no_mangle)]
-#[tactic(auto, using(crate::proofs::Does::peer_does, crate::proofs::TwoRecords::peer_preserved))]
+#[tactic(auto, using(crate::proofs::TwoRecords::peer_preserved))]
 pub extern "C" fn tuv_peer_idle(end: &mut TuvEnd) -> TuvTurn
     ensures peer { IfPeer end.old.value.end
         (λ m. is_end m.vars.state ≡ false → AsPeer end.new.value.end (λ n.
         PeerDoes (peer_idle (peer.now_of peer_object_shown m))
-        end.old.value.sent result end.new.value.sent n)) }
+        (sent_of end.old.value) result (sent_of end.new.value) n)) }
     ensures misplaced { is_running_peer end.old.value.end ≡ false
         → IsMisplaced end.old.value result end.new.value }
     ensures objects { can_restart end.old.value.end ≡ true → can_restart end.new.value.end ≡ true }
@@ -86,20 +86,20 @@ pub extern "C" fn tuv_peer_idle(end: &mut TuvEnd) -> TuvTurn
     match &mut session.end {
         End::Peer(machine) if !machine.ended() => {
             let step = machine.idle_step();
-            TuvTurn::of(&step, &[], machine.state(), &mut session.sent)
+            TuvTurn::of_peer(&step, machine.state(), &mut session.fresh)
         }
-        _ => TuvTurn::none(&mut session.sent),
+        _ => TuvTurn::none(&mut session.fresh),
     }
 }
 
 /// The lower layer reports success: to a peer that has not ended.
 #[unsafe(no_mangle)]
-#[tactic(auto, using(crate::proofs::Does::peer_does, crate::proofs::TwoRecords::peer_preserved))]
+#[tactic(auto, using(crate::proofs::TwoRecords::peer_preserved))]
 pub extern "C" fn tuv_peer_alt_accept(end: &mut TuvEnd) -> TuvTurn
     ensures peer { IfPeer end.old.value.end
         (λ m. is_end m.vars.state ≡ false → AsPeer end.new.value.end (λ n.
         PeerDoes (peer_alt_accept (peer.now_of peer_object_shown m))
-        end.old.value.sent result end.new.value.sent n)) }
+        (sent_of end.old.value) result (sent_of end.new.value) n)) }
     ensures misplaced { is_running_peer end.old.value.end ≡ false
         → IsMisplaced end.old.value result end.new.value }
     ensures objects { can_restart end.old.value.end ≡ true → can_restart end.new.value.end ≡ true }
@@ -109,20 +109,20 @@ pub extern "C" fn tuv_peer_alt_accept(end: &mut TuvEnd) -> TuvTurn
     match &mut session.end {
         End::Peer(machine) if !machine.ended() => {
             let step = machine.alt_accept_step();
-            TuvTurn::of(&step, &[], machine.state(), &mut session.sent)
+            TuvTurn::of_peer(&step, machine.state(), &mut session.fresh)
         }
-        _ => TuvTurn::none(&mut session.sent),
+        _ => TuvTurn::none(&mut session.fresh),
     }
 }
 
 /// The lower layer reports failure: to a peer that has not ended.
 #[unsafe(no_mangle)]
-#[tactic(auto, using(crate::proofs::Does::peer_does, crate::proofs::TwoRecords::peer_preserved))]
+#[tactic(auto, using(crate::proofs::TwoRecords::peer_preserved))]
 pub extern "C" fn tuv_peer_alt_reject(end: &mut TuvEnd) -> TuvTurn
     ensures peer { IfPeer end.old.value.end
         (λ m. is_end m.vars.state ≡ false → AsPeer end.new.value.end (λ n.
         PeerDoes (peer_alt_reject (peer.now_of peer_object_shown m))
-        end.old.value.sent result end.new.value.sent n)) }
+        (sent_of end.old.value) result (sent_of end.new.value) n)) }
     ensures misplaced { is_running_peer end.old.value.end ≡ false
         → IsMisplaced end.old.value result end.new.value }
     ensures objects { can_restart end.old.value.end ≡ true → can_restart end.new.value.end ≡ true }
@@ -132,8 +132,8 @@ pub extern "C" fn tuv_peer_alt_reject(end: &mut TuvEnd) -> TuvTurn
     match &mut session.end {
         End::Peer(machine) if !machine.ended() => {
             let step = machine.alt_reject_step();
-            TuvTurn::of(&step, &[], machine.state(), &mut session.sent)
+            TuvTurn::of_peer(&step, machine.state(), &mut session.fresh)
         }
-        _ => TuvTurn::none(&mut session.sent),
+        _ => TuvTurn::none(&mut session.fresh),
     }
 }

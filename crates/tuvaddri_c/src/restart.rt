@@ -9,7 +9,7 @@ ghost use Rattle.end_objects.specs.Objects.{peer_object_shown, server_object_sho
 ghost use Rattle.tuvaddri_c.specs.Ends.{IfPeer, AsPeer, IfServer, AsServer, IfBackend, AsBackend};
 ghost use Rattle.tuvaddri_c.specs.Ends.{peer_has_objects, server_has_objects, is_peer};
 ghost use Rattle.tuvaddri_c.specs.Ends.{can_restart_peer, can_restart_server, can_restart};
-ghost use Rattle.tuvaddri_c.specs.Sent.{none_sent};
+ghost use Rattle.tuvaddri_c.specs.Sent.{sent_of, none_sent};
 ghost use Rattle.tuvaddri_c.specs.Settled.{is_settled};
 ghost use Rattle.tuvaddri_c.specs.Turns.{PeerDoes, ServerDoes, IsMisplaced};
 
@@ -19,12 +19,12 @@ use crate::turn::TuvTurn;
 use octet_lists::{Nonce, Packet};
 
 /// A peer begins a new conversation.
-#[tactic(auto, using(crate::proofs::Does::peer_does, crate::proofs::TwoRecords::peer_preserved))]
+#[tactic(auto, using(crate::proofs::TwoRecords::peer_preserved))]
 fn restart_peer(session: &mut Session, nonce: &Nonce) -> TuvTurn
     ensures peer { IfPeer session.old.end
         (λ m. peer_has_objects m ≡ true → AsPeer session.new.end (λ n.
         PeerDoes (peer_restart (peer.now_of peer_object_shown m) nonce.now)
-        none_sent result session.new.sent n)) }
+        none_sent result (sent_of session.new) n)) }
     ensures misplaced { can_restart_peer session.old.end ≡ false
         → IsMisplaced session.old result session.new }
     ensures objects { can_restart session.old.end ≡ true → can_restart session.new.end ≡ true }
@@ -33,10 +33,9 @@ fn restart_peer(session: &mut Session, nonce: &Nonce) -> TuvTurn
     match &mut session.end {
         End::Peer(machine) if machine.has_objects() => {
             let step = machine.restart_step(nonce);
-            session.sent.clear();
-            TuvTurn::of(&step, &[], machine.state(), &mut session.sent)
+            TuvTurn::of_peer(&step, machine.state(), &mut session.fresh)
         }
-        _ => TuvTurn::none(&mut session.sent),
+        _ => TuvTurn::none(&mut session.fresh),
     }
 }
 
@@ -46,29 +45,37 @@ fn restart_server(session: &mut Session, nonce: &Nonce) -> TuvTurn
     ensures server { IfServer session.old.end
         (λ m. server_has_objects m ≡ true → AsServer session.new.end (λ n.
         ServerDoes (server_restart (server.now_of server_object_shown m) nonce.now)
-        none_sent result session.new.sent n)) }
+        none_sent result (sent_of session.new) n)) }
     ensures backend { IfBackend session.old.end
         (λ m. server_has_objects m ≡ true → AsBackend session.new.end (λ n.
         ServerDoes (server_restart (server.now_of server_object_shown m) nonce.now)
-        none_sent result session.new.sent n)) }
+        none_sent result (sent_of session.new) n)) }
     ensures misplaced { can_restart_server session.old.end ≡ false
         → IsMisplaced session.old result session.new }
     ensures objects { can_restart session.old.end ≡ true → can_restart session.new.end ≡ true }
     ensures settled { is_settled session.old.end ≡ true → is_settled session.new.end ≡ true }
 {
     match &mut session.end {
-        End::Server(machine) if machine.has_objects() => {
+        End::Server(machine, last) if machine.has_objects() => {
             let mut packet = Packet::new();
             let step = machine.restart_step(nonce, &mut packet);
-            session.sent.clear();
-            TuvTurn::of(&step, packet.as_slice(), machine.state(), &mut session.sent)
+            last.clear();
+            session.fresh = false;
+            TuvTurn::of(
+                &step,
+                packet.as_slice(),
+                machine.state(),
+                last,
+                &mut session.fresh,
+            )
         }
-        End::Backend(machine) if machine.has_objects() => {
+        End::Backend(machine, last) if machine.has_objects() => {
             let step = machine.restart_step(nonce);
-            session.sent.clear();
-            TuvTurn::of(&step, &[], machine.state(), &mut session.sent)
+            last.clear();
+            session.fresh = false;
+            TuvTurn::of(&step, &[], machine.state(), last, &mut session.fresh)
         }
-        _ => TuvTurn::none(&mut session.sent),
+        _ => TuvTurn::none(&mut session.fresh),
     }
 }
 
@@ -78,7 +85,7 @@ pub extern "C" fn tuv_peer_restart(end: &mut TuvEnd, nonce: &Nonce) -> TuvTurn
     ensures peer { IfPeer end.old.value.end
         (λ m. peer_has_objects m ≡ true → AsPeer end.new.value.end (λ n.
         PeerDoes (peer_restart (peer.now_of peer_object_shown m) nonce.now)
-        none_sent result end.new.value.sent n)) }
+        none_sent result (sent_of end.new.value) n)) }
     ensures misplaced { can_restart_peer end.old.value.end ≡ false
         → IsMisplaced end.old.value result end.new.value }
     ensures objects { can_restart end.old.value.end ≡ true → can_restart end.new.value.end ≡ true }
@@ -93,11 +100,11 @@ pub extern "C" fn tuv_server_restart(end: &mut TuvEnd, nonce: &Nonce) -> TuvTurn
     ensures server { IfServer end.old.value.end
         (λ m. server_has_objects m ≡ true → AsServer end.new.value.end (λ n.
         ServerDoes (server_restart (server.now_of server_object_shown m) nonce.now)
-        none_sent result end.new.value.sent n)) }
+        none_sent result (sent_of end.new.value) n)) }
     ensures backend { IfBackend end.old.value.end
         (λ m. server_has_objects m ≡ true → AsBackend end.new.value.end (λ n.
         ServerDoes (server_restart (server.now_of server_object_shown m) nonce.now)
-        none_sent result end.new.value.sent n)) }
+        none_sent result (sent_of end.new.value) n)) }
     ensures misplaced { can_restart_server end.old.value.end ≡ false
         → IsMisplaced end.old.value result end.new.value }
     ensures objects { can_restart end.old.value.end ≡ true → can_restart end.new.value.end ≡ true }
@@ -115,15 +122,15 @@ pub extern "C" fn tuv_end_restart(end: &mut TuvEnd, nonce: &Nonce) -> TuvTurn
     ensures peer { IfPeer end.old.value.end
         (λ m. peer_has_objects m ≡ true → AsPeer end.new.value.end (λ n.
         PeerDoes (peer_restart (peer.now_of peer_object_shown m) nonce.now)
-        none_sent result end.new.value.sent n)) }
+        none_sent result (sent_of end.new.value) n)) }
     ensures server { IfServer end.old.value.end
         (λ m. server_has_objects m ≡ true → AsServer end.new.value.end (λ n.
         ServerDoes (server_restart (server.now_of server_object_shown m) nonce.now)
-        none_sent result end.new.value.sent n)) }
+        none_sent result (sent_of end.new.value) n)) }
     ensures backend { IfBackend end.old.value.end
         (λ m. server_has_objects m ≡ true → AsBackend end.new.value.end (λ n.
         ServerDoes (server_restart (server.now_of server_object_shown m) nonce.now)
-        none_sent result end.new.value.sent n)) }
+        none_sent result (sent_of end.new.value) n)) }
     ensures misplaced { can_restart end.old.value.end ≡ false
         → IsMisplaced end.old.value result end.new.value }
     ensures objects { can_restart end.old.value.end ≡ true → can_restart end.new.value.end ≡ true }

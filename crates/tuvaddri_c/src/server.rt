@@ -15,13 +15,14 @@ ghost use Rattle.end_objects.specs.Settings.{settings_of, kinds_of, server_setup
 ghost use Rattle.tuvaddri_c.specs.Answers.{begun, no_memory, refusal_number};
 ghost use Rattle.tuvaddri_c.specs.Ends.{IfServer, AsServer, AsBackend, can_restart};
 ghost use Rattle.tuvaddri_c.specs.Ends as ends;
-ghost use Rattle.tuvaddri_c.specs.Sent.{none_sent};
+ghost use Rattle.tuvaddri_c.specs.Sent.{sent_of, sent_packet, none_sent};
 ghost use Rattle.tuvaddri_c.specs.Settled.{is_settled};
 ghost use Rattle.tuvaddri_c.specs.Turns.{ServerDoes, IsMisplaced};
 
 use crate::answers::{NO_MEMORY, STARTED, number_of_refusal};
 use crate::by_method::add_users;
 use crate::handle::TuvEnd;
+use crate::sent::empty_packet;
 use crate::session::{Backend, End, Server};
 use crate::turn::TuvTurn;
 use end_objects::{
@@ -41,6 +42,7 @@ fn store_machine(
     first_id: u8,
     max_retrans: u8,
     methods: Vec<ServerObject>,
+    last: Box<Packet>,
 )
     requires accepted { server_refusal (settings_of settings.now) ≡ None }
     requires other { IsSoundOther (settings_of settings.now) }
@@ -52,17 +54,21 @@ fn store_machine(
         (both_of (kinds_of (settings_of settings.now))) first_id max_retrans) }
     ensures objects { can_restart end.new ≡ true }
     ensures settled { is_settled end.new ≡ true }
+    ensures sent { sent_packet end.new ≡ last.value }
 {
     let role = Role::StandAlone;
-    *end = End::Server(Server::unbegun(
-        role,
-        server_alone(settings, nonce),
-        first_id,
-        max_retrans,
-        methods,
-    ));
+    *end = End::Server(
+        Server::unbegun(
+            role,
+            server_alone(settings, nonce),
+            first_id,
+            max_retrans,
+            methods,
+        ),
+        last,
+    );
     match end {
-        End::Server(machine) => {
+        End::Server(machine, _) => {
             add_users(machine, settings);
             machine.make_again(nonce);
         }
@@ -91,7 +97,7 @@ pub extern "C" fn tuv_server_begin(
         (both_of (kinds_of (settings_of settings.now))) first_id max_retrans) }
     ensures objects { result ≡ begun → can_restart end.new.value.end ≡ true }
     ensures settled { result ≡ begun → is_settled end.new.value.end ≡ true }
-    ensures sent { result ≡ begun → end.new.value.sent ≡ none_sent }
+    ensures sent { result ≡ begun → sent_of end.new.value ≡ none_sent }
     ensures unchanged { (result ≡ begun → ⊥) → end.new.value ≡ end.old.value }
 {
     if let Some(refusal) = stand_alone_refusal(settings, max_retrans) {
@@ -101,16 +107,25 @@ pub extern "C" fn tuv_server_begin(
     let Ok(methods) = server_objects(alloc, kinds.as_slice()) else {
         return NO_MEMORY;
     };
+    let Some(last) = empty_packet(alloc) else {
+        return NO_MEMORY;
+    };
     let session = end.session();
     let end = &mut session.end;
-    store_machine(end, settings, nonce, first_id, max_retrans, methods);
-    session.sent.clear();
+    store_machine(end, settings, nonce, first_id, max_retrans, methods, last);
+    session.fresh = false;
     STARTED
 }
 
 /// Makes the end a backend with these settings, likewise.
 #[tactic(auto, using(crate::proofs::TwoRecords::server_preserved, crate::proofs::Stays::server_created), unfolding(end_objects::specs::Settings::server_setup_of))]
-fn store_backend(end: &mut End, settings: &Settings, nonce: &Nonce, methods: Vec<ServerObject>)
+fn store_backend(
+    end: &mut End,
+    settings: &Settings,
+    nonce: &Nonce,
+    methods: Vec<ServerObject>,
+    last: Box<Packet>,
+)
     requires accepted { server_refusal (settings_of settings.now) ≡ None }
     requires other { IsSoundOther (settings_of settings.now) }
     requires objects { have_each (server_kinds (map server_object_shown methods.items)) (kinds_of
@@ -120,10 +135,14 @@ fn store_backend(end: &mut End, settings: &Settings, nonce: &Nonce, methods: Vec
         (both_of (kinds_of (settings_of settings.now)))) }
     ensures objects { can_restart end.new ≡ true }
     ensures settled { is_settled end.new ≡ true }
+    ensures sent { sent_packet end.new ≡ last.value }
 {
-    *end = End::Backend(Backend::unbegun(server_alone(settings, nonce), methods));
+    *end = End::Backend(
+        Backend::unbegun(server_alone(settings, nonce), methods),
+        last,
+    );
     match end {
-        End::Backend(backend) => {
+        End::Backend(backend, _) => {
             add_users(backend, settings);
             backend.make_again(nonce);
         }
@@ -149,7 +168,7 @@ pub extern "C" fn tuv_backend_begin(
         (both_of (kinds_of (settings_of settings.now)))) }
     ensures objects { result ≡ begun → can_restart end.new.value.end ≡ true }
     ensures settled { result ≡ begun → is_settled end.new.value.end ≡ true }
-    ensures sent { result ≡ begun → end.new.value.sent ≡ none_sent }
+    ensures sent { result ≡ begun → sent_of end.new.value ≡ none_sent }
     ensures unchanged { (result ≡ begun → ⊥) → end.new.value ≡ end.old.value }
 {
     if let Some(refusal) = server_refusal(settings) {
@@ -159,9 +178,12 @@ pub extern "C" fn tuv_backend_begin(
     let Ok(methods) = server_objects(alloc, kinds.as_slice()) else {
         return NO_MEMORY;
     };
+    let Some(last) = empty_packet(alloc) else {
+        return NO_MEMORY;
+    };
     let session = end.session();
-    store_backend(&mut session.end, settings, nonce, methods);
-    session.sent.clear();
+    store_backend(&mut session.end, settings, nonce, methods, last);
+    session.fresh = false;
     STARTED
 }
 
@@ -172,7 +194,7 @@ pub extern "C" fn tuv_server_start(end: &mut TuvEnd) -> TuvTurn
     ensures server { IfServer end.old.value.end (λ m. is_started m.vars ≡ false
         → is_backend m.vars ≡ false → AsServer end.new.value.end (λ n.
         ServerDoes (server_start (server.now_of server_object_shown m))
-        end.old.value.sent result end.new.value.sent n)) }
+        (sent_of end.old.value) result (sent_of end.new.value) n)) }
     ensures misplaced { ends.can_start end.old.value.end ≡ false
         → IsMisplaced end.old.value result end.new.value }
     ensures objects { can_restart end.old.value.end ≡ true → can_restart end.new.value.end ≡ true }
@@ -180,12 +202,18 @@ pub extern "C" fn tuv_server_start(end: &mut TuvEnd) -> TuvTurn
 {
     let session = end.session();
     match &mut session.end {
-        End::Server(machine) if !machine.started() && !machine.is_backend() => {
+        End::Server(machine, last) if !machine.started() && !machine.is_backend() => {
             let mut packet = Packet::new();
             let step = machine.start_step(&mut packet);
-            TuvTurn::of(&step, packet.as_slice(), machine.state(), &mut session.sent)
+            TuvTurn::of(
+                &step,
+                packet.as_slice(),
+                machine.state(),
+                last,
+                &mut session.fresh,
+            )
         }
-        _ => TuvTurn::none(&mut session.sent),
+        _ => TuvTurn::none(&mut session.fresh),
     }
 }
 
@@ -196,7 +224,7 @@ pub extern "C" fn tuv_server_timeout(end: &mut TuvEnd) -> TuvTurn
     ensures server { IfServer end.old.value.end
         (λ m. has_timer m.vars ≡ true → AsServer end.new.value.end (λ n.
         ServerDoes (server_timeout (server.now_of server_object_shown m))
-        end.old.value.sent result end.new.value.sent n)) }
+        (sent_of end.old.value) result (sent_of end.new.value) n)) }
     ensures misplaced { ends.has_timer end.old.value.end ≡ false
         → IsMisplaced end.old.value result end.new.value }
     ensures objects { can_restart end.old.value.end ≡ true → can_restart end.new.value.end ≡ true }
@@ -204,11 +232,17 @@ pub extern "C" fn tuv_server_timeout(end: &mut TuvEnd) -> TuvTurn
 {
     let session = end.session();
     match &mut session.end {
-        End::Server(machine) if machine.wants_timer() => {
+        End::Server(machine, last) if machine.wants_timer() => {
             let mut packet = Packet::new();
             let step = machine.timeout_step(&mut packet);
-            TuvTurn::of(&step, packet.as_slice(), machine.state(), &mut session.sent)
+            TuvTurn::of(
+                &step,
+                packet.as_slice(),
+                machine.state(),
+                last,
+                &mut session.fresh,
+            )
         }
-        _ => TuvTurn::none(&mut session.sent),
+        _ => TuvTurn::none(&mut session.fresh),
     }
 }

@@ -15,28 +15,30 @@ pub type Server = SizedServer<ServerObject, MAX_OTHERS>;
 /// A backend with room for the users that settings give.
 pub type Backend = SizedBackend<ServerObject, MAX_OTHERS>;
 
-/// Which end a session is.
+/// Which end a session is. But for a peer it has the packet that it sent last since its begin or restart, of no octets
+/// before the first; a peer's is its lastRespData.
 #[derive(Drop)]
 pub enum End {
     /// None.
     Closed,
     /// A peer's method alone, with its key.
-    PeerMethod(PeerObject, Secret),
+    PeerMethod(PeerObject, Secret, Box<Packet>),
     /// A server's method alone, with its users.
-    ServerMethod(ServerObject, CheckedUsers),
+    ServerMethod(ServerObject, CheckedUsers, Box<Packet>),
     /// A peer.
     Peer(PeerMachine<PeerObject>),
     /// A stand-alone server.
-    Server(Server),
+    Server(Server, Box<Packet>),
     /// A backend behind a pass-through.
-    Backend(Backend),
+    Backend(Backend, Box<Packet>),
     /// A pass-through.
-    Pass(PassThrough),
+    Pass(PassThrough, Box<Packet>),
 }
 
 impl End {
     ghost use Rattle.std.specs.Prelude.{◌≡◌};
     ghost use Rattle.tuvaddri_c.specs.Ends.{is_peer, is_at_peer};
+    ghost use Rattle.tuvaddri_c.specs.Sent.{sent_packet};
 
     /// Whether it is a peer's machine.
     pub fn is_peer(&self) -> bool
@@ -53,8 +55,23 @@ impl End {
         ensures { result ≡ is_at_peer self.now }
     {
         match self {
-            End::Peer(_) | End::PeerMethod(_, _) => true,
+            End::Peer(_) | End::PeerMethod(_, _, _) => true,
             _ => false,
+        }
+    }
+
+    /// The packet that it sent last; no octets before the first.
+    pub fn last_packet(&self) -> &[u8]
+        ensures { result.now ≡ sent_packet self.now }
+    {
+        match self {
+            End::Closed => &[],
+            End::PeerMethod(_, _, last) => last.as_slice(),
+            End::ServerMethod(_, _, last) => last.as_slice(),
+            End::Peer(machine) => machine.last_response(),
+            End::Server(_, last) => last.as_slice(),
+            End::Backend(_, last) => last.as_slice(),
+            End::Pass(_, last) => last.as_slice(),
         }
     }
 }
@@ -66,62 +83,11 @@ pub struct CheckedUsers {
     pub ghost fit: { All (λ user. IsTrue (is_valid_for user.kind user.psk)) users },
 }
 
-/// What an end has sent.
-#[derive(Drop)]
-pub struct Sent {
-    /// The packet that it sent last since its begin or restart; no octets before the first.
-    pub packet: Packet,
-    /// Whether its last turn sent it.
-    pub fresh: bool,
-}
-
-impl Sent {
-    ghost use Rattle.std.specs.Prelude.{◌≡◌, ◌≤◌, length, if◌then◌else◌, Some, None};
-    ghost use Rattle.octet_lists.specs.Sizes.{max_packet};
-    ghost use Rattle.tuvaddri_c.specs.Sent.{none_sent, after_silence, after_turn};
-
-    /// Nothing.
-    pub fn none() -> Sent
-        ensures { result ≡ none_sent }
-    {
-        Sent {
-            packet: Packet::new(),
-            fresh: false,
-        }
-    }
-
-    /// The end begins: it has sent nothing.
-    pub fn clear(&mut self)
-        ensures { self.new ≡ none_sent }
-    {
-        self.packet.clear();
-        self.fresh = false;
-    }
-
-    /// A turn sends nothing.
-    pub fn rest(&mut self)
-        ensures { self.new ≡ after_silence self.old }
-    {
-        self.fresh = false;
-    }
-
-    /// A turn sends the packet of these octets, or nothing.
-    pub fn set(&mut self, sends: bool, octets: &[u8])
-        requires { length octets.now ≤ max_packet }
-        ensures { self.new ≡ after_turn (if sends then Some octets.now else None) self.old }
-    {
-        self.fresh = sends;
-        if sends {
-            self.packet.set(octets);
-        }
-    }
-}
-
-/// An end, with what it has sent.
+/// An end, and whether its last turn sent a packet.
 #[derive(Drop)]
 pub struct Session {
     pub end: End,
-    pub sent: Sent,
+    pub fresh: bool,
 }
 
 impl Session {
@@ -134,7 +100,7 @@ impl Session {
     {
         Session {
             end: End::Closed,
-            sent: Sent::none(),
+            fresh: false,
         }
     }
 }

@@ -1,13 +1,14 @@
 //! The result of a call, as numbers.
 
-ghost use Rattle.std.specs.Prelude.{◌≡◌, ◌≤◌, length, if◌then◌else◌, Some, None};
+ghost use Rattle.std.specs.Prelude.{◌≡◌, ◌≤◌, length, if◌then◌else◌, false, Some, None};
 ghost use Rattle.octet_lists.specs.Sizes.{max_packet};
-ghost use Rattle.tuvaddri_c.specs.Sent.{after_silence, after_turn};
+ghost use Rattle.tuvaddri_c.specs.Sent.{sent_so, after_turn};
 ghost use Rattle.tuvaddri_c.specs.Turns.{turn_of, no_turn, cause_number, state_number};
 
-use crate::session::Sent;
+use crate::sent::store_sent;
 use eap_method::Step;
 use eap_packet::{Cause, State};
+use octet_lists::Packet;
 
 /// The result of a call.
 #[repr(C)]
@@ -27,11 +28,11 @@ pub struct TuvTurn {
 
 impl TuvTurn {
     /// A call that has no place; it sends nothing.
-    pub fn none(sent: &mut Sent) -> TuvTurn
+    pub fn none(fresh: &mut bool) -> TuvTurn
         ensures turn { result ≡ no_turn }
-        ensures sent { sent.new ≡ after_silence sent.old }
+        ensures silent { fresh.new ≡ false }
     {
-        sent.rest();
+        *fresh = false;
         TuvTurn {
             sends: false,
             discards: false,
@@ -42,13 +43,36 @@ impl TuvTurn {
     }
 
     /// The result of a step that leads to this state; it sends the packet of these octets, or nothing.
-    pub fn of(step: &Step, octets: &[u8], state: State, sent: &mut Sent) -> TuvTurn
+    pub fn of(
+        step: &Step,
+        octets: &[u8],
+        state: State,
+        last: &mut Packet,
+        fresh: &mut bool,
+    ) -> TuvTurn
         requires { length octets.now ≤ max_packet }
         ensures turn { result ≡ turn_of step.now state }
-        ensures sent { sent.new
-            ≡ after_turn (if step.now.sends then Some octets.now else None) sent.old }
+        ensures sent { sent_so last.new fresh.new
+            ≡ after_turn (if step.now.sends then Some octets.now else None) (sent_so
+            last.old fresh.old) }
     {
-        sent.set(step.sends, octets);
+        store_sent(step.sends, octets, last, fresh);
+        TuvTurn::of_step(step, state)
+    }
+
+    /// The result of a peer's step that leads to this state; what it sends is the machine's own.
+    pub fn of_peer(step: &Step, state: State, fresh: &mut bool) -> TuvTurn
+        ensures turn { result ≡ turn_of step.now state }
+        ensures sent { fresh.new ≡ step.now.sends }
+    {
+        *fresh = step.sends;
+        TuvTurn::of_step(step, state)
+    }
+
+    /// The result of a step that leads to this state.
+    fn of_step(step: &Step, state: State) -> TuvTurn
+        ensures { result ≡ turn_of step.now state }
+    {
         match step.cause {
             None => TuvTurn {
                 sends: step.sends,

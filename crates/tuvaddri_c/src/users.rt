@@ -10,6 +10,7 @@ ghost use Rattle.end_objects.specs.Settings.{max_others, settings_of, users_of};
 ghost use Rattle.tuvaddri_c.specs.Answers.{begun, no_place, refusal_number};
 ghost use Rattle.tuvaddri_c.specs.Ends.{IfServer, AsServer, IfBackend, AsBackend, can_restart};
 ghost use Rattle.tuvaddri_c.specs.Methods.{IfServerMethod, is_server_method};
+ghost use Rattle.tuvaddri_c.specs.Sent.{sent_of};
 ghost use Rattle.tuvaddri_c.specs.Settled.{is_settled};
 ghost use Rattle.tuvaddri_c.specs.Users.{has_users, AcceptsUser};
 
@@ -96,17 +97,17 @@ pub extern "C" fn tuv_server_user(end: &mut TuvEnd, settings: &Settings) -> u8
         n ≡ with_users m (users_of (settings_of settings.now)))) }
     ensures objects { can_restart end.old.value.end ≡ true → can_restart end.new.value.end ≡ true }
     ensures settled { is_settled end.old.value.end ≡ true → is_settled end.new.value.end ≡ true }
-    ensures sent { end.new.value.sent ≡ end.old.value.sent }
+    ensures sent { sent_of end.new.value ≡ sent_of end.old.value }
     ensures unchanged { (result ≡ begun → ⊥) → end.new.value ≡ end.old.value }
 {
     match user_refusal(settings) {
         Some(refusal) => number_of_refusal(refusal),
         None => match &mut end.session().end {
-            End::Server(machine) => {
+            End::Server(machine, _) => {
                 change_users(machine, settings);
                 STARTED
             }
-            End::Backend(machine) => {
+            End::Backend(machine, _) => {
                 change_users(machine, settings);
                 STARTED
             }
@@ -135,13 +136,13 @@ pub extern "C" fn tuv_server_method_user(end: &mut TuvEnd, settings: &Settings) 
         AcceptsUser (settings_of settings.now) o result end.new.value.end) }
     ensures misplaced { user_refusal (settings_of settings.now) ≡ None
         → is_server_method end.old.value.end ≡ false → result ≡ no_place }
-    ensures sent { end.new.value.sent ≡ end.old.value.sent }
+    ensures sent { sent_of end.new.value ≡ sent_of end.old.value }
     ensures unchanged { (result ≡ begun → ⊥) → end.new.value ≡ end.old.value }
 {
     match user_refusal(settings) {
         Some(refusal) => number_of_refusal(refusal),
         None => match &mut end.session().end {
-            End::ServerMethod(object, known) => {
+            End::ServerMethod(object, known, _) => {
                 if is_among(keyed_kinds(settings).as_slice(), object.kind()) {
                     put(known, settings);
                     STARTED
