@@ -98,6 +98,8 @@ end_failure (ends.ServerMethod object known last) sent =
     shown_failure (server_object_shown object) not_failed
 end_failure (ends.Peer m) sent =
     peer_failure (selected_shown_of m) sent (peer_ended m.vars.state (selected_shown_of m))
-end_failure (ends.Server m last) sent = server_failure (current_shown_of m) (server_ended m.vars.state)
-end_failure (ends.Backend m last) sent = server_failure (current_shown_of m) (server_ended m.vars.state)
+end_failure (ends.Server m last) sent =
+    server_failure (current_shown_of m) (server_ended m.vars.state)
+end_failure (ends.Backend m last) sent =
+    server_failure (current_shown_of m) (server_ended m.vars.state)
 end_failure (ends.Pass m last) sent = pass_ended m.state

@@ -118,7 +118,8 @@ pub extern "C" fn tuv_pass_restart(end: &mut TuvEnd) -> TuvTurn
 #[tactic(auto, using(crate::proofs::Does::pass_does))]
 pub extern "C" fn tuv_pass_from_peer(end: &mut TuvEnd, octets: &[u8]) -> TuvTurn
     ensures pass { IfPass end.old.value.end (λ m. AsPass end.new.value.end (λ n.
-        PassDoes (pass_from_peer m octets.now) (sent_of end.old.value) result (sent_of end.new.value) n)) }
+        PassDoes (pass_from_peer m octets.now)
+        (sent_of end.old.value) result (sent_of end.new.value) n)) }
     ensures misplaced { is_pass end.old.value.end ≡ false
         → IsMisplaced end.old.value result end.new.value }
     ensures settled { is_settled end.old.value.end ≡ true → is_settled end.new.value.end ≡ true }
@@ -145,7 +146,8 @@ pub extern "C" fn tuv_pass_from_peer(end: &mut TuvEnd, octets: &[u8]) -> TuvTurn
 #[tactic(auto, using(crate::proofs::Does::pass_does))]
 pub extern "C" fn tuv_pass_from_backend(end: &mut TuvEnd, octets: &[u8]) -> TuvTurn
     ensures pass { IfPass end.old.value.end (λ m. AsPass end.new.value.end (λ n.
-        PassDoes (pass_from_backend m octets.now) (sent_of end.old.value) result (sent_of end.new.value) n)) }
+        PassDoes (pass_from_backend m octets.now)
+        (sent_of end.old.value) result (sent_of end.new.value) n)) }
     ensures misplaced { is_pass end.old.value.end ≡ false
         → IsMisplaced end.old.value result end.new.value }
     ensures settled { is_settled end.old.value.end ≡ true → is_settled end.new.value.end ≡ true }

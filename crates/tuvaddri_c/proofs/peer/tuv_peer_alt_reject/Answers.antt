@@ -12,7 +12,8 @@ returns-in-Peer-clause-settled c before =
 
 pub returns-in-Peer-clause-peer : goal.returns-in-Peer-clause-peer
 returns-in-Peer-clause-peer c = search (
-  rejected c.in-Peer.machine c.alt_reject_step-step.new.self c.alt_reject_step-step.result [] no_tags
-      c.session-session.result.now.fresh _ c.of_peer.ensures.sent c.alt_reject_step-step.ensures.step,
+  rejected c.in-Peer.machine c.alt_reject_step-step.new.self c.alt_reject_step-step.result []
+      no_tags c.session-session.result.now.fresh _ c.of_peer.ensures.sent
+      c.alt_reject_step-step.ensures.step,
   rules,
 )
