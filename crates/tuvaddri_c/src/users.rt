@@ -47,6 +47,7 @@ pub trait HasUsers {
 impl HasUsers for Server {
     ghost seen = { λ m. m };
 
+    #[tactic(auto, using(login_setup::proofs::Sound::kind_is_of_method))]
     #[inline(always)]
     fn add(&mut self, user: User) {
         self.add_user(user)
@@ -60,6 +61,7 @@ impl HasUsers for Server {
 impl HasUsers for Backend {
     ghost seen = { λ m. m };
 
+    #[tactic(auto, using(login_setup::proofs::Sound::kind_is_of_method))]
     #[inline(always)]
     fn add(&mut self, user: User) {
         self.add_user(user)
