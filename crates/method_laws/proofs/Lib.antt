@@ -16,3 +16,61 @@ pub mod GpskWhole
 pub mod PskChannel
 -- A whole login by EAP-PSK.
 pub mod PskWhole
+-- Which record of a short list it is.
+pub mod Among
+-- Two joins that are equal, cut into their parts.
+pub mod Fields
+-- The sizes of the nonces that a reader of EAP-GPSK gives.
+pub mod GpskFields
+-- The nonces of GPSK-1 and GPSK-2 stand in their octets.
+pub mod GpskNonces
+-- Each turn of a peer's method EAP-GPSK: of what came it holds RAND_Server alone, it answers the
+-- Request, and its view tells the tags.
+pub mod GpskPeerTurns
+-- Each turn of a server's method EAP-GPSK: of what came it holds RAND_Peer alone, it asks with the
+-- next Identifier, and its view tells the tags.
+pub mod GpskServerTurns
+-- What an end holds of the other's nonce after a call: what it held before, or what came in it.
+pub mod Receiving
+-- Over an honest book each tag that an end accepted is one that the other end made.
+pub mod HonestOther
+-- An end has one method at a time.
+pub mod OneMethod
+-- The peer by the method of a Type: what holds of the turns, the nonce and the tags of each method
+-- holds of a Type's.
+pub mod PeerByMethod
+-- A peer's objects stay of EAP-PSK and EAP-GPSK, one of each method that it allows.
+pub mod PeerObjects
+-- What is asked of a turn of a peer's method: each Response has the Identifier of the Request, and
+-- the view after it tells the tags.
+pub mod PeerTurns
+-- The sizes of the nonces that a reader of EAP-PSK gives.
+pub mod PskFields
+-- The header that EAX covers of an EAP-PSK message ends in RAND_S.
+pub mod PskHeaders
+-- The nonces of PSK-1 and PSK-2 stand in their octets.
+pub mod PskNonces
+-- Each turn of a peer's method EAP-PSK: of what came it holds RAND_S alone, it answers the Request,
+-- and its view tells the tags.
+pub mod PskPeerTurns
+-- Each turn of a server's method EAP-PSK: of what came it holds RAND_P alone, it asks with the next
+-- Identifier, and its view tells the tags.
+pub mod PskServerTurns
+-- The server by the method of a Type: what holds of the turns, the offer, the nonce and the tags of
+-- each method holds of a Type's.
+pub mod ServerByMethod
+-- A server's objects stay of EAP-PSK and EAP-GPSK, one of each method that it proposes.
+pub mod ServerObjects
+-- What is asked of a turn of a server's method: each Request has the next Identifier, and the view
+-- after it tells the tags.
+pub mod ServerTurns
+-- Octets that stand in others, one after the other.
+pub mod Occurrence
+-- The tags of each end in a book that grows, and what its honesty says of them.
+pub mod TagsOfEnds
+-- A peer's object that has begun, or has made one Response more, has a history, whatever its
+-- method.
+pub mod PeerHistories
+-- What the history of a peer's method tells, by one induction over all methods: by EAP-PSK and
+-- EAP-GPSK its tags, and of a decision other than FAIL a success.
+pub mod PeerTells

@@ -4,3 +4,12 @@ pub mod PskPeerRows
 pub mod PskServerRows
 pub mod GpskLogin
 pub mod PskLogin
+pub mod Both
+pub mod PskPeerInvariant
+pub mod PskServerInvariant
+pub mod GpskPeerInvariant
+pub mod GpskServerInvariant
+pub mod GpskLogins
+pub mod ByMethod
+pub mod Records
+pub mod PeerHistory

@@ -15,11 +15,11 @@ use Rattle.eap_method.specs.Server.{ServerShown, ServerViews, server_kind, serve
 use Rattle.eap_method.specs.Server.{side_of}
 use Rattle.eap_method.proofs.PeerViews as peer_views
 use Rattle.eap_method.proofs.ServerViews as server_views
-use Rattle.world_laws.specs.PeerInvariant.{PeerHasBoth}
-use Rattle.world_laws.specs.ServerInvariant.{ServerHasBoth}
+use Rattle.method_laws.specs.Both.{PeerHasBoth}
+use Rattle.method_laws.specs.Both.{ServerHasBoth}
 use Rattle.world_laws.specs.Runs as runs
-use Rattle.world_laws.proofs.PeerObjects as peer_objects
-use Rattle.world_laws.proofs.ServerObjects as server_objects
+use Rattle.method_laws.proofs.PeerObjects as peer_objects
+use Rattle.method_laws.proofs.ServerObjects as server_objects
 
 -- ---- the peer
 

@@ -31,7 +31,7 @@ use Rattle.eap_world.specs.declared.world.HasReported.{HasReported}
 use Rattle.eap_world.proofs.InConversation.{still_reported}
 use Rattle.eap_method.specs.declared.values.Report.{Report}
 use Rattle.tag_book.proofs.FirstBroken.{passed}
-use Rattle.world_laws.proofs.TagsOfEnds.{unbroken}
+use Rattle.method_laws.proofs.TagsOfEnds.{unbroken}
 use Rattle.peer_machine.specs.Inputs as peer_inputs
 use Rattle.server_machine.specs.Inputs as server_inputs
 use Rattle.pass_through.specs.Inputs as pass_inputs

@@ -29,8 +29,8 @@ use Rattle.method_laws.proofs.PskChannel.{length_sealed_tag}
 use Rattle.method_laws.proofs.PskWhole.{psk_logins_go_through}
 use Rattle.smooth_laws.proofs.ServerSide.{IsOffer, Made, after_id}
 use Rattle.smooth_laws.proofs.Talk.{IsShort, Talks}
-use Rattle.world_laws.proofs.PeerByMethod.{psk_turn}
-use Rattle.world_laws.proofs.ServerByMethod as at_server
+use Rattle.method_laws.proofs.PeerByMethod.{psk_turn}
+use Rattle.method_laws.proofs.ServerByMethod as at_server
 use Rattle.world_laws.specs.Runs.{views_started}
 
 -- both ends have a key in common and accept each other

@@ -13,7 +13,7 @@ use Rattle.tag_book.specs.declared.book.Use.TheVariants.{Accepted, Made}
 use Rattle.tag_book.specs.declared.book.Entry.{Entry}
 use Rattle.tag_book.specs.declared.book.RecordOwner.TheVariants.{Other}
 use Rattle.tag_book.proofs.FirstBroken.{passed}
-use Rattle.world_laws.proofs.TagsOfEnds.{unbroken}
+use Rattle.method_laws.proofs.TagsOfEnds.{unbroken}
 
 -- the other end has made the tag, and each of these tags
 abbrev pub is_vouched : List Entry → End → TagRecord → Bool

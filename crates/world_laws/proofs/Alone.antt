@@ -11,7 +11,7 @@ use Rattle.world_laws.specs.Agreement.{IsWhole}
 use Rattle.world_laws.specs.Alone.{PeerIsAccepted, PeerKnows, ServerAccepts}
 use Rattle.world_laws.specs.EachConversation.{IsOneOf, OfPeer, OfServer, peer_nonce, server_nonce}
 use Rattle.world_laws.specs.Matching.{HaveNonces, PeerMatches, RestsOn, ServerRests}
-use Rattle.world_laws.specs.Records.{IsIn, tags_by}
+use Rattle.method_laws.specs.Records.{IsIn, tags_by}
 use Rattle.world_laws.proofs.EndInvariants.{BothInvariantFirst}
 use Rattle.world_laws.proofs.Matching.{AllKnown}
 use Rattle.world_laws.proofs.Matching as matching
@@ -24,6 +24,7 @@ use Rattle.eap_world.specs.Judgement.{is_success}
 use Rattle.eap_world.specs.World.{WorldNow}
 use Rattle.tag_book.specs.declared.book.End.TheVariants as end
 use Rattle.tag_book.specs.declared.book.Use.TheVariants.{Accepted, Made}
+use Rattle.world_laws.proofs.Told.{peer_tags, server_success, server_tags}
 
 module _ (setup : Setup) (last : WorldNow) (ps : List OfPeer) (ss : List OfServer)
     (all : AllKnown setup last ps ss) where
@@ -38,7 +39,7 @@ module _ (setup : Setup) (last : WorldNow) (ps : List OfPeer) (ss : List OfServe
       let login = peers_login (peers.setup_with_nonce setup.peer (peer_nonce p))
       (servers.setup_with_nonce setup.server (server_nonce on)) known.size on_known.size
       p.now p.accepted p.made (matching.peer_won setup p known p_in)
-      on.now.vars.current on.now.views on.accepted on.made on_known.stands.tags
+      on.now.vars.current on.now.views on.accepted on.made (server_tags on_known.stands)
       (first_in p.accepted on.made rests.tag rests.more rests.first rests.is_made)
       (first_in on.accepted p.made back.tag back.more back.first back.is_made) in
       record {
@@ -75,7 +76,7 @@ module _ (setup : Setup) (last : WorldNow) (ps : List OfPeer) (ss : List OfServe
       let asks = matching.server_asking setup s known (front (peer_nonce on)) hold.rand_p in
       let login = servers_login (peers.setup_with_nonce setup.peer (peer_nonce on))
       (servers.setup_with_nonce setup.server (server_nonce s)) on_known.size known.size
-      on.now.vars.selected on.now.views on.accepted on.made on_known.stands.tags s.now s.accepted
+      on.now.vars.selected on.now.views on.accepted on.made (peer_tags on_known.stands) s.now s.accepted
       s.made (matching.server_won setup s known s_in)
       (first_in s.accepted on.made rests.tag rests.more rests.first rests.is_made) in
       record {
@@ -141,12 +142,12 @@ knows setup whole w both theirs back s_in =
     let p = w.parties.peer in
     let s = w.parties.server in
     let stands = both.server_invariant in
-    let won = server_succeeds setup.server s _ _ stands.tags (stands.sure s_in) in
+    let won = server_succeeds setup.server s _ _ (server_tags stands) (server_success stands s_in) in
     let login = servers_login setup.peer setup.server whole.peer_nonce whole.server_nonce
-    p.vars.selected p.views _ _ both.peer_invariant.tags s _ _ won
+    p.vars.selected p.views _ _ (peer_tags both.peer_invariant) s _ _ won
     (record { is = λ t rest first. theirs t (first_is_in t rest _ first) }) in
     let same = whole_login setup.peer setup.server whole.peer_nonce whole.server_nonce
-    p.vars.selected p.views _ _ both.peer_invariant.tags s _ _ won theirs back in
+    p.vars.selected p.views _ _ (peer_tags both.peer_invariant) s _ _ won theirs back in
     let one =
     same_report _ _ login.results_to.theirs login.report same login.results_to.leads login.holds in
     record {

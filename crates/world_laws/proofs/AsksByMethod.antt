@@ -8,10 +8,10 @@ use Rattle.peer_machine.specs.PeerTable as peers
 use Rattle.peer_machine.specs.PeerTable.{PeerNow}
 use Rattle.server_machine.specs.ServerTable as servers
 use Rattle.server_machine.specs.ServerTable.{ServerNow}
-use Rattle.world_laws.specs.ByMethod.{ServerTags, gpsk_current, identity_current, none_current}
-use Rattle.world_laws.specs.ByMethod.{psk_current, server_foreign}
-use Rattle.world_laws.specs.GpskServerInvariant.{gpsk_rand_p_in}
-use Rattle.world_laws.specs.PskServerInvariant.{psk_rand_p_in}
+use Rattle.method_laws.specs.ByMethod.{ServerTags, gpsk_current, identity_current, none_current}
+use Rattle.method_laws.specs.ByMethod.{psk_current, server_foreign}
+use Rattle.method_laws.specs.GpskServerInvariant.{gpsk_rand_p_in}
+use Rattle.method_laws.specs.PskServerInvariant.{psk_rand_p_in}
 use Rattle.world_laws.specs.TagOwners.{ServerTagOwner}
 use Rattle.world_laws.proofs.Asks.{AsksPeer, AsksServer}
 use Rattle.world_laws.proofs.GpskServerOwners.{gpsk3_asks, gpsk_view_asks}

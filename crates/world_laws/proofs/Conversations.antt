@@ -12,14 +12,14 @@ use Rattle.server_machine.specs.ServerTable as servers
 use Rattle.server_machine.specs.ServerTable.{ServerNow, server_reports}
 use Rattle.world_laws.specs.Agreement.{IsWhole}
 use Rattle.world_laws.specs.Alone.{ImpliedByOne, OneEndImplies}
-use Rattle.world_laws.specs.ByMethod.{peer_login}
+use Rattle.method_laws.specs.ByMethod.{peer_login}
 use Rattle.world_laws.specs.EachConversation.{IsOneOf, OfPeer, OfServer, nonces_of, peer_at}
 use Rattle.world_laws.specs.EachConversation.{peer_conversations, peer_nonce, server_at}
 use Rattle.world_laws.specs.EachConversation.{server_conversations, server_nonce}
 use Rattle.world_laws.specs.Matching.{AreAll, ConversationsAreAll, ConversationsMatch, Match}
 use Rattle.world_laws.specs.Matching.{RestsOn}
 use Rattle.world_laws.specs.PeerInvariant.{PeerInvariant}
-use Rattle.world_laws.specs.Records.{tags_by}
+use Rattle.method_laws.specs.Records.{tags_by}
 use Rattle.world_laws.specs.ServerInvariant.{ServerInvariant}
 use Rattle.world_laws.proofs.Alone.{knows, peer_tells, server_tells}
 use Rattle.world_laws.proofs.Conversing.{BothConverse, start_converses, starts_so}
@@ -29,7 +29,7 @@ use Rattle.world_laws.proofs.EachTurn.{peer_turns, peer_used, server_nonce_of, s
 use Rattle.world_laws.proofs.EachTurn.{server_used}
 use Rattle.world_laws.proofs.EndInvariants.{every_run_so_far, invariant_first}
 use Rattle.world_laws.proofs.HonestOfEither.{none_if_honest}
-use Rattle.world_laws.proofs.HonestOther.{honest_other}
+use Rattle.method_laws.proofs.HonestOther.{honest_other}
 use Rattle.world_laws.proofs.Matching.{AllKnown, PeerKnown, ServerKnown}
 use Rattle.world_laws.proofs.Matching as matching
 use Rattle.world_laws.proofs.PeerPreserves.{peer_few}
@@ -45,6 +45,7 @@ use Rattle.tag_book.specs.declared.book.RecordOwner.TheVariants.{Other}
 use Rattle.tag_book.specs.declared.book.TagsVerdict.TheVariants.{Honest}
 use Rattle.tag_book.specs.declared.book.Use.TheVariants.{Accepted, Made}
 use Rattle.world_laws.specs.Runs.{initial_world, run_of}
+use Rattle.world_laws.proofs.Told.{peer_tags}
 
 module _ (setup : Setup) (last : WorldNow) (ps : List OfPeer) (ss : List OfServer)
     (all : AllKnown setup last ps ss) where
@@ -57,7 +58,7 @@ module _ (setup : Setup) (last : WorldNow) (ps : List OfPeer) (ss : List OfServe
       let s_known = all.servers s s_is in
       same_report (peers.setup_with_nonce setup.peer (peer_nonce p))
       (servers.setup_with_nonce setup.server (server_nonce s)) known.size s_known.size
-      p.now.vars.selected p.now.views p.accepted p.made known.stands.tags s.now _ _
+      p.now.vars.selected p.now.views p.accepted p.made (peer_tags known.stands) s.now _ _
       (matching.server_won setup s s_known s_in) rests (λ by_psk.
       psk.psk_servers_back setup last ps ss all honest fresh s s_is s_in by_psk p p_is rests)
 

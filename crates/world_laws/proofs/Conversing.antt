@@ -29,10 +29,12 @@ use Rattle.server_machine.specs.ServerTable.{made_again, server_restart, server_
 use Rattle.world_laws.specs.Agreement.{IsWhole}
 use Rattle.eap_world.specs.Conversations.{Conversations, begins, beginning, front, hears}
 use Rattle.eap_world.specs.Conversations.{since_from, since_of, waiting}
-use Rattle.world_laws.specs.ByMethod.{peer_foreign, server_foreign}
-use Rattle.world_laws.specs.PeerInvariant.{PeerHasBoth, PeerInvariant}
-use Rattle.world_laws.specs.Records.{tags_by}
-use Rattle.world_laws.specs.ServerInvariant.{ServerHasBoth, ServerInvariant}
+use Rattle.method_laws.specs.ByMethod.{peer_foreign, server_foreign}
+use Rattle.method_laws.specs.Both.{PeerHasBoth}
+use Rattle.world_laws.specs.PeerInvariant.{PeerInvariant}
+use Rattle.method_laws.specs.Records.{tags_by}
+use Rattle.method_laws.specs.Both.{ServerHasBoth}
+use Rattle.world_laws.specs.ServerInvariant.{ServerInvariant}
 use Rattle.eap_world.specs.World.{Acted, WorldNow, WorldOutcome, booked_by, act_of_call}
 use Rattle.eap_world.specs.World.{delivered_in_call, pass_octets, peer_octets, server_octets}
 use Rattle.eap_world.specs.World.{start_call, to_pass, to_peer, to_server, world_start}
@@ -43,7 +45,7 @@ use Rattle.eap_world.specs.declared.world.HasReported.{HasReported}
 use Rattle.world_laws.proofs.Acting.{Steps, calls, counted_acted, peer_restarts, peer_same}
 use Rattle.world_laws.proofs.Acting.{run_preserves, server_restarts, server_same, skips}
 use Rattle.world_laws.proofs.Dates.{since_started, untagged}
-use Rattle.world_laws.proofs.Receiving.{Receives, as_before, receives_now}
+use Rattle.method_laws.proofs.Receiving.{Receives, as_before, receives_now}
 use Rattle.world_laws.proofs.NoncesLeft.{IsMarked, fewer_marked, first, marked_after, marked_now}
 use Rattle.world_laws.proofs.NoncesLeft.{new_is, none_marked}
 use Rattle.world_laws.proofs.PastConversations.{Conversed, Moment, Stays, starts_another, goes_on}
@@ -55,10 +57,11 @@ use Rattle.world_laws.proofs.ServerAccepts.{server_received}
 use Rattle.world_laws.proofs.ServerPreserves.{server_initiates, server_preserves}
 use Rattle.world_laws.proofs.ServerPreserves.{server_invariant_anew, server_tags_none}
 use Rattle.world_laws.proofs.ServerPreserves.{started_invariant}
-use Rattle.world_laws.proofs.Occurrence.{occurs_if}
-use Rattle.world_laws.proofs.TagsOfEnds.{grows, rests}
+use Rattle.world_laws.proofs.OccursIn.{occurs_if}
+use Rattle.method_laws.proofs.TagsOfEnds.{grows, rests}
 use Rattle.world_laws.specs.TagOwners.{PeerTagOwner, ServerTagOwner}
 use Rattle.world_laws.specs.Runs.{initial_world, run_of}
+use Rattle.world_laws.proofs.Told.{peer_tags, server_tags}
 
 -- ---- what a delivery does to the nonces that are left
 
@@ -169,7 +172,7 @@ peer_result setup nonce now held accepted made is =
     record {
       selected = now.vars.selected;
       views = now.views;
-      tags = is.stands.tags;
+      tags = peer_tags is.stands;
       held_is = is.held_is;
     }
 
@@ -180,7 +183,7 @@ server_result setup nonce now held accepted made is =
     record {
       current = now.vars.current;
       views = now.views;
-      tags = is.stands.tags;
+      tags = server_tags is.stands;
       held_is = is.held_is;
     }
 

@@ -12,7 +12,7 @@ use Rattle.peer_machine.specs.Inputs.{peer_accepts}
 use Rattle.server_machine.specs.Inputs.{server_accepts}
 use Rattle.tag_book.specs.Book.{entries_of, entry, same_end}
 use Rattle.eap_world.specs.Conversations.{beginning, since_from, since_of}
-use Rattle.world_laws.specs.Records.{is_after, since}
+use Rattle.method_laws.specs.Records.{is_after, since}
 use Rattle.eap_world.specs.World.{WorldNow, WorldOutcome, call_octets, to_pass, to_peer, to_server}
 use Rattle.tag_book.specs.declared.book.End.{End}
 use Rattle.tag_book.specs.declared.book.End.TheVariants as end

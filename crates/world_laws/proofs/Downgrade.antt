@@ -20,7 +20,7 @@ use Rattle.eap_packet.specs.Fault.{code_of, packet_of}
 use Rattle.eap_packet.specs.Packet.{response}
 use Rattle.eap_packet.specs.declared.state.State.{State}
 use Rattle.login_policy.specs.Policy.{next_kind}
-use Rattle.world_laws.specs.ServerInvariant.{ServerHasBoth}
+use Rattle.method_laws.specs.Both.{ServerHasBoth}
 use Rattle.eap_method.proofs.Amongs.{each_one}
 use Rattle.eap_method.specs.Server.{Offer, ServerViews, side_of}
 use Rattle.eap_method.specs.declared.values.ServerSide.{ServerSide}
@@ -54,7 +54,7 @@ use Rattle.world_laws.proofs.EndInvariants.{InvariantSoFar, every_run_so_far, st
 use Rattle.world_laws.proofs.Few.{started_more}
 use Rattle.world_laws.proofs.NakAnswers.{naks_refuse, read_nak, response_nak}
 use Rattle.world_laws.proofs.SingleSteps.{StepOf, is_called, is_skipped, step_of}
-use Rattle.world_laws.proofs.ServerByMethod.{OfferOf, by_gpsk, by_none, by_psk, offer_of}
+use Rattle.method_laws.proofs.ServerByMethod.{OfferOf, by_gpsk, by_none, by_psk, offer_of}
 use Rattle.world_laws.specs.Runs.{initial_world, run_of}
 
 -- ---- what each answer of the server does to its method

@@ -11,14 +11,14 @@ use Rattle.eap_world.specs.Conversations.{Conversations, front, is_used}
 use Rattle.world_laws.specs.EachConversation.{AreTwoOf, Conversation, IsOneOf, all_accepted}
 use Rattle.world_laws.specs.EachConversation.{all_produced, starts_another, conversations_along}
 use Rattle.world_laws.specs.EachConversation.{last_now, moments, nonces_of, present_one}
-use Rattle.world_laws.specs.Records.{tags_by}
+use Rattle.method_laws.specs.Records.{tags_by}
 use Rattle.eap_world.specs.World.{WorldNow, run_after, world_step}
 use Rattle.tag_book.specs.declared.book.End.{End}
 use Rattle.tag_book.specs.declared.book.Entry.{Entry}
 use Rattle.tag_book.specs.declared.book.Use.TheVariants.{Accepted, Made}
 use Rattle.world_laws.proofs.NoncesLeft.{used_front}
 use Rattle.world_laws.proofs.OneOf.{one_parts, two_parts}
-use Rattle.world_laws.proofs.TagsOfEnds.{tags_append}
+use Rattle.method_laws.proofs.TagsOfEnds.{tags_append}
 
 -- nonces stay used, and a run that is fresh was so before
 pub record Grows (before after : Conversations) : Type 0 where

@@ -39,7 +39,7 @@ use Rattle.world_laws.proofs.NoncesLeft.{new_is, still_used}
 use Rattle.world_laws.proofs.PeerPreserves.{peer_preserves, peer_invariant_anew, peer_tags_none}
 use Rattle.world_laws.proofs.ServerPreserves.{server_preserves, server_invariant_anew}
 use Rattle.world_laws.proofs.ServerPreserves.{server_tags_none}
-use Rattle.world_laws.proofs.TagsOfEnds as tags
+use Rattle.method_laws.proofs.TagsOfEnds as tags
 
 -- ---- the conversations that have begun
 

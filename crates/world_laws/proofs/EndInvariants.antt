@@ -23,7 +23,7 @@ use Rattle.tag_book.specs.Book.{entries_of, same_end}
 use Rattle.eap_world.specs.Conversations.{beginning, since_from, since_of}
 use Rattle.world_laws.specs.EndInvariants.{BothInvariants, EndInvariants}
 use Rattle.world_laws.specs.PeerInvariant.{PeerInvariant}
-use Rattle.world_laws.specs.Records.{since, tags_by}
+use Rattle.method_laws.specs.Records.{since, tags_by}
 use Rattle.world_laws.specs.ServerInvariant.{ServerInvariant}
 use Rattle.eap_world.specs.World.{Parties, WorldNow, WorldOutcome, call_octets, act_of_call}
 use Rattle.eap_world.specs.World.{start_call, to_pass, to_peer, to_server, world_acted, world_start}
@@ -38,7 +38,7 @@ use Rattle.world_laws.proofs.Dates.{one_longer, present, present_anew, present_m
 use Rattle.world_laws.proofs.Dates.{untagged}
 use Rattle.world_laws.proofs.PeerPreserves as peer_calls
 use Rattle.world_laws.proofs.ServerPreserves as server_calls
-use Rattle.world_laws.proofs.TagsOfEnds.{grows, rests}
+use Rattle.method_laws.proofs.TagsOfEnds.{grows, rests}
 use Rattle.world_laws.specs.Runs.{initial_world, run_of}
 
 -- ---- an end with the entries of its present conversation

@@ -18,7 +18,7 @@ use Rattle.eap_world.specs.declared.conversations.ConversationStart.{Conversatio
 use Rattle.world_laws.specs.Agreement.{FewPackets, FewTags}
 use Rattle.eap_world.specs.Conversations.{beginning, initiated_by, one_of}
 use Rattle.world_laws.specs.EndInvariants.{BothInvariants}
-use Rattle.world_laws.specs.Records.{same_use, tags_by}
+use Rattle.method_laws.specs.Records.{same_use, tags_by}
 use Rattle.eap_world.specs.World.{Action, Called, Skipped, WorldNow, WorldOutcome, act, act_of_call}
 use Rattle.eap_world.specs.World.{run_after, sent_by, sent_to, start_call}
 use Rattle.eap_world.specs.World.{world_acted, world_start, world_step}
@@ -28,7 +28,7 @@ use Rattle.world_laws.proofs.Dates.{present_more, steps_book}
 use Rattle.world_laws.proofs.EndInvariants.{InvariantSoFar, every_run_so_far, step_invariant}
 use Rattle.world_laws.proofs.PeerPreserves.{peer_few}
 use Rattle.world_laws.proofs.ServerPreserves.{server_few}
-use Rattle.world_laws.proofs.TagsOfEnds.{tags_append}
+use Rattle.method_laws.proofs.TagsOfEnds.{tags_append}
 use Rattle.server_machine.specs.ServerTable.{server_start}
 use Rattle.world_laws.specs.Runs.{initial_world, run_of}
 

@@ -27,14 +27,15 @@ use Rattle.world_laws.specs.EachConversation.{peer_nonce, server_conversations, 
 use Rattle.world_laws.specs.Forgery.{AgreeOrForged, EachTagIsRight, Forgery, HonestOrForged}
 use Rattle.world_laws.specs.Forgery.{IsOfConversation, of_peer, of_server, tags_in}
 use Rattle.world_laws.specs.Matching.{AreAll}
-use Rattle.world_laws.specs.Records.{IsIn, same_use, tags_by}
+use Rattle.method_laws.specs.Records.{IsIn, same_use, tags_by}
 use Rattle.world_laws.proofs.Conversations.{conversations_are_all}
 use Rattle.world_laws.proofs.HonestRuns.{honest_ends_agree}
 use Rattle.world_laws.proofs.PastConversations.{in_either}
 use Rattle.world_laws.proofs.PresentUnderKey.{ends_agree_under}
 use Rattle.world_laws.proofs.RightMacs.{OfEach, peer_tags_right, server_tags_right}
-use Rattle.world_laws.proofs.TagsOfEnds.{in_if, skip_if}
+use Rattle.method_laws.proofs.TagsOfEnds.{in_if, skip_if}
 use Rattle.world_laws.specs.Runs.{run_of}
+use Rattle.world_laws.proofs.Told.{peer_tags, server_tags}
 
 -- ---- an entry of the book is among the tags of its end
 
@@ -106,13 +107,13 @@ module _ (setup : Setup) (w : WorldNow) (ps : List OfPeer) (ss : List OfServer)
       let p : OfPeer = m.by in
       of_peer p same m.is_one m.is_in
       (of_use _ e.used p (peer_tags_right setup.peer (peer_nonce p) p.now.vars.selected p.now.views
-      p.accepted p.made (all.peer_invariant p m.is_one).tags) e.tag m.is_in)
+      p.accepted p.made (peer_tags (all.peer_invariant p m.is_one))) e.tag m.is_in)
   by_end e end.Server same is =
       let m = of_servers e.used e.tag is in
       let s : OfServer = m.by in
       of_server s same m.is_one m.is_in
       (of_use _ e.used s (server_tags_right setup.server (server_nonce s) s.now.vars.current
-      s.now.views s.accepted s.made (all.server_invariant s m.is_one).tags) e.tag m.is_in)
+      s.now.views s.accepted s.made (server_tags (all.server_invariant s m.is_one))) e.tag m.is_in)
 
   each_right : (e : Entry) → IsOneOf e w.book → IsOfConversation setup ps ss e
   each_right e is = by_end e e.end refl (entry_in e w.book is)

@@ -27,13 +27,13 @@ use Rattle.server_machine.specs.ServerTable.{ServerNow, current_report, server_r
 use Rattle.eap_world.specs.Judgement.{agreement_of, peer_agrees, server_agrees, is_welcome}
 use Rattle.eap_world.specs.World.{WorldNow}
 use Rattle.world_laws.specs.Agreement.{AreTheirs}
-use Rattle.world_laws.specs.GpskLogins.{PicksFirstSuite}
-use Rattle.world_laws.specs.GpskPeerInvariant.{GpskStarted, gpsk2_record}
-use Rattle.world_laws.specs.GpskServerInvariant.{GpskChecked, gpsk2_of_login}
-use Rattle.world_laws.specs.Records.{IsIn}
-use Rattle.world_laws.proofs.Among.{among_one, among_two}
+use Rattle.method_laws.specs.GpskLogins.{PicksFirstSuite}
+use Rattle.method_laws.specs.GpskPeerInvariant.{GpskStarted, gpsk2_record}
+use Rattle.method_laws.specs.GpskServerInvariant.{GpskChecked, gpsk2_of_login}
+use Rattle.method_laws.specs.Records.{IsIn}
+use Rattle.method_laws.proofs.Among.{among_one, among_two}
 use Rattle.world_laws.proofs.EqualReports.{reports_agree}
-use Rattle.world_laws.proofs.Fields.{fronts, sized_fronts, suite_fronts}
+use Rattle.method_laws.proofs.Fields.{fronts, sized_fronts, suite_fronts}
 use Rattle.world_laws.proofs.Results.{own_key, own_name}
 use Rattle.eap_method.specs.BothPeers.{gpsk_in, gpsk_of, gpsk_shown}
 use Rattle.eap_method.specs.Peer.{Method, by_psk, by_gpsk, by_other, View, report, PeerShown}

@@ -17,14 +17,14 @@ use Rattle.eap_method.specs.Server.{side_of}
 use Rattle.peer_machine.specs.PeerTable.{PeerNow}
 use Rattle.server_machine.specs.ServerTable.{ServerNow}
 use Rattle.world_laws.specs.Alone.{SameKeys}
-use Rattle.world_laws.specs.GpskPeerInvariant.{gpsk_peer_login, GpskPeerTags, GpskStarted}
-use Rattle.world_laws.specs.GpskPeerInvariant.{gpsk2_record, gpsk3_of_login}
-use Rattle.world_laws.specs.GpskPeerInvariant as gpsk_peer_stands
-use Rattle.world_laws.specs.GpskServerInvariant.{gpsk_server_login, GpskServerTags, GpskChecked}
-use Rattle.world_laws.specs.GpskServerInvariant.{gpsk2_of_login}
-use Rattle.world_laws.specs.GpskServerInvariant as gpsk_server_stands
-use Rattle.world_laws.specs.Records.{IsIn}
-use Rattle.world_laws.proofs.Among.{among_one, among_two}
+use Rattle.method_laws.specs.GpskPeerInvariant.{gpsk_peer_login, GpskPeerTags, GpskStarted}
+use Rattle.method_laws.specs.GpskPeerInvariant.{gpsk2_record, gpsk3_of_login}
+use Rattle.method_laws.specs.GpskPeerInvariant as gpsk_peer_stands
+use Rattle.method_laws.specs.GpskServerInvariant.{gpsk_server_login, GpskServerTags, GpskChecked}
+use Rattle.method_laws.specs.GpskServerInvariant.{gpsk2_of_login}
+use Rattle.method_laws.specs.GpskServerInvariant as gpsk_server_stands
+use Rattle.method_laws.specs.Records.{IsIn}
+use Rattle.method_laws.proofs.Among.{among_one, among_two}
 use Rattle.world_laws.proofs.GpskAgrees as agrees
 use Rattle.world_laws.proofs.GpskPeerOwners.{not_fail, not_gpsk4}
 use Rattle.world_laws.proofs.GpskServerOwners.{not_bars}

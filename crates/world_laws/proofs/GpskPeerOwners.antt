@@ -12,16 +12,17 @@ use Rattle.eap_method.specs.GpskTags.{sk_record}
 use Rattle.eap_method.specs.Peer.{PeerViews}
 use Rattle.peer_machine.specs.PeerTable as peers
 use Rattle.eap_world.specs.Conversations.{front}
-use Rattle.world_laws.specs.ByMethod.{PeerTags, peer_foreign}
-use Rattle.world_laws.specs.GpskPeerInvariant.{GpskStarted, GpskPeerTags, gpsk_unset, gpsk_fresh}
-use Rattle.world_laws.specs.GpskPeerInvariant.{gpsk_waits, gpsk_confirmed, gpsk_failed, gpsk_barred}
-use Rattle.world_laws.specs.GpskPeerInvariant.{gpsk2_record, front_in, gpsk_whole_rand_s}
-use Rattle.world_laws.specs.GpskServerInvariant.{gpsk2_of_login}
-use Rattle.world_laws.specs.Records.{IsIn}
+use Rattle.method_laws.specs.ByMethod.{PeerTags, peer_foreign}
+use Rattle.method_laws.specs.GpskPeerInvariant.{GpskStarted, GpskPeerTags, gpsk_unset, gpsk_fresh}
+use Rattle.method_laws.specs.GpskPeerInvariant.{gpsk_waits, gpsk_confirmed, gpsk_failed}
+use Rattle.method_laws.specs.GpskPeerInvariant.{gpsk_barred}
+use Rattle.method_laws.specs.GpskPeerInvariant.{gpsk2_record, front_in, gpsk_whole_rand_s}
+use Rattle.method_laws.specs.GpskServerInvariant.{gpsk2_of_login}
+use Rattle.method_laws.specs.Records.{IsIn}
 use Rattle.world_laws.specs.TagOwners.{OnlyByPeer}
-use Rattle.world_laws.proofs.Among.{among_one, among_two}
-use Rattle.world_laws.proofs.Fields.{fronts, sized_fronts}
-use Rattle.world_laws.proofs.PeerByMethod.{created_by_gpsk}
+use Rattle.method_laws.proofs.Among.{among_one, among_two}
+use Rattle.method_laws.proofs.Fields.{fronts, sized_fronts}
+use Rattle.method_laws.proofs.PeerByMethod.{created_by_gpsk}
 use Rattle.eap_method.specs.BothPeers.{gpsk_in}
 
 -- what the MAC of GPSK-2 covers, cut at the nonces

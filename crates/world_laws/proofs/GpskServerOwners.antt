@@ -16,20 +16,20 @@ use Rattle.eap_method.specs.Server.{ServerViews, side_of}
 use Rattle.peer_machine.specs.PeerTable as peers
 use Rattle.server_machine.specs.ServerTable as servers
 use Rattle.eap_world.specs.Conversations.{front}
-use Rattle.world_laws.specs.ByMethod.{ServerTags, server_foreign}
-use Rattle.world_laws.specs.GpskPeerInvariant.{GpskStarted, front_in, gpsk3_of_login}
-use Rattle.world_laws.specs.GpskServerInvariant.{GpskChecked, GpskServerTags, gpsk_asked}
-use Rattle.world_laws.specs.GpskServerInvariant.{gpsk_refusing, gpsk_refused, gpsk_barring}
-use Rattle.world_laws.specs.GpskServerInvariant.{gpsk_checked, gpsk_barred, gpsk_confirmed}
-use Rattle.world_laws.specs.GpskServerInvariant.{gpsk2_of_login, gpsk_rand_p, gpsk_rand_p_in}
-use Rattle.world_laws.specs.GpskServerInvariant.{gpsk_whole_rand_p}
-use Rattle.world_laws.specs.Records.{IsIn}
+use Rattle.method_laws.specs.ByMethod.{ServerTags, server_foreign}
+use Rattle.method_laws.specs.GpskPeerInvariant.{GpskStarted, front_in, gpsk3_of_login}
+use Rattle.method_laws.specs.GpskServerInvariant.{GpskChecked, GpskServerTags, gpsk_asked}
+use Rattle.method_laws.specs.GpskServerInvariant.{gpsk_refusing, gpsk_refused, gpsk_barring}
+use Rattle.method_laws.specs.GpskServerInvariant.{gpsk_checked, gpsk_barred, gpsk_confirmed}
+use Rattle.method_laws.specs.GpskServerInvariant.{gpsk2_of_login, gpsk_rand_p, gpsk_rand_p_in}
+use Rattle.method_laws.specs.GpskServerInvariant.{gpsk_whole_rand_p}
+use Rattle.method_laws.specs.Records.{IsIn}
 use Rattle.world_laws.specs.TagOwners.{OnlyByPeer, OnlyByServer, NotByServer}
-use Rattle.world_laws.proofs.Among.{among_one}
+use Rattle.method_laws.proofs.Among.{among_one}
 use Rattle.world_laws.proofs.Asks.{AsksPeer, AsksServer, some_is}
-use Rattle.world_laws.proofs.Fields.{fronts}
+use Rattle.method_laws.proofs.Fields.{fronts}
 use Rattle.world_laws.proofs.GpskPeerOwners.{gpsk2_created, long}
-use Rattle.world_laws.proofs.ServerByMethod.{created_by_gpsk}
+use Rattle.method_laws.proofs.ServerByMethod.{created_by_gpsk}
 
 gpsk3_covers : (p : gpsk_peer.Login) (pd : List ℕ) (s : gpsk.Login) → length p.nonce ≡ 32
     → length s.rand_p ≡ 32

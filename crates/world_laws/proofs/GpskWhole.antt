@@ -10,13 +10,13 @@ use Rattle.eap_method.specs.GpskServer as server
 use Rattle.eap_method.specs.GpskTags.{sk_record}
 use Rattle.peer_machine.specs.PeerTable as peers
 use Rattle.server_machine.specs.ServerTable as servers
-use Rattle.world_laws.specs.GpskPeerInvariant.{gpsk_whole_rand_s, GpskStarted, GpskPeerTags}
-use Rattle.world_laws.specs.GpskPeerInvariant.{gpsk3_of_login}
-use Rattle.world_laws.specs.GpskServerInvariant.{gpsk_whole_rand_p, GpskChecked, GpskServerTags}
-use Rattle.world_laws.specs.GpskServerInvariant.{gpsk2_of_login}
-use Rattle.world_laws.specs.GpskServerInvariant as gpsk_server_stands
-use Rattle.world_laws.specs.Records.{IsIn}
-use Rattle.world_laws.proofs.Among.{first_is, no_tag}
+use Rattle.method_laws.specs.GpskPeerInvariant.{gpsk_whole_rand_s, GpskStarted, GpskPeerTags}
+use Rattle.method_laws.specs.GpskPeerInvariant.{gpsk3_of_login}
+use Rattle.method_laws.specs.GpskServerInvariant.{gpsk_whole_rand_p, GpskChecked, GpskServerTags}
+use Rattle.method_laws.specs.GpskServerInvariant.{gpsk2_of_login}
+use Rattle.method_laws.specs.GpskServerInvariant as gpsk_server_stands
+use Rattle.method_laws.specs.Records.{IsIn}
+use Rattle.method_laws.proofs.Among.{first_is, no_tag}
 use Rattle.world_laws.proofs.GpskPeerOwners as gpsk_peer_tells
 use Rattle.world_laws.proofs.GpskServerOwners as gpsk_server_tells
 

@@ -11,7 +11,7 @@ use Rattle.tag_book.specs.declared.book.Entry.{Entry}
 use Rattle.tag_book.specs.declared.book.RecordOwner.TheVariants.{Other, Either}
 use Rattle.tag_book.specs.declared.book.TagsVerdict.TheVariants.{Honest}
 use Rattle.tag_book.proofs.FirstBroken.{passed}
-use Rattle.world_laws.proofs.TagsOfEnds.{unbroken}
+use Rattle.method_laws.proofs.TagsOfEnds.{unbroken}
 
 pub none_if_honest : (o : Option ℕ) → verdict_on o ≡ Honest → o ≡ None
 none_if_honest None e = refl

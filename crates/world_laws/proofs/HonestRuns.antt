@@ -16,12 +16,12 @@ use Rattle.eap_world.specs.World.{WorldNow}
 use Rattle.tag_book.specs.declared.book.End.TheVariants as end
 use Rattle.world_laws.specs.Agreement.{AreApart, HonestEndsAgree, IsWhole}
 use Rattle.world_laws.specs.PresentUnderKey.{AgreeOnTheirs}
-use Rattle.world_laws.specs.Records.{AreInEither, tags_by}
+use Rattle.method_laws.specs.Records.{AreInEither, tags_by}
 use Rattle.world_laws.proofs.EndInvariants.{BothInvariantFirst, every_run_so_far, invariant_first}
 use Rattle.world_laws.proofs.FreshAgree.{agree_if, fresh_ends_agree}
 use Rattle.world_laws.proofs.HonestOfEither.{honest_of_either, none_if_honest}
 use Rattle.world_laws.proofs.SucceedingEnds.{both_agree, both_theirs, ends_succeed}
-use Rattle.world_laws.proofs.TagsOfEnds.{honest_tags}
+use Rattle.method_laws.proofs.TagsOfEnds.{honest_tags}
 use Rattle.world_laws.specs.Runs.{run_of}
 
 -- two ends that stand so, each of whose accepted tags either end made, and which both succeed,

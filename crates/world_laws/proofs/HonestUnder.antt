@@ -11,7 +11,7 @@ use Rattle.tag_book.proofs.FirstBroken.{passed}
 use Rattle.tag_book.proofs.UnderKey.{honest_under, none_more, one_more}
 use Rattle.world_laws.specs.UnderKey.{HonestUnder}
 use Rattle.world_laws.proofs.HonestOfEither.{none_if_honest}
-use Rattle.world_laws.proofs.TagsOfEnds.{unbroken}
+use Rattle.method_laws.proofs.TagsOfEnds.{unbroken}
 
 module _ (key : List ℕ) where
   unbroken_under : (makers : RecordOwner) (earlier rest : List Entry)

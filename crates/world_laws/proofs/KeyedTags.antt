@@ -12,10 +12,10 @@ use Rattle.tag_book.specs.declared.book.RecordOwner.TheVariants.{Either, Other}
 use Rattle.tag_book.specs.declared.book.TagsVerdict.TheVariants.{Honest}
 use Rattle.tag_book.specs.declared.book.Use.{Use}
 use Rattle.tag_book.specs.declared.book.Use.TheVariants.{Accepted, Made}
-use Rattle.world_laws.specs.Records.{IsIn, same_use, tags_by}
+use Rattle.method_laws.specs.Records.{IsIn, same_use, tags_by}
 use Rattle.world_laws.proofs.HonestOfEither.{none_if_honest}
-use Rattle.world_laws.proofs.HonestOther.{honest_other}
-use Rattle.world_laws.proofs.TagsOfEnds.{by_test_in, honest_tags, in_if, other_end, skip_if}
+use Rattle.method_laws.proofs.HonestOther.{honest_other}
+use Rattle.method_laws.proofs.TagsOfEnds.{by_test_in, honest_tags, in_if, other_end, skip_if}
 
 module _ (key : List ℕ) (own : End) (how : Use) where
   abbrev is_its : Entry → Bool

@@ -22,17 +22,17 @@ use Rattle.pass_through.specs.declared.variables.PassVariables.{PassVariables}
 use Rattle.eap_world.specs.Sent.{Sent, last_to, or_last, same_port}
 use Rattle.eap_world.specs.World.{Call, Parties, act_of_call, port_to, pass_port, sent_by, sent_to}
 use Rattle.eap_world.specs.World.{to_pass, to_peer, to_server}
-use Rattle.world_laws.specs.PeerInvariant.{PeerHasBoth}
-use Rattle.world_laws.specs.ServerInvariant.{ServerHasBoth}
-use Rattle.world_laws.proofs.OneMethod.{some_same}
+use Rattle.method_laws.specs.Both.{PeerHasBoth}
+use Rattle.method_laws.specs.Both.{ServerHasBoth}
+use Rattle.method_laws.proofs.OneMethod.{some_same}
 use Rattle.world_laws.proofs.PassSpeaks as passing
 use Rattle.world_laws.proofs.PassSpeaks.{Proceed, PassSpeaks, pass_speaks}
 use Rattle.world_laws.proofs.PeerSpeaks as peering
 use Rattle.world_laws.proofs.PeerSpeaks.{PeerSpeaks, peer_speaks}
-use Rattle.world_laws.proofs.PeerTurns.{IsResponse}
+use Rattle.method_laws.proofs.PeerTurns.{IsResponse}
 use Rattle.world_laws.proofs.ServerSpeaks as serving
 use Rattle.world_laws.proofs.ServerSpeaks.{ServerSpeaks, server_speaks}
-use Rattle.world_laws.proofs.ServerTurns.{IsRequest}
+use Rattle.method_laws.proofs.ServerTurns.{IsRequest}
 
 -- ---- the last packet to a port, with one more
 

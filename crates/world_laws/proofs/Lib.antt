@@ -2,8 +2,6 @@
 pub mod Acting
 -- What one end's success tells by itself of the other end.
 pub mod Alone
--- Which record of a short list it is.
-pub mod Among
 -- What each end asks of the other by the first tag that it accepts.
 pub mod Asks
 -- An end asks so of the other by either method; and an end in SUCCESS has accepted a tag.
@@ -31,42 +29,26 @@ pub mod EndInvariants
 pub mod EqualReports
 -- Every run sends few packets, and its book holds few tags.
 pub mod Few
--- Two joins that are equal, cut into their parts.
-pub mod Fields
 -- Over an honest book and fresh nonces two ends that both stand in SUCCESS agree.
 pub mod FreshAgree
 -- The world tells whether a run is fresh.
 pub mod FreshRuns
 -- Two ends that have succeeded by EAP-GPSK agree, and what they report is their own.
 pub mod GpskAgrees
--- The sizes of the nonces that a reader of EAP-GPSK gives.
-pub mod GpskFields
 -- The login of an end that has succeeded by EAP-GPSK is that of the other end's conversation on
 -- whose tags it rests.
 pub mod GpskLogins
--- The nonces of GPSK-1 and GPSK-2 stand in their octets.
-pub mod GpskNonces
 -- What a tag that the peer made by EAP-GPSK tells of the conversation in which it did: both nonces,
 -- whole.
 pub mod GpskPeerOwners
--- Each turn of a peer's method EAP-GPSK: of what came it holds RAND_Server alone, it answers the
--- Request, and its view tells the tags.
-pub mod GpskPeerTurns
 -- What a tag that the server made by EAP-GPSK tells of the conversation in which it did; and what
 -- each end asks by its first tag.
 pub mod GpskServerOwners
--- Each turn of a server's method EAP-GPSK: of what came it holds RAND_Peer alone, it asks with the
--- next Identifier, and its view tells the tags.
-pub mod GpskServerTurns
 -- By EAP-GPSK two conversations of which one rests on the other hold the whole of each other's
 -- nonces.
 pub mod GpskWhole
--- What an end holds of the other's nonce after a call: what it held before, or what came in it.
-pub mod Receiving
 -- A book that is honest by the other end's tags alone is honest by those of either end.
 pub mod HonestOfEither
--- Over an honest book each tag that an end accepted is one that the other end made.
-pub mod HonestOther
 -- In every run two ends that both stand in SUCCESS agree, where the book is honest.
 pub mod HonestRuns
 -- What each party sent last is the last packet to the port where its packets go.
@@ -80,8 +62,6 @@ pub mod Matching
 pub mod NoncesLeft
 -- Two ends in success are in one login: the order of their conversations alone shows it.
 pub mod OneLogin
--- An end has one method at a time.
-pub mod OneMethod
 -- Conversations among others, and their tags among all.
 pub mod OneOf
 -- What the pass-through sends: what came, on to the other side, or the last packet to the peer
@@ -92,60 +72,35 @@ pub mod PassSpeaks
 pub mod Passing
 -- What holds of the conversations of an end, past and present.
 pub mod PastConversations
--- The peer by the method of a Type: what holds of the turns, the nonce and the tags of each method
--- holds of a Type's.
-pub mod PeerByMethod
--- A peer's objects stay of EAP-PSK and EAP-GPSK, one of each method that it allows.
-pub mod PeerObjects
 -- What the peer hears of the server's nonce stands in what came.
 pub mod PeerReceives
 -- Every input of the peer keeps what stands of it, but for the begin of a new conversation.
 pub mod PeerPreserves
 -- What the peer sends: a Response to what came, new or as it was sent before.
 pub mod PeerSpeaks
--- What is asked of a turn of a peer's method: each Response has the Identifier of the Request, and
--- the view after it tells the tags.
-pub mod PeerTurns
 -- Two ends that have succeeded by EAP-PSK agree, and what they report is their own.
 pub mod PskAgrees
 -- The PSK-4 that a server accepts tells which conversation of the peer made it: that has accepted
 -- PSK-3.
 pub mod PskAnswered
--- The sizes of the nonces that a reader of EAP-PSK gives.
-pub mod PskFields
--- The header that EAX covers of an EAP-PSK message ends in RAND_S.
-pub mod PskHeaders
 -- The login of an end that has succeeded by EAP-PSK is that of the other end's conversation on
 -- whose tags it rests.
 pub mod PskLogins
 -- Matching conversations by EAP-PSK.
 pub mod PskMatching
--- The nonces of PSK-1 and PSK-2 stand in their octets.
-pub mod PskNonces
 -- What a tag that the peer made by EAP-PSK tells of the conversation in which it did: both nonces.
 pub mod PskPeerOwners
--- Each turn of a peer's method EAP-PSK: of what came it holds RAND_S alone, it answers the Request,
--- and its view tells the tags.
-pub mod PskPeerTurns
 -- No end takes its own tags for the other's, in whichever conversation it made them, where the peer
 -- succeeds by EAP-PSK.
 pub mod PskReflected
 -- What a tag that the server made by EAP-PSK tells of the conversation in which it did; and what
 -- each end asks by its first tag.
 pub mod PskServerOwners
--- Each turn of a server's method EAP-PSK: of what came it holds RAND_P alone, it asks with the next
--- Identifier, and its view tells the tags.
-pub mod PskServerTurns
 -- A tag that the server accepted and can't have made is the peer's.
 pub mod Reflected
 -- Two conversations of which one rests on the other are of one method, and their logins lead to the
 -- same.
 pub mod Resting
--- The server by the method of a Type: what holds of the turns, the offer, the nonce and the tags of
--- each method holds of a Type's.
-pub mod ServerByMethod
--- A server's objects stay of EAP-PSK and EAP-GPSK, one of each method that it proposes.
-pub mod ServerObjects
 -- What the server hears of the peer's nonce stands in what came.
 pub mod ServerAccepts
 -- Every input of the server after its start keeps what stands of it, but for the begin of a new
@@ -153,20 +108,13 @@ pub mod ServerAccepts
 pub mod ServerPreserves
 -- What the server sends: a Request with the next Identifier, the last one again, or its end.
 pub mod ServerSpeaks
--- What is asked of a turn of a server's method: each Request has the next Identifier, and the view
--- after it tells the tags.
-pub mod ServerTurns
 -- Each step of a run is lawful.
 pub mod SingleSteps
 -- An event that is skipped changes nothing but the number of events.
 pub mod Skips
--- Octets that stand in others, one after the other.
-pub mod Occurrence
 -- Two ends in SUCCESS agree, and what they report is their own, where each accepted tag is one that
 -- either end made: an end in SUCCESS can't have made the tag itself that the login rests on.
 pub mod SucceedingEnds
--- The tags of each end in a book that grows, and what its honesty says of them.
-pub mod TagsOfEnds
 -- What holds of each answer of a table, and of each delivery as it is heard, holds of all that an
 -- end takes.
 pub mod Accepting
@@ -218,3 +166,11 @@ pub mod NewKeys
 -- A world whose ends have objects of EAP-PSK and EAP-GPSK alone, one at least of each method that
 -- they name, begins as its run.
 pub mod Standard
+-- Octets that stand in others are found in them.
+pub mod OccursIn
+-- An end that goes on doesn't stand in SUCCESS.
+pub mod Going
+-- The method that a server proposes is offered by an object of it.
+pub mod Proposing
+-- What stands of an end tells its tags and its success.
+pub mod Told

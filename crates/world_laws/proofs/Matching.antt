@@ -11,7 +11,7 @@ use Rattle.server_machine.specs.ServerTable as servers
 use Rattle.peer_machine.specs.PeerTable.{peer_reports}
 use Rattle.tag_book.specs.Book.{first_broken, tags_verdict, tags_verdict_either}
 use Rattle.eap_world.specs.Conversations.{front}
-use Rattle.world_laws.specs.ByMethod.{server_login}
+use Rattle.method_laws.specs.ByMethod.{server_login}
 use Rattle.world_laws.specs.EachConversation.{AreTwoOf, IsOneOf, OfPeer, OfServer, all_produced}
 use Rattle.world_laws.specs.EachConversation.{peer_knows_nonce, peer_nonce, server_knows_nonce}
 use Rattle.world_laws.specs.EachConversation.{server_nonce}
@@ -19,27 +19,28 @@ use Rattle.world_laws.specs.Matching.{AreAll, AreOfOne, HasSameKeys, HaveNonces,
 use Rattle.world_laws.specs.Matching.{PeerMatches, PeerRests, ReportsAgree, RestsOn, ServerMatches}
 use Rattle.world_laws.specs.Matching.{ServerRests}
 use Rattle.world_laws.specs.PeerInvariant.{PeerInvariant}
-use Rattle.world_laws.specs.Records.{IsIn, tags_by}
+use Rattle.method_laws.specs.Records.{IsIn, tags_by}
 use Rattle.world_laws.specs.ServerInvariant.{ServerInvariant}
 use Rattle.world_laws.specs.TagOwners.{OnlyByPeer, OnlyByServer, NotByServer, PeerTagOwner}
 use Rattle.world_laws.specs.TagOwners.{ServerTagOwner}
 use Rattle.world_laws.proofs.Asks.{AsksPeer, AsksServer}
 use Rattle.world_laws.proofs.AsksByMethod.{peer_asks, server_asks}
 use Rattle.world_laws.proofs.HonestOfEither.{honest_of_either, none_if_honest}
-use Rattle.world_laws.proofs.HonestOther.{honest_other}
+use Rattle.method_laws.proofs.HonestOther.{honest_other}
 use Rattle.world_laws.proofs.OneLogin.{first_is_in, one_stored}
 use Rattle.world_laws.proofs.OneOf.{accepted_in, first_of, made_in, same_or_two, second_of}
 use Rattle.world_laws.proofs.Resting as resting
 use Rattle.world_laws.proofs.SucceedingEnds.{PeerSucceeds, ServerSucceeds, both_agree, both_succeed}
 use Rattle.world_laws.proofs.SucceedingEnds.{first_in, peer_succeeds, server_succeeds}
 use Rattle.world_laws.proofs.SucceedingEnds as success
-use Rattle.world_laws.proofs.TagsOfEnds.{honest_tags}
+use Rattle.method_laws.proofs.TagsOfEnds.{honest_tags}
 use Rattle.eap_world.specs.Judgement.{is_success}
 use Rattle.eap_world.specs.World.{WorldNow}
 use Rattle.tag_book.specs.declared.book.End.TheVariants as end
 use Rattle.tag_book.specs.declared.book.RecordOwner.TheVariants.{Either, Other}
 use Rattle.tag_book.specs.declared.book.TagsVerdict.TheVariants.{Honest}
 use Rattle.tag_book.specs.declared.book.Use.TheVariants.{Accepted, Made}
+use Rattle.world_laws.proofs.Told.{peer_success, peer_tags, server_success, server_tags}
 
 -- ---- one conversation
 
@@ -72,7 +73,7 @@ module _ (setup : Setup) where
   peer_result p known = record {
     selected = p.now.vars.selected;
     views = p.now.views;
-    tags = known.stands.tags;
+    tags = peer_tags known.stands;
     held_is = refl;
   }
 
@@ -81,7 +82,7 @@ module _ (setup : Setup) where
   server_result s known = record {
     current = s.now.vars.current;
     views = s.now.views;
-    tags = known.stands.tags;
+    tags = server_tags known.stands;
     held_is = refl;
   }
 
@@ -89,13 +90,13 @@ module _ (setup : Setup) where
       → PeerSucceeds (peers.setup_with_nonce setup.peer (peer_nonce p)) p.now p.accepted p.made
   peer_won p known p_in =
       peer_succeeds (peers.setup_with_nonce setup.peer (peer_nonce p))
-      p.now p.accepted p.made known.stands.tags (known.stands.decided (known.stands.sure p_in))
+      p.now p.accepted p.made (peer_tags known.stands) (peer_success known.stands p_in)
 
   pub server_won : (s : OfServer) → ServerKnown setup.server s → is_success s.now.vars.state ≡ true
       → ServerSucceeds (servers.setup_with_nonce setup.server (server_nonce s))
       s.now s.accepted s.made
   server_won s known s_in = server_succeeds (servers.setup_with_nonce setup.server (server_nonce s))
-      s.now s.accepted s.made known.stands.tags (known.stands.sure s_in)
+      s.now s.accepted s.made (server_tags known.stands) (server_success known.stands s_in)
 
   -- what a server asks that holds a nonce
   pub server_asking : (s : OfServer) → ServerKnown setup.server s → (foreign : List ℕ)
@@ -160,7 +161,7 @@ module _ (setup : Setup) where
   server_one s known p p_known r =
       let are = resting.server_on setup.peer setup.server (peer_nonce p) (server_nonce s)
       p_known.size known.size p.now.vars.selected p.now.views
-      s.now.vars.current s.now.views _ _ known.stands.tags _ _ p_known.stands.tags r.tag r.more
+      s.now.vars.current s.now.views _ _ (server_tags known.stands) _ _ (peer_tags p_known.stands) r.tag r.more
       r.first r.is_made in
       record { method = are.method; whole = are.whole }
 
@@ -170,7 +171,7 @@ module _ (setup : Setup) where
   peer_one p known p_in s s_known r =
       let are = resting.peer_on setup.peer setup.server (peer_nonce p) (server_nonce s)
       known.size s_known.size p.now s.now.vars.current s.now.views
-      _ _ (peer_won p known p_in) _ _ s_known.stands.tags r.tag r.more r.first r.is_made in
+      _ _ (peer_won p known p_in) _ _ (server_tags s_known.stands) r.tag r.more r.first r.is_made in
       record { method = are.method; whole = are.whole }
 
   -- two in SUCCESS that rest on each other agree
@@ -444,7 +445,7 @@ module _ (setup : Setup) (last : WorldNow) (ps : List OfPeer) (ss : List OfServe
       let led = resting.peers_login (peers.setup_with_nonce setup.peer (peer_nonce p))
       (servers.setup_with_nonce setup.server (server_nonce s)) known.size s_known.size
       p.now p.accepted p.made (peer_won setup p known p_in)
-      s.now.vars.current s.now.views s.accepted s.made s_known.stands.tags
+      s.now.vars.current s.now.views s.accepted s.made (server_tags s_known.stands)
       (first_in p.accepted s.made rests.tag rests.more rests.first rests.is_made)
       (first_in s.accepted p.made back.tag back.more back.first back.is_made) in
       led.login.same ∙ sym led.holds
@@ -456,7 +457,7 @@ module _ (setup : Setup) (last : WorldNow) (ps : List OfPeer) (ss : List OfServe
       let s_known = all.servers s s_is in
       let led = resting.servers_login (peers.setup_with_nonce setup.peer (peer_nonce p))
       (servers.setup_with_nonce setup.server (server_nonce s)) known.size s_known.size
-      p.now.vars.selected p.now.views p.accepted p.made known.stands.tags s.now s.accepted s.made
+      p.now.vars.selected p.now.views p.accepted p.made (peer_tags known.stands) s.now s.accepted s.made
       (server_won setup s s_known s_in)
       (first_in s.accepted p.made rests.tag rests.more rests.first rests.is_made) in
       record {

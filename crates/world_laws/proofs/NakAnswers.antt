@@ -42,12 +42,12 @@ use Rattle.server_machine.specs.Variables.{ServerVariables}
 use Rattle.world_laws.specs.Downgrade.{IsRefused, NaksRefuse, asked_kind, asks_for, is_nak}
 use Rattle.world_laws.specs.SingleSteps.{Sends, delivered_in, is_again}
 use Rattle.world_laws.proofs.EndInvariants.{every_run_so_far}
-use Rattle.world_laws.proofs.PeerByMethod.{TurnOf, of_gpsk, of_none, of_psk, turn_of}
+use Rattle.method_laws.proofs.PeerByMethod.{TurnOf, of_gpsk, of_none, of_psk, turn_of}
 use Rattle.world_laws.proofs.PeerSpeaks as peering
 use Rattle.world_laws.proofs.PeerSpeaks.{PeerSpeaks, peer_speaks}
 use Rattle.world_laws.proofs.SingleSteps.{StepOf, cancel, is_called, is_skipped, one_sent}
 use Rattle.world_laws.proofs.SingleSteps.{passed_to_peer, step_of}
-use Rattle.world_laws.specs.PeerInvariant.{PeerHasBoth}
+use Rattle.method_laws.specs.Both.{PeerHasBoth}
 use Rattle.world_laws.specs.Runs.{run_of}
 use Rattle.eap_method.specs.BothPeers.{psk_in}
 use Rattle.eap_method.specs.BothPeers.{gpsk_in}

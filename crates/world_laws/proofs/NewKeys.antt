@@ -13,17 +13,18 @@ use Rattle.login_keys.proofs.PskLaws.{psk_keys_differ}
 use Rattle.peer_machine.specs.PeerTable as peers
 use Rattle.peer_machine.specs.PeerTable.{PeerNow}
 use Rattle.eap_world.specs.Conversations.{front}
-use Rattle.world_laws.specs.ByMethod as by_method
-use Rattle.world_laws.specs.ByMethod.{PeerTags}
+use Rattle.method_laws.specs.ByMethod as by_method
+use Rattle.method_laws.specs.ByMethod.{PeerTags}
 use Rattle.world_laws.specs.EachConversation.{peer_nonce}
-use Rattle.world_laws.specs.GpskPeerInvariant as gpsk_stands
-use Rattle.world_laws.specs.PskPeerInvariant as psk_stands
+use Rattle.method_laws.specs.GpskPeerInvariant as gpsk_stands
+use Rattle.method_laws.specs.PskPeerInvariant as psk_stands
 use Rattle.world_laws.specs.NewKeys.{KeysAreNew}
 use Rattle.world_laws.specs.SessionIds.{SessionOf, gpsk_peer_session, peer_session, peer_session_of}
 use Rattle.world_laws.specs.SessionIds.{psk_peer_session}
 use Rattle.world_laws.proofs.Conversations.{run_known}
 use Rattle.world_laws.proofs.OneOf.{first_of, second_of}
 use Rattle.world_laws.proofs.SessionIds.{session_is}
+use Rattle.world_laws.proofs.Told.{peer_tags}
 
 -- by EAP-PSK the keys are those of the shared key and the conversation's nonce
 record AreFrom (key nonce : List ℕ) (x : SessionOf) : Type 0 where
@@ -110,9 +111,9 @@ keys_are_new setup events whole is_key fresh p q two one other has its =
     let known = all.peers p (first_of p q _ two) in
     let others = all.peers q (second_of p q _ two) in
     let from = from_nonce (peers.setup_with_nonce setup.peer (peer_nonce p))
-    p.now p.accepted p.made known.stands.tags one has.has in
+    p.now p.accepted p.made (peer_tags known.stands) one has.has in
     let other_from = from_nonce (peers.setup_with_nonce setup.peer (peer_nonce q))
-    q.now q.accepted q.made others.stands.tags other its.has in
+    q.now q.accepted q.made (peer_tags others.stands) other its.has in
     let differ = psk_keys_differ (key_for setup.peer psk_kind) (front (peer_nonce p))
     (front (peer_nonce q)) is_key has.rand_p its.rand_p in
     record {

@@ -18,17 +18,17 @@ use Rattle.eap_method.specs.Peer.{PeerViews, key_for}
 use Rattle.eap_method.specs.Server.{ServerViews}
 use Rattle.peer_machine.specs.PeerTable.{PeerNow}
 use Rattle.server_machine.specs.ServerTable.{ServerNow, server_reports}
-use Rattle.world_laws.specs.ByMethod as by_method
-use Rattle.world_laws.specs.ByMethod.{PeerTags, ServerTags}
-use Rattle.world_laws.specs.GpskPeerInvariant as gpsk_peer_stands
-use Rattle.world_laws.specs.GpskServerInvariant as gpsk_server_stands
-use Rattle.world_laws.specs.PskPeerInvariant as psk_peer_stands
-use Rattle.world_laws.specs.PskServerInvariant as psk_server_stands
-use Rattle.world_laws.specs.Records.{IsIn, here}
+use Rattle.method_laws.specs.ByMethod as by_method
+use Rattle.method_laws.specs.ByMethod.{PeerTags, ServerTags}
+use Rattle.method_laws.specs.GpskPeerInvariant as gpsk_peer_stands
+use Rattle.method_laws.specs.GpskServerInvariant as gpsk_server_stands
+use Rattle.method_laws.specs.PskPeerInvariant as psk_peer_stands
+use Rattle.method_laws.specs.PskServerInvariant as psk_server_stands
+use Rattle.method_laws.specs.Records.{IsIn, here}
 use Rattle.world_laws.specs.UnderKey.{IsOfKey}
-use Rattle.world_laws.proofs.Among.{among_one, among_two}
+use Rattle.method_laws.proofs.Among.{among_one, among_two}
 use Rattle.world_laws.proofs.GpskAgrees as gpsk_agrees
-use Rattle.world_laws.proofs.OneMethod.{some_same}
+use Rattle.method_laws.proofs.OneMethod.{some_same}
 use Rattle.world_laws.proofs.PskAgrees as psk_agrees
 use Rattle.world_laws.proofs.Results.{own_key}
 use Rattle.world_laws.proofs.SucceedingEnds.{PeerSucceeds, ServerSucceeds, with_psk, with_gpsk}

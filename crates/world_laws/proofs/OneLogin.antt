@@ -7,7 +7,7 @@ use Rattle.login_setup.specs.declared.setup.PeerSetup.{PeerSetup}
 use Rattle.login_setup.specs.Setup.{ServerSetup}
 use Rattle.eap_method.specs.declared.tags.TagRecord.{TagRecord}
 use Rattle.server_machine.specs.ServerTable as servers
-use Rattle.world_laws.specs.Records.{IsIn, here}
+use Rattle.method_laws.specs.Records.{IsIn, here}
 use Rattle.eap_world.specs.Conversations.{front}
 use Rattle.world_laws.proofs.Asks.{AsksPeer, AsksServer, some_is}
 use Rattle.world_laws.proofs.AsksByMethod.{server_asks}

@@ -4,9 +4,9 @@ use Rattle.std.specs.Prelude.{◌⊎◌}
 use Rattle.eap_method.specs.declared.tags.TagRecord.{TagRecord}
 use Rattle.world_laws.specs.EachConversation.{AreTwoOf, Conversation, IsOneOf, all_accepted}
 use Rattle.world_laws.specs.EachConversation.{all_produced, behind, first, here, last_now, later}
-use Rattle.world_laws.specs.Records.{IsIn}
+use Rattle.method_laws.specs.Records.{IsIn}
 use Rattle.world_laws.proofs.PastConversations.{in_after, in_either}
-use Rattle.world_laws.proofs.TagsOfEnds.{is_in_front}
+use Rattle.method_laws.proofs.TagsOfEnds.{is_in_front}
 
 -- it is the first one, or one of the others
 pub one_parts : {A : Type 0} (x y : A) (xs all : List A) → IsOneOf x all → all ≡ y ∷ xs

@@ -7,13 +7,13 @@ use Rattle.std.specs.Prelude.{◌⊎◌}
 use Rattle.eap_method.specs.declared.tags.TagRecord.{TagRecord}
 use Rattle.tag_book.specs.Book.{same_end}
 use Rattle.eap_world.specs.Conversations.{front, has_initiated, is_used}
-use Rattle.world_laws.specs.Records.{IsIn, here, later}
+use Rattle.method_laws.specs.Records.{IsIn, here, later}
 use Rattle.tag_book.specs.declared.book.End.{End}
 use Rattle.eap_world.specs.declared.conversations.ConversationStart.{ConversationStart}
 use Rattle.eap_world.specs.declared.conversations.Waiting.{Waiting}
 use Rattle.world_laws.proofs.NoncesLeft.{IsMarked, none_marked, now_started, now_used}
 use Rattle.world_laws.proofs.NoncesLeft.{still_started, still_used, used_front}
-use Rattle.world_laws.proofs.TagsOfEnds.{is_in_front}
+use Rattle.method_laws.proofs.TagsOfEnds.{is_in_front}
 
 -- ---- a record among joined lists
 

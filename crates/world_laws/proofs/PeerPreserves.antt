@@ -1,7 +1,8 @@
 -- Every input of the peer keeps what stands of it, but for the begin of a new conversation, in
 -- which it stands anew.
-use Rattle.std.proofs.Common.{◌≡◌, ℕ, List, [], ◌++◌, Bool, true, false, Option, Some, None, refl}
-use Rattle.std.proofs.Common.{sym, subst, append-nil}
+use Rattle.std.proofs.Common.{◌≡◌, ◌≢◌, ℕ, List, [], ◌++◌, Bool, true, false, Option, Some, None}
+use Rattle.std.proofs.Common.{refl}
+use Rattle.std.proofs.Common.{sym, subst, ◌∙◌, append-nil}
 use Rattle.std.proofs.lemmas.Bool.{true≢false, false≢true}
 use Rattle.login_setup.specs.declared.setup.PeerSetup.{PeerSetup}
 use Rattle.eap_packet.specs.declared.state.State.{State}
@@ -22,13 +23,15 @@ use Rattle.peer_machine.specs.Rows.{Calls}
 use Rattle.peer_machine.proofs.Receiving.{PeerReceiving, as_it_is, bad, again, expresses}
 use Rattle.peer_machine.proofs.PeerRows.{peer_answers_are_rows}
 use Rattle.eap_world.specs.Judgement.{is_success}
-use Rattle.world_laws.specs.PeerInvariant.{PeerHasBoth, PeerInvariant}
-use Rattle.world_laws.specs.Records.{AreFew}
-use Rattle.world_laws.proofs.OneMethod.{goes_on}
-use Rattle.world_laws.proofs.PeerObjects.{both_after, both_are, both_started}
-use Rattle.world_laws.proofs.PeerByMethod.{MethodTurned, started_tags, method_turned, tags_few}
-use Rattle.world_laws.proofs.PeerByMethod.{turn_of}
-use Rattle.world_laws.proofs.PeerTurns.{replies}
+use Rattle.method_laws.specs.Both.{PeerHasBoth}
+use Rattle.world_laws.specs.PeerInvariant.{PeerInvariant}
+use Rattle.method_laws.specs.Records.{AreFew}
+use Rattle.world_laws.proofs.Going.{goes_on}
+use Rattle.method_laws.proofs.OneMethod.{some_same}
+use Rattle.method_laws.proofs.PeerObjects.{are_allowed, both_after, both_are, both_started}
+use Rattle.method_laws.proofs.PeerByMethod.{tags_few}
+use Rattle.method_laws.proofs.PeerHistories.{begun_has, responds_has}
+use Rattle.world_laws.proofs.Told.{peer_tags}
 use Rattle.world_laws.proofs.Accepting.{peer_accepted_tags}
 use Rattle.eap_method.specs.BothPeers.{both_of}
 use Rattle.world_laws.specs.Runs.{initial_peer}
@@ -41,8 +44,7 @@ initiates_with : (setup : PeerSetup) (views : PeerViews) → PeerHasBoth setup.m
 initiates_with setup views both = record {
   own = refl;
   both = both_started setup views both;
-  tags = started_tags setup views both;
-  decided = λ e. absurd (true≢false e);
+  has = begun_has setup views (record { each = are_allowed both });
   sure = λ e. absurd (false≢true e);
 }
 
@@ -50,6 +52,13 @@ pub peer_initiates : (setup : PeerSetup) → PeerInvariant setup (initial_peer s
 peer_initiates setup = initiates_with setup (both_of setup.methods) (both_are setup.methods)
 
 -- ---- the calls
+
+-- a method is called only where no other is selected
+called_alone : (now : PeerNow) (selects : Bool) (kind : ℕ) → Calls now kind selects → (other : ℕ)
+    → now.vars.selected ≡ Some other → kind ≡ other
+called_alone now _ kind (rows.first unselected allowed) other is_other = absurd cc
+called_alone now _ kind (rows.again is_selected undone) other is_other =
+    some_same kind other (sym is_selected ∙ is_other)
 
 -- what stands after a call, with the tags of its step
 record Preserves (setup : PeerSetup) (accepted made : List TagRecord)
@@ -76,15 +85,14 @@ module _ (setup : PeerSetup) (now : PeerNow) (accepted made : List TagRecord)
   remains s last_id last_response sure = record {
     own = stands.own;
     both = stands.both;
-    tags = stands.tags;
-    decided = stands.decided;
+    has = stands.has;
     sure = sure;
   }
 
-  after_turn : (kind : ℕ) (packet : List ℕ) (m : MethodState) (d : Decision) (tags : Tags)
-      (views : PeerViews)
-      → MethodTurned setup accepted made kind
-      (record { turn = Reply packet m d tags; after = views })
+  after_turn : (selects : Bool) (kind : ℕ) (octets packet : List ℕ) (m : MethodState)
+      (d : Decision) (tags : Tags) (views : PeerViews) → Calls now kind selects
+      → peer_turn kind now.views octets
+      ≡ record { turn = Reply packet m d tags; after = views }
       → PeerHasBoth setup.methods views → (s : State) (last_id : Option ℕ) (last_response : List ℕ)
       → (is_success s ≡ true → ⊥)
       → PeerInvariant setup (record {
@@ -98,22 +106,14 @@ module _ (setup : PeerSetup) (now : PeerNow) (accepted made : List TagRecord)
         };
         views = views;
       }) (accepted ++ tags.accepted) (made ++ tags.made)
-  after_turn kind _ _ _ _ _ (replies _ _ _ _ _ told decided) both s last_id last_response unsure =
-      record {
+  after_turn selects kind octets packet m d tags views calls turned both s last_id last_response
+      unsure = record {
         own = stands.own;
         both = both;
-        tags = told;
-        decided = decided;
+        has = responds_has setup now.vars.selected now.views now.vars.decision accepted made kind
+            octets packet m d tags views stands.has (called_alone now selects kind calls) turned;
         sure = λ e. absurd (unsure e);
       }
-
-  turned_to : (selects : Bool) (kind : ℕ) (octets : List ℕ) (out : PeerOutcome PeerViews)
-      → Calls now kind selects → peer_turn kind now.views octets ≡ out
-      → MethodTurned setup accepted made kind out
-  turned_to selects kind octets out calls turned =
-      subst (MethodTurned setup accepted made kind) turned
-      (method_turned setup now accepted made stands.tags selects kind octets _ calls
-      (turn_of kind now.views octets stands.both))
 
   still_both : (kind : ℕ) (octets : List ℕ) (out : PeerOutcome PeerViews)
       → peer_turn kind now.views octets ≡ out → PeerHasBoth setup.methods out.after
@@ -145,13 +145,13 @@ module _ (setup : PeerSetup) (now : PeerNow) (accepted made : List TagRecord)
   row_preserves _ _ same
       (rows.method_replies bytes selects id kind body packet m d tags views heard calls turned _) =
       record {
-        stands = after_turn kind packet m d tags views (turned_to selects kind _ _ calls turned)
+        stands = after_turn selects kind _ packet m d tags views calls turned
             (still_both kind _ _ turned) _ _ _ (goes_on now.vars.state heard.going);
       }
   row_preserves _ _ same
       (rows.method_fails bytes selects id kind body packet m d tags views heard calls turned _) =
       record {
-        stands = after_turn kind packet m d tags views (turned_to selects kind _ _ calls turned)
+        stands = after_turn selects kind _ packet m d tags views calls turned
             (still_both kind _ _ turned) _ _ _ false≢true;
       }
 
@@ -176,8 +176,7 @@ module _ (setup : PeerSetup) (now : PeerNow) (accepted made : List TagRecord)
         stands = record {
           own = s.own;
           both = s.both;
-          tags = s.tags;
-          decided = s.decided;
+          has = s.has;
           sure = s.sure;
         };
       }
@@ -223,4 +222,4 @@ peer_tags_none now nonce = refl
 pub peer_few : (setup : PeerSetup) (now : PeerNow) (accepted made : List TagRecord)
     → PeerInvariant setup now accepted made → AreFew accepted made
 peer_few setup now accepted made stands =
-    tags_few setup now.vars.selected now.views accepted made stands.tags
+    tags_few setup now.vars.selected now.views accepted made (peer_tags stands)

@@ -26,10 +26,10 @@ use Rattle.peer_machine.proofs.Receiving.{PeerReceiving, as_it_is, bad, again, e
 use Rattle.peer_machine.proofs.Identifiers.{plain_second_is_id, second_is_id}
 use Rattle.peer_machine.proofs.PeerRows.{peer_answers_are_rows}
 use Rattle.world_laws.specs.SingleSteps.{identifier_of, is_again}
-use Rattle.world_laws.proofs.PeerByMethod.{turn_answers, turn_of}
-use Rattle.world_laws.proofs.PeerTurns.{IsResponse, response_is}
+use Rattle.method_laws.proofs.PeerByMethod.{turn_answers, turn_of}
+use Rattle.method_laws.proofs.PeerTurns.{IsResponse, response_is}
 use Rattle.world_laws.proofs.Accepting.{peer_accepted_tags}
-use Rattle.world_laws.specs.PeerInvariant.{PeerHasBoth}
+use Rattle.method_laws.specs.Both.{PeerHasBoth}
 
 -- ---- the Identifier of a packet
 

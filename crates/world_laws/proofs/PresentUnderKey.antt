@@ -22,7 +22,7 @@ use Rattle.world_laws.specs.EachConversation.{IsOneOf, OfPeer, OfServer, peer_no
 use Rattle.world_laws.specs.Matching.{PeerMatches, ServerRests}
 use Rattle.world_laws.specs.PresentUnderKey.{AgreeOnTheirs, EndsAgreeUnder, OneEndImpliesUnder}
 use Rattle.world_laws.specs.PresentUnderKey.{SucceedBy}
-use Rattle.world_laws.specs.Records.{IsIn, tags_by}
+use Rattle.method_laws.specs.Records.{IsIn, tags_by}
 use Rattle.world_laws.specs.TagOwners.{NotByServer, PeerTagOwner}
 use Rattle.world_laws.specs.UnderKey.{IsOfKey}
 use Rattle.world_laws.proofs.Alone.{knows, peer_tells, server_tells}
@@ -48,6 +48,7 @@ use Rattle.world_laws.proofs.SucceedingEnds.{PeerSucceeds, ServerSucceeds, one_o
 use Rattle.world_laws.proofs.SucceedingEnds.{server_succeeds}
 use Rattle.world_laws.proofs.UnderKey as under_key
 use Rattle.world_laws.specs.Runs.{run_of}
+use Rattle.world_laws.proofs.Told.{peer_success, peer_tags, server_success, server_tags}
 
 -- ---- with fresh nonces
 
@@ -107,13 +108,13 @@ module _ (setup : Setup) (kind : ℕ) (whole : IsWhole setup) (w : WorldNow)
       (tags_by end.Peer Made w.book)
   peer_has =
       let stands = first.peer_invariant in
-      peer_succeeds setup.peer w.parties.peer _ _ stands.tags
-      (stands.decided (stands.sure both.peer))
+      peer_succeeds setup.peer w.parties.peer _ _ (peer_tags stands)
+      (peer_success stands both.peer)
 
   server_has : ServerSucceeds setup.server w.parties.server (tags_by end.Server Accepted w.book)
       (tags_by end.Server Made w.book)
   server_has = let stands = first.server_invariant in
-      server_succeeds setup.server w.parties.server _ _ stands.tags (stands.sure both.server)
+      server_succeeds setup.server w.parties.server _ _ (server_tags stands) (server_success stands both.server)
 
   its_key : (t : TagRecord) → IsIn t (tags_by end.Peer Accepted w.book) → t.psk ≡ shared
   its_key t is = keyed_peer setup.peer w.parties.peer kind _ _ peer_has both.method t is
@@ -134,7 +135,7 @@ module _ (setup : Setup) (kind : ℕ) (whole : IsWhole setup) (w : WorldNow)
   once_of_key honest =
       let its = peer_tag setup.peer w.parties.peer _ _ peer_has in
       let one = server_one setup.server w.parties.server.vars.current w.parties.server.views _ _
-      first.server_invariant.tags in
+      (server_tags first.server_invariant) in
       let made =
       other_under shared w.book end.Peer honest its.tag (its_key its.tag its.is_in) its.is_in in
       server_user setup shared w.parties.server _ _ server_has (λ t is. one.of_accepted t is
@@ -180,12 +181,12 @@ module _ (setup : Setup) (kind : ℕ) (w : WorldNow) (ps : List OfPeer) (ss : Li
       → is_success w.parties.server.vars.state ≡ true → IsOfKey setup own_key w.parties.server
       → PeerKnows setup w
   knows_once whole first honest s_in of_key =
-      let won = server_succeeds setup.server w.parties.server _ _ first.server_invariant.tags
-      (first.server_invariant.sure s_in) in
+      let won = server_succeeds setup.server w.parties.server _ _ (server_tags first.server_invariant)
+      (server_success first.server_invariant s_in) in
       let keyed = keyed_server setup own_key w.parties.server setup.server _ _ refl won of_key in
       let its = server_tag setup.server w.parties.server _ _ won in
       let one = peer_one setup.peer w.parties.peer.vars.selected w.parties.peer.views _ _
-      first.peer_invariant.tags in
+      (peer_tags first.peer_invariant) in
       let made =
       other_under own_key w.book end.Server honest its.tag (keyed its.tag its.is_in) its.is_in in
       knows setup whole w first

@@ -24,16 +24,16 @@ use Rattle.server_machine.specs.ServerTable.{ServerNow, current_report, server_r
 use Rattle.eap_world.specs.Judgement.{agreement_of, peer_agrees, server_agrees, is_welcome}
 use Rattle.eap_world.specs.World.{WorldNow}
 use Rattle.world_laws.specs.Agreement.{AreTheirs}
-use Rattle.world_laws.specs.PskPeerInvariant.{PskStarted}
-use Rattle.world_laws.specs.PskPeerInvariant as psk_peer_stands
-use Rattle.world_laws.specs.PskServerInvariant.{PskChecked}
-use Rattle.world_laws.specs.PskServerInvariant as psk_server_stands
-use Rattle.world_laws.specs.Records.{IsIn}
-use Rattle.world_laws.proofs.Among.{among_two}
+use Rattle.method_laws.specs.PskPeerInvariant.{PskStarted}
+use Rattle.method_laws.specs.PskPeerInvariant as psk_peer_stands
+use Rattle.method_laws.specs.PskServerInvariant.{PskChecked}
+use Rattle.method_laws.specs.PskServerInvariant as psk_server_stands
+use Rattle.method_laws.specs.Records.{IsIn}
+use Rattle.method_laws.proofs.Among.{among_two}
 use Rattle.world_laws.proofs.EqualReports.{reports_agree}
-use Rattle.world_laws.proofs.Fields.{ends}
+use Rattle.method_laws.proofs.Fields.{ends}
 use Rattle.world_laws.proofs.Results.{own_key, own_name}
-use Rattle.world_laws.proofs.PskFields.{front_size}
+use Rattle.method_laws.proofs.PskFields.{front_size}
 use Rattle.eap_method.specs.BothPeers.{psk_in, psk_of, psk_shown}
 use Rattle.eap_method.specs.Peer.{Method, by_psk, by_gpsk, by_other, View, report, PeerShown}
 use Rattle.eap_method.specs.Peer.{peer_report, reported}

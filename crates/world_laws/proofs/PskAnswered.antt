@@ -12,18 +12,18 @@ use Rattle.eap_method.specs.PskTags.{ak_record, rand_of, tek_record}
 use Rattle.peer_machine.specs.PeerTable as peers
 use Rattle.server_machine.specs.ServerTable as servers
 use Rattle.eap_world.specs.Conversations.{front}
-use Rattle.world_laws.specs.ByMethod.{peer_foreign, PeerTags}
-use Rattle.world_laws.specs.PskPeerInvariant.{psk_rand_s, PskPeerTags, psk_unset, psk_fresh}
-use Rattle.world_laws.specs.PskPeerInvariant.{psk_waits}
-use Rattle.world_laws.specs.PskPeerInvariant as psk_peer_stands
-use Rattle.world_laws.specs.PskServerInvariant.{PskServerTags, psk_over}
-use Rattle.world_laws.specs.Records.{IsIn, here, later}
+use Rattle.method_laws.specs.ByMethod.{peer_foreign, PeerTags}
+use Rattle.method_laws.specs.PskPeerInvariant.{psk_rand_s, PskPeerTags, psk_unset, psk_fresh}
+use Rattle.method_laws.specs.PskPeerInvariant.{psk_waits}
+use Rattle.method_laws.specs.PskPeerInvariant as psk_peer_stands
+use Rattle.method_laws.specs.PskServerInvariant.{PskServerTags, psk_over}
+use Rattle.method_laws.specs.Records.{IsIn, here, later}
 use Rattle.world_laws.specs.TagOwners.{OnlyByServer}
-use Rattle.world_laws.proofs.Among.{among_one, among_two}
+use Rattle.method_laws.proofs.Among.{among_one, among_two}
 use Rattle.world_laws.proofs.Asks.{AsksServer}
-use Rattle.world_laws.proofs.PeerByMethod.{created_by_psk}
-use Rattle.world_laws.proofs.PskFields.{front_size}
-use Rattle.world_laws.proofs.PskHeaders.{header_created, same_header}
+use Rattle.method_laws.proofs.PeerByMethod.{created_by_psk}
+use Rattle.method_laws.proofs.PskFields.{front_size}
+use Rattle.method_laws.proofs.PskHeaders.{header_created, same_header}
 use Rattle.world_laws.proofs.PskPeerOwners.{labels_apart}
 use Rattle.world_laws.proofs.PskServerOwners.{mac_s_created}
 use Rattle.eap_method.specs.BothPeers.{psk_in}

@@ -20,18 +20,18 @@ use Rattle.peer_machine.specs.PeerTable.{PeerNow}
 use Rattle.server_machine.specs.ServerTable.{ServerNow}
 use Rattle.world_laws.specs.Alone.{SameKeys}
 use Rattle.world_laws.specs.Matching.{RestsOn}
-use Rattle.world_laws.specs.PskPeerInvariant.{psk_peer_login, PskPeerTags, PskStarted}
-use Rattle.world_laws.specs.PskPeerInvariant as psk_peer_stands
-use Rattle.world_laws.specs.PskServerInvariant.{psk_server_login, PskServerTags, PskChecked}
-use Rattle.world_laws.specs.PskServerInvariant as psk_server_stands
-use Rattle.world_laws.specs.Records.{IsIn, here}
-use Rattle.world_laws.proofs.Among.{among_one, among_two, first_is, no_tag}
-use Rattle.world_laws.proofs.Fields.{ends}
+use Rattle.method_laws.specs.PskPeerInvariant.{psk_peer_login, PskPeerTags, PskStarted}
+use Rattle.method_laws.specs.PskPeerInvariant as psk_peer_stands
+use Rattle.method_laws.specs.PskServerInvariant.{psk_server_login, PskServerTags, PskChecked}
+use Rattle.method_laws.specs.PskServerInvariant as psk_server_stands
+use Rattle.method_laws.specs.Records.{IsIn, here}
+use Rattle.method_laws.proofs.Among.{among_one, among_two, first_is, no_tag}
+use Rattle.method_laws.proofs.Fields.{ends}
 use Rattle.world_laws.proofs.Results.{ResultsIn, LoginOf, PeersLogin, ServersLogin, own_key}
 use Rattle.world_laws.proofs.Results.{own_name}
 use Rattle.world_laws.proofs.PskAgrees as agrees
-use Rattle.world_laws.proofs.PskFields.{front_size}
-use Rattle.world_laws.proofs.PskHeaders.{same_sealed}
+use Rattle.method_laws.proofs.PskFields.{front_size}
+use Rattle.method_laws.proofs.PskHeaders.{same_sealed}
 use Rattle.world_laws.proofs.PskPeerOwners.{labels_apart}
 use Rattle.world_laws.proofs.SucceedingEnds.{FirstIn, first_in}
 use Rattle.eap_method.specs.BothPeers.{psk_in}

@@ -12,31 +12,31 @@ use Rattle.peer_machine.specs.PeerTable.{peer_reports}
 use Rattle.server_machine.specs.ServerTable as servers
 use Rattle.tag_book.specs.Book.{first_broken, tags_verdict, tags_verdict_either}
 use Rattle.eap_world.specs.Conversations.{front}
-use Rattle.world_laws.specs.ByMethod.{ServerHasSucceeded, gpsk_server_succeeded, peer_login}
-use Rattle.world_laws.specs.ByMethod.{psk_server_succeeded}
+use Rattle.method_laws.specs.ByMethod.{ServerHasSucceeded, gpsk_server_succeeded, peer_login}
+use Rattle.method_laws.specs.ByMethod.{psk_server_succeeded}
 use Rattle.world_laws.specs.EachConversation.{IsOneOf, OfPeer, OfServer, all_produced}
 use Rattle.world_laws.specs.EachConversation.{peer_knows_nonce, peer_nonce, server_knows_nonce}
 use Rattle.world_laws.specs.EachConversation.{server_nonce}
 use Rattle.world_laws.specs.Matching.{PeerMatches, RestsOn}
-use Rattle.world_laws.specs.PskPeerInvariant.{psk_peer_login}
-use Rattle.world_laws.specs.PskServerInvariant.{PskChecked, PskServerTags, psk_over, psk2_record}
-use Rattle.world_laws.specs.PskServerInvariant.{psk4_taken as psk4_record_of}
-use Rattle.world_laws.specs.Records.{IsIn, here, later, tags_by}
+use Rattle.method_laws.specs.PskPeerInvariant.{psk_peer_login}
+use Rattle.method_laws.specs.PskServerInvariant.{PskChecked, PskServerTags, psk_over, psk2_record}
+use Rattle.method_laws.specs.PskServerInvariant.{psk4_taken as psk4_record_of}
+use Rattle.method_laws.specs.Records.{IsIn, here, later, tags_by}
 use Rattle.world_laws.proofs.HonestOfEither.{honest_of_either, none_if_honest}
-use Rattle.world_laws.proofs.HonestOther.{honest_other}
+use Rattle.method_laws.proofs.HonestOther.{honest_other}
 use Rattle.world_laws.proofs.Matching.{AllKnown, ServerKnown}
 use Rattle.world_laws.proofs.Matching as matching
 use Rattle.world_laws.proofs.OneLogin.{one_stored}
-use Rattle.world_laws.proofs.OneMethod.{apart}
+use Rattle.method_laws.proofs.OneMethod.{apart}
 use Rattle.world_laws.proofs.OneOf.{accepted_in, made_in}
-use Rattle.world_laws.proofs.PeerByMethod.{created_by_psk as peer_made_by_psk}
+use Rattle.method_laws.proofs.PeerByMethod.{created_by_psk as peer_made_by_psk}
 use Rattle.world_laws.proofs.PskAgrees.{peer_reported}
 use Rattle.world_laws.proofs.PskLogins as logins
 use Rattle.world_laws.proofs.PskAnswered.{HasAsked, HasPsk4, has_asked, psk4_taken}
 use Rattle.world_laws.proofs.PskReflected.{AsksAnother, asks_another}
-use Rattle.world_laws.proofs.ServerByMethod.{reported_by_psk}
+use Rattle.method_laws.proofs.ServerByMethod.{reported_by_psk}
 use Rattle.world_laws.proofs.SucceedingEnds.{first_in}
-use Rattle.world_laws.proofs.TagsOfEnds.{honest_tags}
+use Rattle.method_laws.proofs.TagsOfEnds.{honest_tags}
 use Rattle.eap_world.specs.Judgement.{is_success}
 use Rattle.eap_world.specs.World.{WorldNow}
 use Rattle.tag_book.specs.declared.book.End.TheVariants as end
@@ -44,6 +44,7 @@ use Rattle.tag_book.specs.declared.book.RecordOwner.TheVariants.{Either, Other}
 use Rattle.tag_book.specs.declared.book.TagsVerdict.TheVariants.{Honest}
 use Rattle.tag_book.specs.declared.book.Use.TheVariants.{Accepted, Made}
 use Rattle.eap_method.specs.BothPeers.{psk_in}
+use Rattle.world_laws.proofs.Told.{peer_tags, server_success, server_tags}
 
 module _ (setup : Setup) (last : WorldNow) (ps : List OfPeer) (ss : List OfServer)
     (all : AllKnown setup last ps ss) where
@@ -51,7 +52,7 @@ module _ (setup : Setup) (last : WorldNow) (ps : List OfPeer) (ss : List OfServe
   pub psk4_in : (s : OfServer) → ServerKnown setup.server s → is_success s.now.vars.state ≡ true
       → s.now.vars.current ≡ Some psk_kind
       → HasPsk4 (server_nonce s) s.accepted
-  psk4_in s known s_in by_psk = of_success (known.stands.sure s_in)
+  psk4_in s known s_in by_psk = of_success (server_success known.stands s_in)
     where
       of_success : ServerHasSucceeded s.now.vars.current s.now.views
           → HasPsk4 (server_nonce s) s.accepted
@@ -59,7 +60,7 @@ module _ (setup : Setup) (last : WorldNow) (ps : List OfPeer) (ss : List OfServe
           psk4_taken setup.server (server_nonce s) login true s.accepted s.made
           (reported_by_psk (servers.setup_with_nonce setup.server (server_nonce s))
           s.now.vars.current s.now.views _ s.accepted s.made is_current in_view
-          known.stands.tags)
+          (server_tags known.stands))
       of_success (gpsk_server_succeeded login is_current in_view) =
           apart s.now.vars.current gpsk_kind psk_kind refl is_current by_psk
 
@@ -108,7 +109,7 @@ module _ (setup : Setup) (last : WorldNow) (ps : List OfPeer) (ss : List OfServe
       let known = all.peers m.by m.is_one in
       let h = has_asked is.psk is.header is.sealed is.tag (front (server_nonce s))
       is.rand_in setup.peer (peer_nonce m.by) known.size
-      m.by.now.vars.selected m.by.now.views m.by.accepted m.by.made known.stands.tags m.is_in in
+      m.by.now.vars.selected m.by.now.views m.by.accepted m.by.made (peer_tags known.stands) m.is_in in
       let a = answered_by honest fresh s s_is is m.by m.is_one h in
       let s_known = all.servers s s_is in
       let asking = matching.server_in setup s s_known s_in in
@@ -161,14 +162,14 @@ module _ (setup : Setup) (last : WorldNow) (ps : List OfPeer) (ss : List OfServe
 
   pub confirmed : (s : OfServer) → ServerKnown setup.server s → is_success s.now.vars.state ≡ true
       → s.now.vars.current ≡ Some psk_kind → HasConfirmed s
-  confirmed s known s_in by_psk = of_success (known.stands.sure s_in)
+  confirmed s known s_in by_psk = of_success (server_success known.stands s_in)
     where
       of_success : ServerHasSucceeded s.now.vars.current s.now.views → HasConfirmed s
       of_success (psk_server_succeeded login is_current in_view) =
           confirmed_by s login s.accepted s.made refl
           (reported_by_psk (servers.setup_with_nonce setup.server (server_nonce s))
           s.now.vars.current s.now.views _ s.accepted s.made is_current in_view
-          known.stands.tags)
+          (server_tags known.stands))
       of_success (gpsk_server_succeeded login is_current in_view) =
           apart s.now.vars.current gpsk_kind psk_kind refl is_current by_psk
 
@@ -180,7 +181,7 @@ module _ (setup : Setup) (last : WorldNow) (ps : List OfPeer) (ss : List OfServe
   confirm_from s s_is c p p_is rests made =
       let known = all.peers p p_is in
       let by = peer_made_by_psk (peers.setup_with_nonce setup.peer (peer_nonce p))
-      p.now.vars.selected p.now.views p.accepted p.made _ known.stands.tags made refl in
+      p.now.vars.selected p.now.views p.accepted p.made _ (peer_tags known.stands) made refl in
       let won = logins.confirms (peers.setup_with_nonce setup.peer (peer_nonce p))
       (servers.setup_with_nonce setup.server (server_nonce s)) known.size (all.servers s s_is).size
       c.login c.checked c.header c.sealed c.r_came (psk_in p.now.views) p.accepted p.made by.1

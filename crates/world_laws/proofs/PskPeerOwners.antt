@@ -9,15 +9,15 @@ use Rattle.eap_method.specs.PskPeer as psk
 use Rattle.eap_method.specs.PskTags.{ak_record, rand_of, mac_p_octets}
 use Rattle.peer_machine.specs.PeerTable as peers
 use Rattle.eap_world.specs.Conversations.{front}
-use Rattle.world_laws.specs.ByMethod.{PeerTags, peer_foreign}
-use Rattle.world_laws.specs.PskPeerInvariant.{PskStarted, PskPeerTags, psk_unset, psk_fresh}
-use Rattle.world_laws.specs.PskPeerInvariant.{psk_waits, psk_over, psk2_record, psk_rand_s}
-use Rattle.world_laws.specs.Records.{IsIn}
+use Rattle.method_laws.specs.ByMethod.{PeerTags, peer_foreign}
+use Rattle.method_laws.specs.PskPeerInvariant.{PskStarted, PskPeerTags, psk_unset, psk_fresh}
+use Rattle.method_laws.specs.PskPeerInvariant.{psk_waits, psk_over, psk2_record, psk_rand_s}
+use Rattle.method_laws.specs.Records.{IsIn}
 use Rattle.world_laws.specs.TagOwners.{OnlyByPeer}
-use Rattle.world_laws.proofs.Among.{among_one, among_two}
-use Rattle.world_laws.proofs.Fields.{ends}
-use Rattle.world_laws.proofs.PeerByMethod.{created_by_psk}
-use Rattle.world_laws.proofs.PskFields.{front_size}
+use Rattle.method_laws.proofs.Among.{among_one, among_two}
+use Rattle.method_laws.proofs.Fields.{ends}
+use Rattle.method_laws.proofs.PeerByMethod.{created_by_psk}
+use Rattle.method_laws.proofs.PskFields.{front_size}
 use Rattle.eap_method.specs.BothPeers.{psk_in}
 
 pub labels_apart : {A : Type 0} → Ak ≡ Tek → A

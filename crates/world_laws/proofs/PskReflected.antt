@@ -15,29 +15,29 @@ use Rattle.tag_book.specs.Book.{first_broken, tags_verdict_either}
 use Rattle.eap_world.specs.Conversations.{front}
 use Rattle.eap_world.specs.Judgement.{is_success}
 use Rattle.world_laws.specs.Agreement.{AgreeAnew}
-use Rattle.world_laws.specs.ByMethod.{PeerTags}
-use Rattle.world_laws.specs.PskPeerInvariant.{PskPeerTags, psk_unset, psk_fresh, psk_waits}
-use Rattle.world_laws.specs.PskPeerInvariant.{psk_over, PskStarted, psk2_record}
+use Rattle.method_laws.specs.ByMethod.{PeerTags}
+use Rattle.method_laws.specs.PskPeerInvariant.{PskPeerTags, psk_unset, psk_fresh, psk_waits}
+use Rattle.method_laws.specs.PskPeerInvariant.{psk_over, PskStarted, psk2_record}
 use Rattle.world_laws.specs.PskReflected.{ReflectedEndsAgree}
-use Rattle.world_laws.specs.Records.{IsIn, tags_by}
+use Rattle.method_laws.specs.Records.{IsIn, tags_by}
 use Rattle.world_laws.specs.TagOwners.{OnlyByServer, PeerTagOwner}
-use Rattle.world_laws.proofs.Among.{among_one, among_two}
+use Rattle.method_laws.proofs.Among.{among_one, among_two}
 use Rattle.world_laws.proofs.Asks.{AsksServer}
 use Rattle.world_laws.proofs.Conversing.{BothConverse, run_converses}
-use Rattle.world_laws.proofs.Fields.{ends}
+use Rattle.method_laws.proofs.Fields.{ends}
 use Rattle.world_laws.proofs.FreshAgree.{agree_anew, peer_won}
 use Rattle.world_laws.proofs.HonestOfEither.{none_if_honest}
 use Rattle.world_laws.proofs.OneLogin.{first_is_in}
-use Rattle.world_laws.proofs.OneMethod.{apart}
+use Rattle.method_laws.proofs.OneMethod.{apart}
 use Rattle.world_laws.proofs.PastConversations.{accepted_now, where_created}
-use Rattle.world_laws.proofs.PeerByMethod.{created_by_psk}
+use Rattle.method_laws.proofs.PeerByMethod.{created_by_psk}
 use Rattle.world_laws.proofs.PskAgrees as psk_agrees
-use Rattle.world_laws.proofs.PskFields.{front_size}
+use Rattle.method_laws.proofs.PskFields.{front_size}
 use Rattle.world_laws.proofs.PskPeerOwners.{labels_apart}
 use Rattle.world_laws.proofs.PskServerOwners.{mac_s_created}
 use Rattle.world_laws.proofs.Reflected.{of_peer}
 use Rattle.world_laws.proofs.SucceedingEnds.{PeerSucceeds, one_of, with_psk, with_gpsk}
-use Rattle.world_laws.proofs.TagsOfEnds.{honest_tags}
+use Rattle.method_laws.proofs.TagsOfEnds.{honest_tags}
 use Rattle.eap_world.specs.World.{WorldNow}
 use Rattle.tag_book.specs.declared.book.End.TheVariants as end
 use Rattle.tag_book.specs.declared.book.RecordOwner.TheVariants.{Either}

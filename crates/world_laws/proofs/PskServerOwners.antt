@@ -13,18 +13,18 @@ use Rattle.eap_method.specs.Server.{ServerViews, side_of}
 use Rattle.peer_machine.specs.PeerTable as peers
 use Rattle.server_machine.specs.ServerTable as servers
 use Rattle.eap_world.specs.Conversations.{front}
-use Rattle.world_laws.specs.ByMethod.{ServerTags, server_foreign}
-use Rattle.world_laws.specs.PskPeerInvariant.{PskStarted, psk3_records_of}
-use Rattle.world_laws.specs.PskServerInvariant.{PskChecked, PskServerTags, psk_asked, psk_checked}
-use Rattle.world_laws.specs.PskServerInvariant.{psk_refused, psk_over, psk_rand_p, psk_rand_p_in}
-use Rattle.world_laws.specs.Records.{IsIn}
+use Rattle.method_laws.specs.ByMethod.{ServerTags, server_foreign}
+use Rattle.method_laws.specs.PskPeerInvariant.{PskStarted, psk3_records_of}
+use Rattle.method_laws.specs.PskServerInvariant.{PskChecked, PskServerTags, psk_asked, psk_checked}
+use Rattle.method_laws.specs.PskServerInvariant.{psk_refused, psk_over, psk_rand_p, psk_rand_p_in}
+use Rattle.method_laws.specs.Records.{IsIn}
 use Rattle.world_laws.specs.TagOwners.{OnlyByPeer, OnlyByServer, NotByServer}
-use Rattle.world_laws.proofs.Among.{among_two}
+use Rattle.method_laws.proofs.Among.{among_two}
 use Rattle.world_laws.proofs.Asks.{AsksPeer, AsksServer, some_is}
-use Rattle.world_laws.proofs.Fields.{ends}
-use Rattle.world_laws.proofs.PskFields.{front_size}
+use Rattle.method_laws.proofs.Fields.{ends}
+use Rattle.method_laws.proofs.PskFields.{front_size}
 use Rattle.world_laws.proofs.PskPeerOwners.{labels_apart, mac_p_created}
-use Rattle.world_laws.proofs.ServerByMethod.{created_by_psk}
+use Rattle.method_laws.proofs.ServerByMethod.{created_by_psk}
 
 mac_s_implies : (id_s rand_p name rand_p' : List ℕ) → length rand_p ≡ 16 → length rand_p' ≡ 16
     → mac_s_octets id_s rand_p ≡ mac_s_octets name rand_p'

@@ -4,7 +4,7 @@ use Rattle.std.proofs.Common.{◌≡◌, [], inl, inr}
 use Rattle.login_setup.specs.declared.setup.Setup.{Setup}
 use Rattle.eap_method.specs.declared.tags.TagRecord.{TagRecord}
 use Rattle.tag_book.specs.Book.{first_broken, tags_verdict_either}
-use Rattle.world_laws.specs.Records.{IsIn, tags_by}
+use Rattle.method_laws.specs.Records.{IsIn, tags_by}
 use Rattle.world_laws.specs.TagOwners.{NotByServer, ServerTagOwner}
 use Rattle.eap_world.specs.World.{WorldNow}
 use Rattle.tag_book.specs.declared.book.End.TheVariants as end
@@ -15,7 +15,7 @@ use Rattle.world_laws.proofs.Conversing.{BothConverse}
 use Rattle.world_laws.proofs.HonestOfEither.{none_if_honest}
 use Rattle.world_laws.proofs.PastConversations.{where_created}
 use Rattle.world_laws.proofs.SucceedingEnds.{one_of}
-use Rattle.world_laws.proofs.TagsOfEnds.{honest_tags}
+use Rattle.method_laws.proofs.TagsOfEnds.{honest_tags}
 
 module _ (setup : Setup) (w : WorldNow) (h : BothConverse setup w) where
   pub not_servers : (t : TagRecord) → NotByServer setup.server t

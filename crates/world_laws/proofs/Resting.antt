@@ -15,26 +15,26 @@ use Rattle.peer_machine.specs.PeerTable as peers
 use Rattle.peer_machine.specs.PeerTable.{PeerNow}
 use Rattle.server_machine.specs.ServerTable as servers
 use Rattle.server_machine.specs.ServerTable.{ServerNow, server_reports}
-use Rattle.world_laws.specs.ByMethod.{peer_login, server_login, PeerTags, ServerTags}
-use Rattle.world_laws.specs.ByMethod as by_method
-use Rattle.world_laws.specs.GpskLogins.{HaveWhole}
-use Rattle.world_laws.specs.GpskPeerInvariant.{gpsk_whole_rand_s}
-use Rattle.world_laws.specs.GpskServerInvariant.{gpsk_whole_rand_p_in, gpsk_server_login}
-use Rattle.world_laws.specs.GpskServerInvariant.{GpskChecked, gpsk2_of_login}
+use Rattle.method_laws.specs.ByMethod.{peer_login, server_login, PeerTags, ServerTags}
+use Rattle.method_laws.specs.ByMethod as by_method
+use Rattle.method_laws.specs.GpskLogins.{HaveWhole}
+use Rattle.method_laws.specs.GpskPeerInvariant.{gpsk_whole_rand_s}
+use Rattle.method_laws.specs.GpskServerInvariant.{gpsk_whole_rand_p_in, gpsk_server_login}
+use Rattle.method_laws.specs.GpskServerInvariant.{GpskChecked, gpsk2_of_login}
 use Rattle.world_laws.specs.Matching.{RestsOn}
-use Rattle.world_laws.specs.PskServerInvariant.{psk_server_login, PskChecked}
-use Rattle.world_laws.specs.PskServerInvariant as psk_server_stands
-use Rattle.world_laws.specs.Records.{IsIn, here, later}
-use Rattle.world_laws.proofs.Among.{first_is, no_tag}
+use Rattle.method_laws.specs.PskServerInvariant.{psk_server_login, PskChecked}
+use Rattle.method_laws.specs.PskServerInvariant as psk_server_stands
+use Rattle.method_laws.specs.Records.{IsIn, here, later}
+use Rattle.method_laws.proofs.Among.{first_is, no_tag}
 use Rattle.world_laws.proofs.GpskAgrees as gpsk_agrees
 use Rattle.world_laws.proofs.GpskLogins as gpsk
 use Rattle.world_laws.proofs.GpskWhole as whole
 use Rattle.world_laws.proofs.Results.{ResultsIn, PeersLogin, ServersLogin, reaches_too, login_too}
-use Rattle.world_laws.proofs.OneMethod.{apart as one_method}
-use Rattle.world_laws.proofs.PeerByMethod as peer_by_method
+use Rattle.method_laws.proofs.OneMethod.{apart as one_method}
+use Rattle.method_laws.proofs.PeerByMethod as peer_by_method
 use Rattle.world_laws.proofs.PskAgrees as psk_agrees
 use Rattle.world_laws.proofs.PskLogins as psk
-use Rattle.world_laws.proofs.ServerByMethod as server_by_method
+use Rattle.method_laws.proofs.ServerByMethod as server_by_method
 use Rattle.world_laws.proofs.SucceedingEnds.{FirstIn, PeerSucceeds, ServerSucceeds, with_psk}
 use Rattle.world_laws.proofs.SucceedingEnds.{with_gpsk, of_psk, of_gpsk, first_in}
 use Rattle.eap_method.specs.BothPeers.{psk_in}

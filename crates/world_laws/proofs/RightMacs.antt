@@ -27,25 +27,25 @@ use Rattle.method_laws.proofs.PskChannel.{sealed_accepted}
 use Rattle.peer_machine.specs.PeerTable as peers
 use Rattle.server_machine.specs.ServerTable as servers
 use Rattle.eap_world.specs.Conversations.{front}
-use Rattle.world_laws.specs.ByMethod.{PeerTags, ServerTags, gpsk_current, gpsk_selected}
-use Rattle.world_laws.specs.ByMethod.{identity_current, none_current, none_selected, peer_login}
-use Rattle.world_laws.specs.ByMethod.{psk_current, psk_selected, server_login}
+use Rattle.method_laws.specs.ByMethod.{PeerTags, ServerTags, gpsk_current, gpsk_selected}
+use Rattle.method_laws.specs.ByMethod.{identity_current, none_current, none_selected, peer_login}
+use Rattle.method_laws.specs.ByMethod.{psk_current, psk_selected, server_login}
 use Rattle.world_laws.specs.Forgery as forgery
 use Rattle.world_laws.specs.Forgery.{IsPeersMac, IsRightMac, IsServersMac, gpsk_inputs, psk_inputs}
 use Rattle.world_laws.specs.Forgery.{under_ak, under_sk, under_tek}
-use Rattle.world_laws.specs.GpskPeerInvariant.{GpskPeerTags, GpskStarted, gpsk_peer_login}
-use Rattle.world_laws.specs.GpskPeerInvariant.{gpsk_whole_rand_s}
-use Rattle.world_laws.specs.GpskPeerInvariant as gpsk_of_peer
-use Rattle.world_laws.specs.GpskServerInvariant.{GpskChecked, GpskServerTags, gpsk_server_login}
-use Rattle.world_laws.specs.GpskServerInvariant.{gpsk_whole_rand_p_in}
-use Rattle.world_laws.specs.GpskServerInvariant as gpsk_of_server
-use Rattle.world_laws.specs.PskPeerInvariant.{PskPeerTags, PskStarted, psk_peer_login}
-use Rattle.world_laws.specs.PskPeerInvariant as psk_of_peer
-use Rattle.world_laws.specs.PskServerInvariant.{PskChecked, PskServerTags, psk_rand_p_in}
-use Rattle.world_laws.specs.PskServerInvariant.{psk_server_login}
-use Rattle.world_laws.specs.PskServerInvariant as psk_of_server
-use Rattle.world_laws.specs.Records.{IsIn}
-use Rattle.world_laws.proofs.Among.{among_one, among_two}
+use Rattle.method_laws.specs.GpskPeerInvariant.{GpskPeerTags, GpskStarted, gpsk_peer_login}
+use Rattle.method_laws.specs.GpskPeerInvariant.{gpsk_whole_rand_s}
+use Rattle.method_laws.specs.GpskPeerInvariant as gpsk_of_peer
+use Rattle.method_laws.specs.GpskServerInvariant.{GpskChecked, GpskServerTags, gpsk_server_login}
+use Rattle.method_laws.specs.GpskServerInvariant.{gpsk_whole_rand_p_in}
+use Rattle.method_laws.specs.GpskServerInvariant as gpsk_of_server
+use Rattle.method_laws.specs.PskPeerInvariant.{PskPeerTags, PskStarted, psk_peer_login}
+use Rattle.method_laws.specs.PskPeerInvariant as psk_of_peer
+use Rattle.method_laws.specs.PskServerInvariant.{PskChecked, PskServerTags, psk_rand_p_in}
+use Rattle.method_laws.specs.PskServerInvariant.{psk_server_login}
+use Rattle.method_laws.specs.PskServerInvariant as psk_of_server
+use Rattle.method_laws.specs.Records.{IsIn}
+use Rattle.method_laws.proofs.Among.{among_one, among_two}
 use Rattle.world_laws.proofs.Results.{own_key, own_name}
 use Rattle.eap_method.specs.BothPeers.{gpsk_in}
 use Rattle.eap_method.specs.BothPeers.{psk_in}

@@ -25,17 +25,19 @@ use Rattle.server_machine.specs.Rows.{first_other}
 use Rattle.server_machine.proofs.Receiving.{ServerReceiving, as_it_is, bad, wrapping}
 use Rattle.server_machine.proofs.Receiving.{server_receives_so}
 use Rattle.server_machine.proofs.ServerRows.{server_answers_are_rows}
-use Rattle.world_laws.specs.Records.{AreNone, untagged}
+use Rattle.method_laws.specs.Records.{AreNone, untagged}
 use Rattle.world_laws.specs.ServerInvariant.{ServerInvariant}
 use Rattle.eap_world.specs.World.{server_octets}
-use Rattle.world_laws.specs.ByMethod.{server_foreign_of, server_foreign}
-use Rattle.world_laws.proofs.Occurrence.{Occurrence}
+use Rattle.method_laws.specs.ByMethod.{server_foreign_of, server_foreign}
+use Rattle.method_laws.proofs.Occurrence.{Occurrence}
 use Rattle.world_laws.proofs.TypeData.{data_read, data_occurs, nak_data, own_data, plain_response}
 use Rattle.world_laws.proofs.TypeData.{response_body, response_data}
-use Rattle.world_laws.proofs.Receiving.{Receives, as_before, receives_now, delivered_in_call}
-use Rattle.world_laws.proofs.PeerByMethod.{method_satisfies}
-use Rattle.world_laws.proofs.ServerByMethod.{proposes_own, turn_received, turn_of, untagged_none}
-use Rattle.world_laws.proofs.ServerTurns.{Offers, asks, lacks}
+use Rattle.method_laws.proofs.Receiving.{Receives, as_before, receives_now, delivered_in_call}
+use Rattle.method_laws.proofs.PeerByMethod.{method_satisfies}
+use Rattle.world_laws.proofs.Proposing.{proposes_own}
+use Rattle.method_laws.proofs.ServerByMethod.{turn_received, turn_of, untagged_none}
+use Rattle.method_laws.proofs.ServerTurns.{Offers, asks, lacks}
+use Rattle.world_laws.proofs.Told.{server_tags}
 
 current_of : (current : Option ℕ) (views : ServerViews) (kind : ℕ) → current ≡ Some kind
     → server_foreign current views ≡ server_foreign_of views kind
@@ -109,7 +111,7 @@ module _ (setup : ServerSetup) (now : ServerNow) (accepted made : List TagRecord
       }
   unheard id kind body _ _ _ (after_nak is_id is_nak waits unawaited) =
       record {
-        none = untagged_none setup now.vars.current now.views accepted made stands.tags
+        none = untagged_none setup now.vars.current now.views accepted made (server_tags stands)
             (none_accepted accepted made (stands.proposed waits));
         own = stands.own;
         current = refl;

@@ -35,16 +35,18 @@ use Rattle.server_machine.specs.declared.variables.Progress.{Progress}
 use Rattle.server_machine.specs.declared.variables.Progress.TheVariants as progress
 use Rattle.server_machine.specs.Variables.{ServerVariables}
 use Rattle.eap_world.specs.Judgement.{is_success}
-use Rattle.world_laws.specs.ByMethod.{ServerHasSucceeded, ServerTags, identity_current}
-use Rattle.world_laws.specs.ByMethod.{none_current}
-use Rattle.world_laws.specs.Records.{AreFew, AreNone, untagged}
+use Rattle.method_laws.specs.ByMethod.{ServerHasSucceeded, ServerTags, identity_current}
+use Rattle.method_laws.specs.ByMethod.{none_current}
+use Rattle.method_laws.specs.Records.{AreFew, AreNone, untagged}
 use Rattle.world_laws.specs.Runs.{initial_server}
-use Rattle.world_laws.specs.ServerInvariant.{IsUntouched, ServerHasBoth, ServerInvariant}
-use Rattle.world_laws.proofs.OneMethod.{goes_on}
-use Rattle.world_laws.proofs.ServerObjects.{both_after, both_are, both_started}
-use Rattle.world_laws.proofs.ServerByMethod.{MethodTurned, in_identity, in_none, method_turned}
-use Rattle.world_laws.proofs.ServerByMethod.{proposes_own, tags_few, turn_of}
-use Rattle.world_laws.proofs.ServerTurns.{Offers, asks, ends, lacks, requests}
+use Rattle.world_laws.specs.ServerInvariant.{IsUntouched, ServerInvariant}
+use Rattle.method_laws.specs.Both.{ServerHasBoth}
+use Rattle.world_laws.proofs.Going.{goes_on}
+use Rattle.method_laws.proofs.ServerObjects.{both_after, both_are, both_started}
+use Rattle.method_laws.proofs.ServerByMethod.{MethodTurned, in_identity, in_none, method_turned}
+use Rattle.world_laws.proofs.Proposing.{proposes_own}
+use Rattle.method_laws.proofs.ServerByMethod.{tags_few, turn_of}
+use Rattle.method_laws.proofs.ServerTurns.{Offers, asks, ends, lacks, requests}
 use Rattle.world_laws.proofs.Accepting.{server_accepted_tags}
 
 -- ---- the begin

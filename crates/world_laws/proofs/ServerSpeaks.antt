@@ -8,7 +8,7 @@ use Rattle.eap_packet.specs.Fault.{code_of}
 use Rattle.eap_packet.specs.Packet.{response, success, failure, spelled}
 use Rattle.eap_packet.specs.declared.state.State.{State}
 use Rattle.eap_packet.specs.declared.state.State.TheVariants as state
-use Rattle.world_laws.specs.ServerInvariant.{ServerHasBoth}
+use Rattle.method_laws.specs.Both.{ServerHasBoth}
 use Rattle.eap_method.specs.Server.{Offer, ServerViews, side_of}
 use Rattle.eap_method.specs.Steps.{is_end}
 use Rattle.eap_method.specs.Turns.{ServerOutcome}
@@ -25,8 +25,8 @@ use Rattle.server_machine.specs.Variables.{ServerVariables}
 use Rattle.server_machine.proofs.Receiving.{ServerReceiving, as_it_is, bad, wrapping}
 use Rattle.server_machine.proofs.ServerRows.{server_answers_are_rows}
 use Rattle.world_laws.specs.SingleSteps.{is_again}
-use Rattle.world_laws.proofs.ServerByMethod.{offer_asks, offer_of, turn_asks, turn_of}
-use Rattle.world_laws.proofs.ServerTurns.{IsRequest, request_is}
+use Rattle.method_laws.proofs.ServerByMethod.{offer_asks, offer_of, turn_asks, turn_of}
+use Rattle.method_laws.proofs.ServerTurns.{IsRequest, request_is}
 use Rattle.world_laws.proofs.Accepting.{server_accepted_tags}
 
 -- ---- a Success or a Failure

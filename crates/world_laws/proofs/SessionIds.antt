@@ -19,13 +19,13 @@ use Rattle.server_machine.specs.ServerTable as servers
 use Rattle.eap_world.specs.Conversations.{front}
 use Rattle.eap_world.specs.Judgement.{is_success}
 use Rattle.eap_world.specs.World.{WorldNow}
-use Rattle.world_laws.specs.ByMethod as by_method
-use Rattle.world_laws.specs.ByMethod.{PeerTags}
+use Rattle.method_laws.specs.ByMethod as by_method
+use Rattle.method_laws.specs.ByMethod.{PeerTags}
 use Rattle.world_laws.specs.EachConversation.{AreTwoOf, IsOneOf, OfPeer, OfServer, peer_nonce}
 use Rattle.world_laws.specs.EachConversation.{server_nonce}
-use Rattle.world_laws.specs.GpskPeerInvariant as gpsk_stands
+use Rattle.method_laws.specs.GpskPeerInvariant as gpsk_stands
 use Rattle.world_laws.specs.Matching.{RestsOn}
-use Rattle.world_laws.specs.PskPeerInvariant as psk_stands
+use Rattle.method_laws.specs.PskPeerInvariant as psk_stands
 use Rattle.login_keys.specs.SessionId.{method_id_input}
 use Rattle.world_laws.specs.SessionIds.{AreOfTwo, HaveOneSession, SessionIdsMatch, SessionOf}
 use Rattle.world_laws.specs.SessionIds.{gpsk_peer_session, gpsk_server_session, input_of}
@@ -33,17 +33,18 @@ use Rattle.world_laws.specs.SessionIds.{peer_session, peer_session_of, psk_peer_
 use Rattle.world_laws.specs.SessionIds.{psk_server_session, psk_session_id, server_session}
 use Rattle.world_laws.specs.SessionIds.{server_session_of, session_id}
 use Rattle.world_laws.proofs.Conversations.{run_known}
-use Rattle.world_laws.proofs.Fields.{fronts}
+use Rattle.method_laws.proofs.Fields.{fronts}
 use Rattle.world_laws.proofs.GpskAgrees as gpsk
 use Rattle.world_laws.proofs.Matching.{AllKnown}
 use Rattle.world_laws.proofs.Matching as matching
 use Rattle.world_laws.proofs.OneOf.{first_of, second_of}
 use Rattle.world_laws.proofs.PskAgrees as psk
-use Rattle.world_laws.proofs.PskFields.{front_size}
+use Rattle.method_laws.proofs.PskFields.{front_size}
 use Rattle.world_laws.proofs.SucceedingEnds.{BothSucceed, both_succeed, by_gpsk, by_psk, first_in}
 use Rattle.world_laws.specs.Runs.{run_of}
 use Rattle.eap_method.specs.BothPeers.{psk_in}
 use Rattle.eap_method.specs.BothPeers.{gpsk_in}
+use Rattle.world_laws.proofs.Told.{peer_tags}
 
 -- ---- both ends of one login
 
@@ -210,9 +211,9 @@ module _ (setup : Setup) (last : WorldNow) (ps : List OfPeer) (ss : List OfServe
       let known = all.peers p (first_of p q ps two) in
       let other = all.peers q (second_of p q ps two) in
       let from = from_nonce (peers.setup_with_nonce setup.peer (peer_nonce p))
-      p.now p.accepted p.made known.stands.tags x x_is in
+      p.now p.accepted p.made (peer_tags known.stands) x x_is in
       let other_from = from_nonce (peers.setup_with_nonce setup.peer (peer_nonce q))
-      q.now q.accepted q.made other.stands.tags y y_is in
+      q.now q.accepted q.made (peer_tags other.stands) y y_is in
       record {
         by_psk = λ one its e. all.peers_two fresh p q two (psk_same (peer_nonce p)
             (peer_nonce q) known.size other.size x y from other_from one its e);

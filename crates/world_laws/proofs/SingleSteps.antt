@@ -50,7 +50,7 @@ use Rattle.world_laws.specs.EndInvariants.{BothInvariants, present_tags}
 use Rattle.world_laws.proofs.Acting.{counted_acted, next_is, restart_is, some_call, step_steps}
 use Rattle.world_laws.proofs.AsksByMethod.{peer_accepted, server_accepted}
 use Rattle.world_laws.proofs.EndInvariants.{InvariantSoFar, start_invariant, step_invariant}
-use Rattle.world_laws.proofs.OneMethod.{some_same}
+use Rattle.method_laws.proofs.OneMethod.{some_same}
 use Rattle.world_laws.proofs.SucceedingEnds.{peer_succeeds, server_succeeds}
 use Rattle.world_laws.proofs.LastSent.{IsFitting, HaveSent, call_has_sent, is_first_line}
 use Rattle.world_laws.proofs.LastSent.{starts_pass}
@@ -63,6 +63,7 @@ use Rattle.world_laws.proofs.ServerSpeaks.{ServerSpeaks, server_speaks}
 use Rattle.world_laws.specs.Runs.{initial_world, run_of}
 use Rattle.world_laws.proofs.PeerPreserves.{peer_initiates}
 use Rattle.world_laws.proofs.ServerPreserves.{server_initiates}
+use Rattle.world_laws.proofs.Told.{peer_success, peer_tags, server_success, server_tags}
 
 -- ---- a step is a skip, or a call that the event is
 
@@ -699,12 +700,12 @@ one_at_least : (setup : Setup) (w : WorldNow) → BothInvariants setup w → (of
 one_at_least setup w both end.Peer sure =
     let own = peers.setup_with_nonce setup.peer w.parties.peer.vars.setup.nonce in
     peer_accepted own w.parties.peer _ _
-    (peer_succeeds own w.parties.peer _ _ both.peer_invariant.tags
-    (both.peer_invariant.decided (both.peer_invariant.sure sure)))
+    (peer_succeeds own w.parties.peer _ _ (peer_tags both.peer_invariant)
+    (peer_success both.peer_invariant sure))
 one_at_least setup w both end.Server sure =
     let own = servers.setup_with_nonce setup.server w.parties.server.vars.setup.nonce in
     server_accepted own w.parties.server _ _ (server_succeeds own w.parties.server _ _
-    both.server_invariant.tags (both.server_invariant.sure sure))
+    (server_tags both.server_invariant) (server_success both.server_invariant sure))
 
 pub steps_are_lawful : StepsAreLawful
 steps_are_lawful setup events e =

@@ -21,25 +21,26 @@ use Rattle.server_machine.specs.ServerTable.{ServerNow, server_reports}
 use Rattle.eap_world.specs.Judgement.{agreement_of, is_success}
 use Rattle.eap_world.specs.World.{WorldNow}
 use Rattle.world_laws.specs.Agreement.{AreTheirs}
-use Rattle.world_laws.specs.ByMethod.{server_foreign}
-use Rattle.world_laws.specs.ByMethod as by_method
-use Rattle.world_laws.specs.GpskPeerInvariant as gpsk_peer_stands
-use Rattle.world_laws.specs.GpskServerInvariant.{gpsk_rand_p_in}
-use Rattle.world_laws.specs.GpskServerInvariant as gpsk_server_stands
+use Rattle.method_laws.specs.ByMethod.{server_foreign}
+use Rattle.method_laws.specs.ByMethod as by_method
+use Rattle.method_laws.specs.GpskPeerInvariant as gpsk_peer_stands
+use Rattle.method_laws.specs.GpskServerInvariant.{gpsk_rand_p_in}
+use Rattle.method_laws.specs.GpskServerInvariant as gpsk_server_stands
 use Rattle.world_laws.specs.PeerInvariant.{PeerInvariant}
-use Rattle.world_laws.specs.PskPeerInvariant as psk_peer_stands
-use Rattle.world_laws.specs.PskServerInvariant.{psk_rand_p_in}
-use Rattle.world_laws.specs.PskServerInvariant as psk_server_stands
-use Rattle.world_laws.specs.Records.{IsIn, AreInEither, here}
+use Rattle.method_laws.specs.PskPeerInvariant as psk_peer_stands
+use Rattle.method_laws.specs.PskServerInvariant.{psk_rand_p_in}
+use Rattle.method_laws.specs.PskServerInvariant as psk_server_stands
+use Rattle.method_laws.specs.Records.{IsIn, AreInEither, here}
 use Rattle.world_laws.specs.ServerInvariant.{ServerInvariant}
-use Rattle.world_laws.proofs.Among.{among_two, first_is}
+use Rattle.method_laws.proofs.Among.{among_two, first_is}
 use Rattle.world_laws.proofs.GpskAgrees as gpsk
-use Rattle.world_laws.proofs.OneMethod.{apart as one_method}
-use Rattle.world_laws.proofs.PeerByMethod as peer_by_method
+use Rattle.method_laws.proofs.OneMethod.{apart as one_method}
+use Rattle.method_laws.proofs.PeerByMethod as peer_by_method
 use Rattle.world_laws.proofs.PskAgrees as psk
-use Rattle.world_laws.proofs.ServerByMethod as server_by_method
+use Rattle.method_laws.proofs.ServerByMethod as server_by_method
 use Rattle.eap_method.specs.BothPeers.{psk_in}
 use Rattle.eap_method.specs.BothPeers.{gpsk_in}
+use Rattle.world_laws.proofs.Told.{peer_success, peer_tags, server_success, server_tags}
 
 -- a record of a method isn't among two of the other
 apart : psk_kind ≡ gpsk_kind → ⊥
@@ -237,8 +238,8 @@ pub ends_succeed : (peer_setup : PeerSetup) (server_setup : ServerSetup) (p : Pe
     → BothSucceed peer_setup server_setup p s
 ends_succeed peer_setup server_setup p s _ _ _ _ peer_nonce server_nonce p_in s_in of_peer of_server
     sure other_sure =
-    let p_won = peer_succeeds peer_setup p _ _ p_in.tags (p_in.decided (p_in.sure sure)) in
-    let s_won = server_succeeds server_setup s _ _ s_in.tags (s_in.sure other_sure) in
+    let p_won = peer_succeeds peer_setup p _ _ (peer_tags p_in) (peer_success p_in sure) in
+    let s_won = server_succeeds server_setup s _ _ (server_tags s_in) (server_success s_in other_sure) in
     both_succeed peer_setup server_setup p s peer_nonce server_nonce _ _ _ _ p_won s_won
     (peer_first peer_setup server_setup p s peer_nonce server_nonce _ _ _ p_won of_peer)
     (server_first peer_setup server_setup p s peer_nonce server_nonce _ _ _ s_won of_server)

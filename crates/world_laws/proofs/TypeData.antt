@@ -10,8 +10,8 @@ use Rattle.eap_packet.specs.declared.cause.Cause.{Cause}
 use Rattle.eap_packet.proofs.Grammar.{fields_if_read}
 use Rattle.eap_method.specs.Plain.{plain_octets}
 use Rattle.eap_method.specs.Turns.{body_of}
-use Rattle.world_laws.proofs.Occurrence.{Occurrence, trailing_of, none_within, part_of, rest_of}
-use Rattle.world_laws.proofs.Occurrence.{within}
+use Rattle.method_laws.proofs.Occurrence.{Occurrence, trailing_of, none_within, part_of, rest_of}
+use Rattle.method_laws.proofs.Occurrence.{within}
 
 abbrev pub BodyOccurs : List ℕ → PacketValue → Type 0
 BodyOccurs octets (request id kind body) = Occurrence body octets

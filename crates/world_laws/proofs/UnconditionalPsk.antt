@@ -24,14 +24,14 @@ use Rattle.peer_machine.proofs.Receiving as receiving
 use Rattle.peer_machine.proofs.PeerRows.{peer_answers_are_rows}
 use Rattle.eap_world.specs.World.{Call, Parties, WorldNow, WorldOutcome, act_of_call, start_call}
 use Rattle.eap_world.specs.World.{to_pass, to_peer, to_server, world_start}
-use Rattle.world_laws.specs.PeerInvariant.{PeerHasBoth}
+use Rattle.method_laws.specs.Both.{PeerHasBoth}
 use Rattle.world_laws.specs.Runs.{initial_world}
 use Rattle.world_laws.specs.UnconditionalPsk.{IsUnconditional, PskSuccessIsUnconditional}
 use Rattle.world_laws.proofs.Acting.{Steps, calls, peer_restarts, run_preserves, server_restarts}
 use Rattle.world_laws.proofs.Acting.{skips}
 use Rattle.world_laws.proofs.EndInvariants.{InvariantSoFar, start_invariant, step_invariant}
-use Rattle.world_laws.proofs.OneMethod.{some_same}
-use Rattle.world_laws.proofs.PeerByMethod.{TurnOf, kinds_apart, of_gpsk, of_none, of_psk, turn_of}
+use Rattle.method_laws.proofs.OneMethod.{some_same}
+use Rattle.method_laws.proofs.PeerByMethod.{TurnOf, kinds_apart, of_gpsk, of_none, of_psk, turn_of}
 use Rattle.world_laws.proofs.PeerPreserves.{peer_initiates}
 
 -- ---- a turn

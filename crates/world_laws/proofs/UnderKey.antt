@@ -17,14 +17,14 @@ use Rattle.tag_book.specs.declared.book.TagsVerdict.TheVariants.{Honest}
 use Rattle.tag_book.specs.declared.book.Use.TheVariants.{Accepted, Made}
 use Rattle.eap_world.specs.Judgement.{is_success}
 use Rattle.eap_world.specs.World.{WorldNow}
-use Rattle.world_laws.specs.ByMethod.{peer_login}
+use Rattle.method_laws.specs.ByMethod.{peer_login}
 use Rattle.world_laws.specs.EachConversation.{IsOneOf, OfPeer, OfServer, all_produced}
 use Rattle.world_laws.specs.EachConversation.{peer_knows_nonce, peer_nonce, server_knows_nonce}
 use Rattle.world_laws.specs.EachConversation.{server_nonce}
 use Rattle.eap_world.specs.Conversations.{front}
 use Rattle.world_laws.specs.Matching.{HaveNonces, PeerMatches, PeerRests, ReportsAgree, RestsOn}
 use Rattle.world_laws.specs.Matching.{ServerMatches, ServerRests}
-use Rattle.world_laws.specs.Records.{IsIn, tags_by}
+use Rattle.method_laws.specs.Records.{IsIn, tags_by}
 use Rattle.world_laws.specs.UnderKey.{ConversationsMatchUnder, IsOfKey}
 use Rattle.world_laws.proofs.Conversations.{run_known}
 use Rattle.world_laws.proofs.HonestOfEither.{honest_of_either}
@@ -37,6 +37,7 @@ use Rattle.world_laws.proofs.OneOf.{accepted_in, made_in}
 use Rattle.world_laws.proofs.PskAnswered.{HasAsked, HasPsk4, has_asked}
 use Rattle.world_laws.proofs.PskMatching as psk
 use Rattle.world_laws.proofs.Resting.{same_report}
+use Rattle.world_laws.proofs.Told.{peer_tags, server_tags}
 
 -- ---- the conversations
 
@@ -49,7 +50,7 @@ module _ (setup : Setup) (last : WorldNow) (ps : List OfPeer) (ss : List OfServe
   one_key : (s : OfServer) → IsOneOf s ss → OneKey s.accepted s.made
   one_key s is_one =
       server_one (servers.setup_with_nonce setup.server (server_nonce s))
-      s.now.vars.current s.now.views s.accepted s.made (all.servers s is_one).stands.tags
+      s.now.vars.current s.now.views s.accepted s.made (server_tags (all.servers s is_one).stands)
 
   pub keyed_by_made : (s : OfServer) → IsOneOf s ss → (t : TagRecord) → IsIn t s.made
       → t.psk ≡ key → IsKeyed s
@@ -241,7 +242,7 @@ module _ (setup : Setup) (last : WorldNow) (ps : List OfPeer) (ss : List OfServe
         → RestsOn q.accepted s.made × (server_knows_nonce s ≡ Some (front (peer_nonce q)))
     answered_by is q q_is made h =
         let one = peer_one (peers.setup_with_nonce setup.peer (peer_nonce q))
-        q.now.vars.selected q.now.views q.accepted q.made (all.peers q q_is).stands.tags in
+        q.now.vars.selected q.now.views q.accepted q.made (peer_tags (all.peers q q_is).stands) in
         let its : (t : TagRecord) → IsIn t q.accepted → t.psk ≡ shared =
         λ t there. one.of_accepted t there
         ∙ (sym (one.of_created _ made) ∙ of_user s s_is s_in of_key _ is.is_in) in
@@ -279,7 +280,7 @@ module _ (setup : Setup) (last : WorldNow) (ps : List OfPeer) (ss : List OfServe
         let known = all.peers m.by m.is_one in
         let h = has_asked is.psk is.header is.sealed is.tag (front (server_nonce s))
         is.rand_in setup.peer (peer_nonce m.by) known.size
-        m.by.now.vars.selected m.by.now.views m.by.accepted m.by.made known.stands.tags m.is_in in
+        m.by.now.vars.selected m.by.now.views m.by.accepted m.by.made (peer_tags known.stands) m.is_in in
         let a = answered_by is m.by m.is_one m.is_in h in
         let s_known = all.servers s s_is in
         let asking = matching.server_in setup s s_known s_in in
@@ -298,7 +299,7 @@ module _ (setup : Setup) (last : WorldNow) (ps : List OfPeer) (ss : List OfServe
         let s_known = all.servers s s_is in
         same_report (peers.setup_with_nonce setup.peer (peer_nonce p))
         (servers.setup_with_nonce setup.server (server_nonce s)) known.size s_known.size
-        p.now.vars.selected p.now.views p.accepted p.made known.stands.tags s.now _ _
+        p.now.vars.selected p.now.views p.accepted p.made (peer_tags known.stands) s.now _ _
         (matching.server_won setup s s_known s_in) rests
         (λ by_psk.
         (answered_back (psk.psk4_in setup last ps ss all s s_known s_in by_psk) p p_is rests).0)

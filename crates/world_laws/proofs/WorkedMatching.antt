@@ -20,14 +20,14 @@ use Rattle.world_laws.specs.EachConversation.{peer_along, peer_conversations, pe
 use Rattle.world_laws.specs.EachConversation.{server_along, server_conversations, server_nonce}
 use Rattle.eap_world.specs.Judgement.{is_success}
 use Rattle.world_laws.specs.Matching.{RestsOn}
-use Rattle.world_laws.specs.Records.{here, tags_by}
+use Rattle.method_laws.specs.Records.{here, tags_by}
 use Rattle.eap_world.specs.Conversations.{initiated_by}
 use Rattle.eap_world.specs.World.{WorldNow, act, conversed_by, reported_before, world_start}
 use Rattle.eap_world.specs.World.{world_step}
 use Rattle.tag_book.specs.declared.book.End.TheVariants as end
 use Rattle.tag_book.specs.declared.book.TagsVerdict.TheVariants.{Honest}
 use Rattle.tag_book.specs.declared.book.Use.TheVariants.{Accepted, Made}
-use Rattle.world_laws.proofs.Among.{among_one}
+use Rattle.method_laws.proofs.Among.{among_one}
 use Rattle.world_laws.proofs.SucceedingEnds.{first_in}
 use Rattle.world_laws.specs.Runs.{initial_world}
 

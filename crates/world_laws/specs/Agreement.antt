@@ -17,12 +17,12 @@ use Rattle.tag_book.specs.declared.book.Entry.{Entry}
 use Rattle.eap_world.specs.declared.conversations.ConversationStart.{ConversationStart}
 use Rattle.tag_book.specs.declared.book.Use.{Use}
 use Rattle.eap_world.specs.Conversations.{Conversations, initiated_by, front}
-use Rattle.world_laws.specs.ByMethod.{peer_foreign, server_foreign}
-use Rattle.world_laws.specs.GpskLogins.{HasFirstSuite, HaveAllOctets}
+use Rattle.method_laws.specs.ByMethod.{peer_foreign, server_foreign}
+use Rattle.method_laws.specs.GpskLogins.{HasFirstSuite, HaveAllOctets}
 use Rattle.eap_world.specs.Judgement.{verdict_of, is_success}
 use Rattle.eap_world.specs.declared.verdict.Verdict.TheVariants.{Agree, Apart}
 use Rattle.eap_world.specs.World.{WorldNow}
-use Rattle.world_laws.specs.Records.{tags_by}
+use Rattle.method_laws.specs.Records.{tags_by}
 use Rattle.world_laws.specs.Runs.{run_of}
 
 -- a setup as a scenario gives it: both ends are sound and name the two methods alone, and each

@@ -14,13 +14,13 @@ use Rattle.world_laws.specs.Agreement.{IsWhole}
 use Rattle.tag_book.specs.Book.{tags_verdict, tags_verdict_either}
 use Rattle.tag_book.specs.declared.book.Entry.{Entry}
 use Rattle.eap_world.specs.Conversations.{front}
-use Rattle.world_laws.specs.ByMethod.{peer_foreign, peer_login, server_foreign, server_login}
+use Rattle.method_laws.specs.ByMethod.{peer_foreign, peer_login, server_foreign, server_login}
 use Rattle.world_laws.specs.EachConversation.{IsOneOf, OfPeer, OfServer, peer_conversations}
 use Rattle.world_laws.specs.EachConversation.{peer_knows_nonce, peer_nonce, server_conversations}
 use Rattle.world_laws.specs.EachConversation.{server_knows_nonce, server_nonce}
-use Rattle.world_laws.specs.GpskLogins.{HaveSameNames, HaveAllOctets}
+use Rattle.method_laws.specs.GpskLogins.{HaveSameNames, HaveAllOctets}
 use Rattle.eap_world.specs.Judgement.{is_success}
-use Rattle.world_laws.specs.Records.{IsIn, tags_by}
+use Rattle.method_laws.specs.Records.{IsIn, tags_by}
 use Rattle.world_laws.specs.TagOwners.{OnlyByPeer}
 use Rattle.eap_world.specs.World.{WorldNow}
 use Rattle.tag_book.specs.declared.book.End.TheVariants as end

@@ -8,8 +8,8 @@ use Rattle.peer_machine.specs.PeerTable.{PeerNow}
 use Rattle.server_machine.specs.ServerTable.{ServerNow}
 use Rattle.tag_book.specs.Book.{same_end}
 use Rattle.eap_world.specs.Conversations.{initiated_by}
-use Rattle.world_laws.specs.ByMethod.{peer_foreign, server_foreign}
-use Rattle.world_laws.specs.Records.{tags_by}
+use Rattle.method_laws.specs.ByMethod.{peer_foreign, server_foreign}
+use Rattle.method_laws.specs.Records.{tags_by}
 use Rattle.eap_world.specs.World.{WorldNow, world_start, world_step}
 use Rattle.tag_book.specs.declared.book.End.{End}
 use Rattle.tag_book.specs.declared.book.End.TheVariants as end

@@ -8,7 +8,7 @@ use Rattle.peer_machine.specs.PeerTable as peers
 use Rattle.server_machine.specs.ServerTable as servers
 use Rattle.eap_world.specs.Conversations.{since_of}
 use Rattle.world_laws.specs.PeerInvariant.{PeerInvariant}
-use Rattle.world_laws.specs.Records.{since, tags_by}
+use Rattle.method_laws.specs.Records.{since, tags_by}
 use Rattle.world_laws.specs.ServerInvariant.{ServerInvariant}
 use Rattle.eap_world.specs.World.{WorldNow}
 use Rattle.tag_book.specs.declared.book.End.{End}

@@ -35,14 +35,14 @@ use Rattle.eap_world.specs.declared.verdict.Verdict.TheVariants.{Agree}
 use Rattle.eap_world.specs.Judgement.{is_success, verdict_of}
 use Rattle.eap_world.specs.World.{WorldNow}
 use Rattle.world_laws.specs.Agreement.{AgreeAnew, AreApart, IsWhole}
-use Rattle.world_laws.specs.ByMethod.{peer_login, server_login}
+use Rattle.method_laws.specs.ByMethod.{peer_login, server_login}
 use Rattle.world_laws.specs.EachConversation.{Conversation, IsOneOf, OfPeer, OfServer}
 use Rattle.world_laws.specs.EachConversation.{peer_conversations, peer_nonce, server_conversations}
 use Rattle.world_laws.specs.EachConversation.{server_nonce}
-use Rattle.world_laws.specs.GpskPeerInvariant.{gpsk_whole_rand_s}
-use Rattle.world_laws.specs.GpskServerInvariant.{gpsk_whole_rand_p_in}
-use Rattle.world_laws.specs.PskServerInvariant.{psk_rand_p_in}
-use Rattle.world_laws.specs.Records.{IsIn}
+use Rattle.method_laws.specs.GpskPeerInvariant.{gpsk_whole_rand_s}
+use Rattle.method_laws.specs.GpskServerInvariant.{gpsk_whole_rand_p_in}
+use Rattle.method_laws.specs.PskServerInvariant.{psk_rand_p_in}
+use Rattle.method_laws.specs.Records.{IsIn}
 use Rattle.world_laws.specs.PresentUnderKey.{AgreeOnTheirs, SucceedBy}
 use Rattle.world_laws.specs.UnderKey.{IsOfKey}
 use Rattle.eap_method.specs.BothPeers.{gpsk_in}

@@ -1,12 +1,5 @@
 pub mod Runs
-pub mod PskPeerInvariant
-pub mod PskServerInvariant
-pub mod GpskPeerInvariant
-pub mod GpskServerInvariant
-pub mod GpskLogins
-pub mod ByMethod
 pub mod Laws
-pub mod Records
 pub mod PeerInvariant
 pub mod ServerInvariant
 pub mod TagOwners

@@ -19,10 +19,10 @@ use Rattle.world_laws.specs.EachConversation.{all_produced, last_now, nonces_of,
 use Rattle.world_laws.specs.EachConversation.{peer_knows_nonce, peer_nonce, server_conversations}
 use Rattle.world_laws.specs.EachConversation.{server_knows_nonce, server_nonce}
 use Rattle.eap_world.specs.Judgement.{is_success, agreement_of}
-use Rattle.world_laws.specs.ByMethod.{peer_login, server_login}
-use Rattle.world_laws.specs.GpskLogins.{HaveAllOctets}
+use Rattle.method_laws.specs.ByMethod.{peer_login, server_login}
+use Rattle.method_laws.specs.GpskLogins.{HaveAllOctets}
 use Rattle.world_laws.specs.PeerInvariant.{PeerInvariant}
-use Rattle.world_laws.specs.Records.{AreFew, IsIn, tags_by}
+use Rattle.method_laws.specs.Records.{AreFew, IsIn, tags_by}
 use Rattle.world_laws.specs.ServerInvariant.{ServerInvariant}
 use Rattle.eap_world.specs.World.{WorldNow}
 use Rattle.tag_book.specs.declared.book.End.TheVariants as end

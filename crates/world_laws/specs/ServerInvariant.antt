@@ -1,25 +1,19 @@
 -- What holds of the server at every moment of a run, with the tags that it has accepted and made:
 -- the view of its current method determines them exactly, also if the login has failed.
-use Rattle.std.specs.Prelude.{◌≡◌, ℕ, List, true, false, None, option_map}
+use Rattle.std.specs.Prelude.{◌≡◌, List, true, false, None}
 use Rattle.login_setup.specs.Setup.{ServerSetup}
-use Rattle.eap_method.specs.BothServers.{both_of}
-use Rattle.eap_method.specs.Server.{ServerViews, method_of}
 use Rattle.eap_method.specs.declared.tags.TagRecord.{TagRecord}
 use Rattle.server_machine.specs.ServerTable.{ServerNow, is_proposed, is_started}
 use Rattle.server_machine.specs.Variables.{ServerVariables}
 use Rattle.eap_world.specs.Judgement.{is_success}
-use Rattle.world_laws.specs.ByMethod.{ServerHasSucceeded, ServerTags}
-use Rattle.world_laws.specs.Records.{AreNone}
+use Rattle.method_laws.specs.Both.{ServerHasBoth}
+use Rattle.method_laws.specs.ByMethod.{ServerHasSucceeded, ServerTags}
+use Rattle.method_laws.specs.Records.{AreNone}
 
 -- a server that has not started: neither a method nor an Identifier is current
 pub record IsUntouched (vars : ServerVariables) : Type 0 where
   pub no_method : vars.current ≡ None
   pub no_id : vars.current_id ≡ None
-
--- at each Type stands an object of the method with which the server began
-pub record ServerHasBoth (methods : List ℕ) (views : ServerViews) : Type 0 where
-  pub same : (kind : ℕ) → option_map method_of (views kind)
-      ≡ option_map method_of (both_of methods kind)
 
 -- what holds of a server with the tags that it has accepted and made
 pub record ServerInvariant (setup : ServerSetup) (now : ServerNow)

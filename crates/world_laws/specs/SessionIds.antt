@@ -20,7 +20,7 @@ use Rattle.server_machine.specs.ServerTable.{ServerNow}
 use Rattle.eap_world.specs.Judgement.{is_success}
 use Rattle.eap_world.specs.World.{WorldNow}
 use Rattle.world_laws.specs.Agreement.{IsWhole}
-use Rattle.world_laws.specs.ByMethod.{by_kind}
+use Rattle.method_laws.specs.ByMethod.{by_kind}
 use Rattle.world_laws.specs.EachConversation.{AreTwoOf, IsOneOf, OfPeer, OfServer}
 use Rattle.world_laws.specs.EachConversation.{peer_conversations, server_conversations}
 use Rattle.world_laws.specs.Matching.{RestsOn}

@@ -9,8 +9,8 @@ use Rattle.eap_method.specs.Server.{ServerViews}
 use Rattle.peer_machine.specs.PeerTable as peers
 use Rattle.server_machine.specs.ServerTable as servers
 use Rattle.eap_world.specs.Conversations.{front}
-use Rattle.world_laws.specs.ByMethod.{peer_foreign, server_foreign, PeerTags, ServerTags}
-use Rattle.world_laws.specs.Records.{IsIn}
+use Rattle.method_laws.specs.ByMethod.{peer_foreign, server_foreign, PeerTags, ServerTags}
+use Rattle.method_laws.specs.Records.{IsIn}
 
 -- a conversation of the peer with this nonce, which has that nonce of the server, has accepted and
 -- made these tags

@@ -16,7 +16,7 @@ use Rattle.tag_book.specs.Book.{tags_verdict, tags_verdict_either, under}
 use Rattle.eap_world.specs.Judgement.{is_success}
 use Rattle.eap_world.specs.World.{WorldNow}
 use Rattle.world_laws.specs.Agreement.{IsWhole}
-use Rattle.world_laws.specs.ByMethod.{peer_login}
+use Rattle.method_laws.specs.ByMethod.{peer_login}
 use Rattle.world_laws.specs.EachConversation.{IsOneOf, OfPeer, OfServer, peer_conversations}
 use Rattle.world_laws.specs.EachConversation.{server_conversations}
 use Rattle.world_laws.specs.Matching.{PeerMatches, ReportsAgree, RestsOn, ServerMatches}

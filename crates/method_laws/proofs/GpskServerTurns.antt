@@ -19,18 +19,18 @@ use Rattle.eap_method.specs.GpskTags.{sk_record, suite_list}
 use Rattle.eap_method.specs.Server.{side_of}
 use Rattle.eap_method.specs.Turns.{ServerOutcome, body_of}
 use Rattle.method_laws.specs.GpskServerRows as gpsk_row
-use Rattle.world_laws.specs.GpskServerInvariant.{GpskChecked, GpskServerTags, gpsk_asked}
-use Rattle.world_laws.specs.GpskServerInvariant.{gpsk_refusing, gpsk_refused, gpsk_barring}
-use Rattle.world_laws.specs.GpskServerInvariant.{gpsk_checked, gpsk_barred, gpsk_confirmed}
-use Rattle.world_laws.specs.GpskServerInvariant.{gpsk2_of_login, gpsk_rand_p}
-use Rattle.world_laws.specs.Records.{AreFew, IsIn}
-use Rattle.world_laws.proofs.Among.{among_one}
-use Rattle.world_laws.proofs.GpskFields.{read_rands}
-use Rattle.world_laws.proofs.GpskNonces.{read_occurs}
-use Rattle.world_laws.proofs.Receiving.{Receives, as_before, receives_now}
-use Rattle.world_laws.proofs.ServerTurns.{Asks, IsRequest, Turned, asks_no_more, asks_none}
-use Rattle.world_laws.proofs.ServerTurns.{asks_one, drops, ends, request_is, requests}
-use Rattle.world_laws.proofs.Occurrence.{front_within}
+use Rattle.method_laws.specs.GpskServerInvariant.{GpskChecked, GpskServerTags, gpsk_asked}
+use Rattle.method_laws.specs.GpskServerInvariant.{gpsk_refusing, gpsk_refused, gpsk_barring}
+use Rattle.method_laws.specs.GpskServerInvariant.{gpsk_checked, gpsk_barred, gpsk_confirmed}
+use Rattle.method_laws.specs.GpskServerInvariant.{gpsk2_of_login, gpsk_rand_p}
+use Rattle.method_laws.specs.Records.{AreFew, IsIn}
+use Rattle.method_laws.proofs.Among.{among_one}
+use Rattle.method_laws.proofs.GpskFields.{read_rands}
+use Rattle.method_laws.proofs.GpskNonces.{read_occurs}
+use Rattle.method_laws.proofs.Receiving.{Receives, as_before, receives_now}
+use Rattle.method_laws.proofs.ServerTurns.{Asks, IsRequest, Turned, asks_no_more, asks_none}
+use Rattle.method_laws.proofs.ServerTurns.{asks_one, drops, ends, request_is, requests}
+use Rattle.method_laws.proofs.Occurrence.{front_within}
 
 -- ---- the nonce
 

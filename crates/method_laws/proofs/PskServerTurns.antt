@@ -17,16 +17,16 @@ use Rattle.eap_method.specs.PskTags.{ak_record, tek_record, channel_nonce, hidde
 use Rattle.eap_method.specs.Server.{side_of}
 use Rattle.eap_method.specs.Turns.{ServerOutcome, body_of}
 use Rattle.method_laws.specs.PskServerRows as psk_row
-use Rattle.world_laws.specs.PskServerInvariant.{PskServerTags, psk_asked, psk_checked, psk_refused}
-use Rattle.world_laws.specs.PskServerInvariant.{psk_over, psk2_record, psk_rand_p}
-use Rattle.world_laws.specs.Records.{AreFew, IsIn}
-use Rattle.world_laws.proofs.Among.{among_two}
-use Rattle.world_laws.proofs.Receiving.{Receives, as_before, receives_now}
-use Rattle.world_laws.proofs.PskFields.{read_rand}
-use Rattle.world_laws.proofs.PskHeaders.{header_read}
-use Rattle.world_laws.proofs.PskNonces.{read_occurs}
-use Rattle.world_laws.proofs.ServerTurns.{Asks, IsRequest, Turned, asks_no_more, asks_none}
-use Rattle.world_laws.proofs.ServerTurns.{asks_one, drops, ends, request_is, requests}
+use Rattle.method_laws.specs.PskServerInvariant.{PskServerTags, psk_asked, psk_checked, psk_refused}
+use Rattle.method_laws.specs.PskServerInvariant.{psk_over, psk2_record, psk_rand_p}
+use Rattle.method_laws.specs.Records.{AreFew, IsIn}
+use Rattle.method_laws.proofs.Among.{among_two}
+use Rattle.method_laws.proofs.Receiving.{Receives, as_before, receives_now}
+use Rattle.method_laws.proofs.PskFields.{read_rand}
+use Rattle.method_laws.proofs.PskHeaders.{header_read}
+use Rattle.method_laws.proofs.PskNonces.{read_occurs}
+use Rattle.method_laws.proofs.ServerTurns.{Asks, IsRequest, Turned, asks_no_more, asks_none}
+use Rattle.method_laws.proofs.ServerTurns.{asks_one, drops, ends, request_is, requests}
 
 -- ---- the nonce
 

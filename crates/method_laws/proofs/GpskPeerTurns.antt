@@ -2,7 +2,6 @@
 -- Request, and its view tells the tags.
 use Rattle.std.proofs.Common.{◌≡◌, ℕ, List, [], ◌∷◌, ◌++◌, true, false, Some, None, Ok, refl, sym}
 use Rattle.std.proofs.Common.{ap, ◌∙◌, subst, arith, inl, inr}
-use Rattle.std.proofs.lemmas.Bool.{true≢false}
 use Rattle.login_setup.specs.declared.setup.PeerSetup.{PeerSetup}
 use Rattle.octet_lists.specs.declared.suite.Suite.{Suite}
 use Rattle.octet_lists.specs.Among.{gpsk_kind}
@@ -16,19 +15,19 @@ use Rattle.eap_method.specs.declared.values.Credential.{Credential}
 use Rattle.eap_method.specs.GpskPeer as gpsk
 use Rattle.eap_method.specs.GpskTags.{sk_record}
 use Rattle.eap_method.specs.Peer.{credential_for}
-use Rattle.eap_method.specs.Turns.{PeerOutcome, body_of}
+use Rattle.eap_method.specs.Turns.{PeerOutcome, body_of, id_of}
 use Rattle.method_laws.specs.GpskPeerRows as gpsk_row
-use Rattle.world_laws.specs.GpskPeerInvariant.{GpskPeerTags, gpsk_unset, gpsk_fresh, gpsk_waits}
-use Rattle.world_laws.specs.GpskPeerInvariant.{gpsk_confirmed, gpsk_failed, gpsk_barred}
-use Rattle.world_laws.specs.GpskPeerInvariant.{gpsk2_record, gpsk3_of_login, gpsk_rand_s}
-use Rattle.world_laws.specs.Records.{AreFew, IsIn}
-use Rattle.world_laws.specs.SingleSteps.{identifier_of}
-use Rattle.world_laws.proofs.Among.{among_one, among_two}
-use Rattle.world_laws.proofs.GpskFields.{read_rands}
-use Rattle.world_laws.proofs.GpskNonces.{read_occurs}
-use Rattle.world_laws.proofs.Receiving.{Receives, as_before, receives_now}
-use Rattle.world_laws.proofs.PeerTurns.{Answers, Turned, discards_none, drops, replies, replies_one}
-use Rattle.world_laws.proofs.Occurrence.{front_within}
+use Rattle.method_laws.specs.GpskPeerInvariant.{GpskPeerTags, gpsk_unset, gpsk_fresh, gpsk_waits}
+use Rattle.method_laws.specs.GpskPeerInvariant.{gpsk_confirmed, gpsk_failed, gpsk_barred}
+use Rattle.method_laws.specs.GpskPeerInvariant.{gpsk2_record, gpsk3_of_login, gpsk_rand_s}
+use Rattle.method_laws.specs.Records.{AreFew, IsIn}
+use Rattle.method_laws.proofs.Among.{among_one, among_two}
+use Rattle.method_laws.proofs.GpskFields.{read_rands}
+use Rattle.method_laws.proofs.GpskNonces.{read_occurs}
+use Rattle.method_laws.proofs.Receiving.{Receives, as_before, receives_now}
+use Rattle.method_laws.proofs.PeerTurns.{Answers, Turned, discards_none, drops, replies}
+use Rattle.method_laws.proofs.PeerTurns.{replies_one}
+use Rattle.method_laws.proofs.Occurrence.{front_within}
 
 -- ---- the nonce
 
@@ -61,7 +60,7 @@ gpsk_none setup _ _ _ (gpsk_barred login list code facts) e = absurd cc
 -- ---- the Response
 
 pub gpsk_responds : (view : gpsk.View) (bytes : List ℕ) (out : PeerOutcome gpsk.View)
-    → gpsk_row.GpskPeerRow view bytes out → Answers (identifier_of bytes) out.turn
+    → gpsk_row.GpskPeerRow view bytes out → Answers (id_of bytes) out.turn
 gpsk_responds view bytes _ (gpsk_row.drops c) = discards_none _ c
 gpsk_responds view bytes _ (gpsk_row.answers _ _ _ _ _ _ _ _ _ _) = replies_one _ _ _ _ _ _
 gpsk_responds view bytes _ (gpsk_row.confirms _ _ _ _ _ _ _ _ _ _ _ _ _ _ _ _) =
@@ -153,7 +152,7 @@ module _ (setup : PeerSetup) where
         (gpsk_answers cred nonce id_s rand_s list _ suite accepted made
         (at_gpsk setup accepted made view _ in_view told)
         is_read is_accepted picked)
-        (λ e. absurd (true≢false e))
+        (λ sure. absurd (sure refl))
     gpsk_turned view _ told (gpsk_row.confirms login rand_p rand_s id_s suite pd mac in_view _ _
         setup_with_nonce their_nonce their_name one_suite _ has_mac) =
         replies _ _ _ _ _
@@ -163,11 +162,11 @@ module _ (setup : PeerSetup) where
     gpsk_turned view _ told (gpsk_row.repeats_fail login code in_view _) =
         replies _ _ _ _ _
         (gpsk_fails login accepted made (at_gpsk setup accepted made view _ in_view told))
-        (λ e. absurd (true≢false e))
+        (λ sure. absurd (sure refl))
     gpsk_turned view _ told (gpsk_row.repeats_protected login code mac in_view _ _ has_mac) =
         replies _ _ _ _ _ (gpsk_bars login code mac accepted made
         (at_gpsk setup accepted made view _ in_view told) has_mac)
-        (λ e. absurd (true≢false e))
+        (λ sure. absurd (sure refl))
 
 -- at most two are accepted and at most two made
 pub gpsk_few : (setup : PeerSetup) (view : gpsk.View) (accepted made : List TagRecord)

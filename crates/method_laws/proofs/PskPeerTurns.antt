@@ -2,7 +2,6 @@
 -- and its view tells the tags.
 use Rattle.std.proofs.Common.{◌≡◌, ℕ, List, [], ◌∷◌, ◌++◌, Bool, true, false, Some, None, Ok, refl}
 use Rattle.std.proofs.Common.{sym, ap, subst, arith, inl, inr}
-use Rattle.std.proofs.lemmas.Bool.{true≢false}
 use Rattle.login_setup.specs.declared.setup.PeerSetup.{PeerSetup}
 use Rattle.octet_lists.specs.Among.{psk_kind}
 use Rattle.login_setup.specs.Setup.{accepts_name}
@@ -14,18 +13,18 @@ use Rattle.eap_method.specs.declared.values.Credential.{Credential}
 use Rattle.eap_method.specs.Peer.{credential_for}
 use Rattle.eap_method.specs.PskPeer as psk
 use Rattle.eap_method.specs.PskTags.{channel_nonce}
-use Rattle.eap_method.specs.Turns.{PeerOutcome, body_of}
+use Rattle.eap_method.specs.Turns.{PeerOutcome, body_of, id_of}
 use Rattle.method_laws.specs.PskPeerRows as psk_row
-use Rattle.world_laws.specs.PskPeerInvariant.{PskPeerTags, psk_unset, psk_fresh, psk_waits}
-use Rattle.world_laws.specs.PskPeerInvariant.{psk_over, psk2_record, psk3_records_of, psk_rand_s}
-use Rattle.world_laws.specs.PskPeerInvariant.{result_for}
-use Rattle.world_laws.specs.Records.{AreFew, IsIn}
-use Rattle.world_laws.specs.SingleSteps.{identifier_of}
-use Rattle.world_laws.proofs.Among.{among_one, among_two}
-use Rattle.world_laws.proofs.Receiving.{Receives, as_before, receives_now}
-use Rattle.world_laws.proofs.PeerTurns.{Answers, Turned, discards_none, drops, replies, replies_one}
-use Rattle.world_laws.proofs.PskFields.{read_rand}
-use Rattle.world_laws.proofs.PskNonces.{read_occurs}
+use Rattle.method_laws.specs.PskPeerInvariant.{PskPeerTags, psk_unset, psk_fresh, psk_waits}
+use Rattle.method_laws.specs.PskPeerInvariant.{psk_over, psk2_record, psk3_records_of, psk_rand_s}
+use Rattle.method_laws.specs.PskPeerInvariant.{result_for}
+use Rattle.method_laws.specs.Records.{AreFew, IsIn}
+use Rattle.method_laws.proofs.Among.{among_one, among_two}
+use Rattle.method_laws.proofs.Receiving.{Receives, as_before, receives_now}
+use Rattle.method_laws.proofs.PeerTurns.{Answers, Turned, discards_none, drops, replies}
+use Rattle.method_laws.proofs.PeerTurns.{replies_one}
+use Rattle.method_laws.proofs.PskFields.{read_rand}
+use Rattle.method_laws.proofs.PskNonces.{read_occurs}
 
 -- ---- the nonce
 
@@ -52,7 +51,7 @@ psk_none setup _ _ _ (psk_over login good header sealed id facts) e = absurd cc
 -- ---- the Response
 
 pub psk_responds : (view : psk.View) (bytes : List ℕ) (out : PeerOutcome psk.View)
-    → psk_row.PskPeerRow view bytes out → Answers (identifier_of bytes) out.turn
+    → psk_row.PskPeerRow view bytes out → Answers (id_of bytes) out.turn
 psk_responds view bytes _ (psk_row.drops c) = discards_none _ c
 psk_responds view bytes _ (psk_row.answers _ _ _ _ _ _ _) = replies_one _ _ _ _ _ _
 psk_responds view bytes _ (psk_row.confirms_success _ _ _ _ _ _ _ _ _ _ _ _ _ _ _ _) =
@@ -112,7 +111,7 @@ module _ (setup : PeerSetup) where
         replies _ _ _ _ _
         (psk_answers cred nonce rand_s id_s _ accepted made
         (at_psk setup accepted made view _ in_view told) is_read is_accepted)
-        (λ e. absurd (true≢false e))
+        (λ sure. absurd (sure refl))
     psk_turned view _ told
         (psk_row.confirms_success login _ mac _ tag sealed in_view _ _ _ _ has_mac _ has_tag _ _) =
         replies _ _ _ _ _
@@ -124,7 +123,7 @@ module _ (setup : PeerSetup) where
         replies _ _ _ _ _
         (psk_confirms login false _ mac tag sealed _ accepted made
         (at_psk setup accepted made view _ in_view told) has_mac has_tag)
-        (λ e. absurd (true≢false e))
+        (λ sure. absurd (sure refl))
 
 -- at most two are accepted and at most two made
 pub psk_few : (setup : PeerSetup) (view : psk.View) (accepted made : List TagRecord)

@@ -2,7 +2,7 @@
 use Rattle.std.proofs.Common.{◌≡◌, List, [], ◌∷◌, refl, inl, inr}
 use Rattle.std.specs.Prelude.{◌⊎◌}
 use Rattle.eap_method.specs.declared.tags.TagRecord.{TagRecord}
-use Rattle.world_laws.specs.Records.{IsIn, here, later}
+use Rattle.method_laws.specs.Records.{IsIn, here, later}
 
 pub among_one : (tag a : TagRecord) → IsIn tag (a ∷ []) → tag ≡ a
 among_one tag a (here rest) = refl

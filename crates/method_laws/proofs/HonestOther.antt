@@ -11,10 +11,10 @@ use Rattle.tag_book.specs.declared.book.End.TheVariants.{Peer, Server}
 use Rattle.tag_book.specs.declared.book.Use.TheVariants.{Accepted, Made}
 use Rattle.tag_book.specs.declared.book.Entry.{Entry}
 use Rattle.tag_book.specs.declared.book.RecordOwner.TheVariants.{Other}
-use Rattle.world_laws.specs.Records.{same_use, tags_by, IsIn}
-use Rattle.world_laws.proofs.TagsOfEnds.{by_test_in, honest_vouched, in_if, is_in_front, not_true}
-use Rattle.world_laws.proofs.TagsOfEnds.{other_end, skip_if, tags_append, tags_equal, unbroken}
-use Rattle.world_laws.proofs.TagsOfEnds.{use_accepted, use_is}
+use Rattle.method_laws.specs.Records.{same_use, tags_by, IsIn}
+use Rattle.method_laws.proofs.TagsOfEnds.{by_test_in, honest_vouched, in_if, is_in_front, not_true}
+use Rattle.method_laws.proofs.TagsOfEnds.{other_end, skip_if, tags_append, tags_equal, unbroken}
+use Rattle.method_laws.proofs.TagsOfEnds.{use_accepted, use_is}
 
 other_is : (m e own : End) → same_end e own ≡ true → not (same_end m e) ≡ true
     → same_end m (other_end own) ≡ true

@@ -12,31 +12,27 @@ use Rattle.eap_method.specs.PskPeer as psk
 use Rattle.eap_method.specs.Peer.{PeerShown, PeerViews, views_started, peer_started_in, put}
 use Rattle.eap_method.specs.Peer.{putting, turned, peer_step, peer_turn}
 use Rattle.eap_method.specs.Peer as shown
-use Rattle.eap_method.specs.Turns.{PeerOutcome, body_of, discarded}
+use Rattle.eap_method.specs.Turns.{PeerOutcome, body_of, discarded, id_of}
 use Rattle.method_laws.specs.GpskPeerRows.{GpskPeerRow}
 use Rattle.method_laws.specs.PskPeerRows.{PskPeerRow}
 use Rattle.method_laws.proofs.GpskPeerCases.{gpsk_peer_steps_are_rows}
 use Rattle.method_laws.proofs.PskPeerCases.{psk_peer_steps_are_rows}
-use Rattle.peer_machine.specs.PeerTable.{PeerNow}
-use Rattle.peer_machine.specs.Rows.{Calls, again, first}
-use Rattle.world_laws.specs.ByMethod.{PeerHasSucceeded, PeerTags, by_kind, gpsk_peer_succeeded}
-use Rattle.world_laws.specs.ByMethod.{gpsk_selected, none_selected, peer_foreign_of}
-use Rattle.world_laws.specs.ByMethod.{psk_peer_succeeded, psk_selected}
-use Rattle.world_laws.specs.PeerInvariant.{PeerHasBoth}
-use Rattle.world_laws.proofs.PeerObjects.{is_named, is_one}
-use Rattle.world_laws.specs.GpskPeerInvariant.{GpskPeerTags, gpsk_unset, gpsk_fresh}
-use Rattle.world_laws.specs.PskPeerInvariant.{PskPeerTags, psk_unset, psk_fresh}
-use Rattle.world_laws.specs.Records.{AreFew, IsIn}
+use Rattle.method_laws.specs.ByMethod.{PeerHasSucceeded, PeerTags, by_kind, gpsk_peer_succeeded}
+use Rattle.method_laws.specs.ByMethod.{gpsk_selected, none_selected, peer_foreign_of}
+use Rattle.method_laws.specs.ByMethod.{psk_peer_succeeded, psk_selected}
+use Rattle.method_laws.specs.Both.{PeerHasBoth}
+use Rattle.method_laws.proofs.PeerObjects.{is_named, is_one}
+use Rattle.method_laws.specs.GpskPeerInvariant.{GpskPeerTags, gpsk_unset, gpsk_fresh}
+use Rattle.method_laws.specs.PskPeerInvariant.{PskPeerTags, psk_unset, psk_fresh}
+use Rattle.method_laws.specs.Records.{AreFew, IsIn}
 use Rattle.eap_method.specs.BothPeers.{IsOne, is_psk, is_gpsk, psk_in, gpsk_in, psk_shown}
 use Rattle.eap_method.specs.BothPeers.{gpsk_shown}
-use Rattle.world_laws.specs.SingleSteps.{identifier_of}
-use Rattle.world_laws.proofs.GpskPeerTurns.{gpsk_few, gpsk_from_sender, gpsk_method, gpsk_none}
-use Rattle.world_laws.proofs.GpskPeerTurns.{gpsk_responds, gpsk_turned}
-use Rattle.world_laws.proofs.Receiving.{Receives, as_before}
-use Rattle.world_laws.proofs.OneMethod.{apart}
-use Rattle.world_laws.proofs.PeerTurns.{Answers, Turned, carried, discards_none, drops}
-use Rattle.world_laws.proofs.PskPeerTurns.{psk_few, psk_from_sender, psk_method, psk_none}
-use Rattle.world_laws.proofs.PskPeerTurns.{psk_responds, psk_turned}
+use Rattle.method_laws.proofs.GpskPeerTurns.{gpsk_few, gpsk_from_sender, gpsk_method, gpsk_none}
+use Rattle.method_laws.proofs.GpskPeerTurns.{gpsk_responds, gpsk_turned}
+use Rattle.method_laws.proofs.Receiving.{Receives, as_before}
+use Rattle.method_laws.proofs.PeerTurns.{Answers, Turned, carried, discards_none, drops}
+use Rattle.method_laws.proofs.PskPeerTurns.{psk_few, psk_from_sender, psk_method, psk_none}
+use Rattle.method_laws.proofs.PskPeerTurns.{psk_responds, psk_turned}
 
 pub kinds_apart : {A : Type 0} (k : ℕ) → k ≡ psk_kind → k ≡ gpsk_kind → A
 kinds_apart k at_psk at_gpsk = absurd (omega (arith, at_psk, at_gpsk))
@@ -88,7 +84,7 @@ module _ (kind : ℕ) (views : PeerViews) (octets : List ℕ) where
 -- each Response has the Identifier of the Request
 pub turn_answers : (kind : ℕ) (views : PeerViews) (octets : List ℕ) (out : PeerOutcome PeerViews)
     → TurnOf kind views octets out
-    → Answers (identifier_of octets) out.turn
+    → Answers (id_of octets) out.turn
 turn_answers kind views octets _ (of_psk same out row) = psk_responds (psk_in views) octets out row
 turn_answers kind views octets _ (of_gpsk same out row) =
     gpsk_responds (gpsk_in views) octets out row
@@ -218,43 +214,36 @@ created_by_gpsk setup selected views _ _ t (psk_selected accepted made is_select
 created_by_gpsk setup selected views _ _ t (gpsk_selected accepted made is_selected told) is same =
     (is_selected, told)
 
--- a method is called only where no other is selected
-alone : {selects : Bool} (now : PeerNow) (kind called other : ℕ) → Calls now kind selects
-    → kind ≡ called → (called == other) ≡ false
-    → now.vars.selected ≡ Some other → ⊥
-alone now kind called other (first unselected allowed) same differ is_other = cc
-alone now kind called other (again is_selected undone) same differ is_other =
-    apart now.vars.selected called other differ (is_selected ∙ ap (λ (k : ℕ). Some k) same) is_other
-
 -- the method of this Type has its turn
 abbrev pub MethodTurned : PeerSetup → List TagRecord → List TagRecord → ℕ
     → PeerOutcome PeerViews → Type 0
 MethodTurned setup accepted made kind out =
     Turned PeerViews (PeerTags setup (Some kind)) (PeerHasSucceeded (Some kind)) accepted made out
 
-pub method_turned : (setup : PeerSetup) (now : PeerNow) (accepted made : List TagRecord)
-    → PeerTags setup now.vars.selected now.views accepted made
-    → (selects : Bool) (kind : ℕ) (octets : List ℕ) (out : PeerOutcome PeerViews)
-    → Calls now kind selects → TurnOf kind now.views octets out
+-- a method has its turn only where no other is selected
+pub method_turned : (setup : PeerSetup) (selected : Option ℕ) (views : PeerViews)
+    (accepted made : List TagRecord) → PeerTags setup selected views accepted made
+    → (kind : ℕ) (octets : List ℕ) (out : PeerOutcome PeerViews)
+    → ((other : ℕ) → selected ≡ Some other → kind ≡ other) → TurnOf kind views octets out
     → MethodTurned setup accepted made kind out
-method_turned setup now accepted made tags selects kind octets _ calls (of_psk same out row) =
+method_turned setup selected views accepted made tags kind octets _ alone (of_psk same out row) =
     let is : Some kind ≡ Some psk_kind = ap (λ (k : ℕ). Some k) same in
-    carried (λ (view : psk.View). put psk_kind (shown.psk view) now.views)
+    carried (λ (view : psk.View). put psk_kind (shown.psk view) views)
     (λ view a m told. psk_selected a m is told)
     (λ view well. psk_peer_succeeded well.0 is well.1) out
-    (psk_turned setup octets accepted made (psk_in now.views) out
-    (reported_by_psk setup now.vars.selected now.views accepted made
-    (alone now kind psk_kind gpsk_kind calls same refl) tags) row)
-method_turned setup now accepted made tags selects kind octets _ calls (of_gpsk same out row) =
+    (psk_turned setup octets accepted made (psk_in views) out
+    (reported_by_psk setup selected views accepted made
+    (λ e. kinds_apart kind same (alone gpsk_kind e)) tags) row)
+method_turned setup selected views accepted made tags kind octets _ alone (of_gpsk same out row) =
     let is : Some kind ≡ Some gpsk_kind = ap (λ (k : ℕ). Some k) same in
-    carried (λ (view : gpsk.View). put gpsk_kind (shown.gpsk view) now.views)
+    carried (λ (view : gpsk.View). put gpsk_kind (shown.gpsk view) views)
     (λ view a m told. gpsk_selected a m is told)
     (λ view well. gpsk_peer_succeeded well.0 is well.1) out
-    (gpsk_turned setup octets accepted made (gpsk_in now.views) out
-    (reported_by_gpsk setup now.vars.selected now.views accepted made
-    (alone now kind gpsk_kind psk_kind calls same refl) tags) row)
-method_turned setup now accepted made tags selects kind octets _ calls (of_none c) =
-    drops now.views c
+    (gpsk_turned setup octets accepted made (gpsk_in views) out
+    (reported_by_gpsk setup selected views accepted made
+    (λ e. kinds_apart kind (alone psk_kind e) same) tags) row)
+method_turned setup selected views accepted made tags kind octets _ alone (of_none c) =
+    drops views c
 
 pub tags_few : (setup : PeerSetup) (selected : Option ℕ) (views : PeerViews)
     (accepted made : List TagRecord)

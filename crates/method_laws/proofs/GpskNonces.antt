@@ -8,8 +8,8 @@ use Rattle.gpsk_messages.specs.Reading.{exact_at, sized_at, identity_at, gpsk1_a
 use Rattle.gpsk_messages.specs.Reading.{gpsk3_at, gpsk4_at, fail_at, protected_fail_at, fields_at}
 use Rattle.gpsk_messages.specs.Reading.{with_mac, accepts_mac, loose_of, read_of}
 use Rattle.gpsk_messages.proofs.FieldLaws.{step_of}
-use Rattle.world_laws.proofs.GpskFields.{judged_loose, tested}
-use Rattle.world_laws.proofs.Occurrence.{Occurrence, one_more}
+use Rattle.method_laws.proofs.GpskFields.{judged_loose, tested}
+use Rattle.method_laws.proofs.Occurrence.{Occurrence, one_more}
 
 record EndsWith (whole rest : List ℕ) : Type 0 where
   pub before : List ℕ

@@ -19,7 +19,7 @@ use Rattle.tag_book.specs.declared.book.Use.TheVariants.{Accepted, Made}
 use Rattle.tag_book.specs.declared.book.Entry.{Entry}
 use Rattle.tag_book.specs.declared.book.RecordOwner.{RecordOwner}
 use Rattle.tag_book.specs.declared.book.RecordOwner.TheVariants.{Either}
-use Rattle.world_laws.specs.Records.{same_use, tags_by, IsIn, here, later, AreInEither}
+use Rattle.method_laws.specs.Records.{same_use, tags_by, IsIn, here, later, AreInEither}
 
 -- ---- the lists of a longer book
 

@@ -1,11 +1,7 @@
 -- Octets that stand in others, one after the other.
-use Rattle.std.proofs.Common.{◌≡◌, ℕ, List, [], ◌∷◌, ◌++◌, length, take, drop, true, refl, sym, ap}
-use Rattle.std.proofs.Common.{◌∙◌, append_assoc, append-nil, take_at}
-use Rattle.std.proofs.lemmas.Bool.{or_left, or_right}
+use Rattle.std.proofs.Common.{◌≡◌, ℕ, List, [], ◌∷◌, ◌++◌, take, drop, refl, sym, ap, ◌∙◌}
+use Rattle.std.proofs.Common.{append_assoc, append-nil}
 use Rattle.std.proofs.lemmas.List.{take-append-drop}
-use Rattle.std.proofs.lemmas.Slice.Eq.{bytes_eq-Decides}
-use Rattle.std.specs.Str.{bytes_eq}
-use Rattle.eap_world.specs.Conversations.{occurs_in}
 
 pub record Occurrence (part whole : List ℕ) : Type 0 where
   pub before : List ℕ
@@ -60,23 +56,3 @@ trailing_of n m octets = record {
 pub one_more : (x : ℕ) (part whole : List ℕ) → Occurrence part whole → Occurrence part (x ∷ whole)
 one_more x part whole s =
     record { before = x ∷ s.before; after = s.after; joined = ap (λ (l : List ℕ). x ∷ l) s.joined }
-
-here : (part after : List ℕ) → occurs_in part (part ++ after) ≡ true
-unfolding occurs_in
-here [] [] = refl
-here [] (x ∷ after) = refl
-here (p ∷ part) after =
-    or_left (bytes_eq (take (length (p ∷ part)) (p ∷ (part ++ after))) (p ∷ part))
-    (occurs_in (p ∷ part) (part ++ after)) ((bytes_eq-Decides (take (length (p ∷ part))
-    (p ∷ (part ++ after))) (p ∷ part)).1 (take_at (p ∷ part) after (length (p ∷ part)) refl))
-
-there : (before part after : List ℕ) → occurs_in part (before ++ (part ++ after)) ≡ true
-unfolding occurs_in
-there [] part after = here part after
-there (b ∷ before) part after =
-    or_right (bytes_eq (take (length part) (b ∷ (before ++ (part ++ after)))) part)
-    (occurs_in part (before ++ (part ++ after))) (there before part after)
-
-pub occurs_if : (part whole : List ℕ) → Occurrence part whole → occurs_in part whole ≡ true
-occurs_if part whole s =
-    ap (λ (l : List ℕ). occurs_in part l) s.joined ∙ there s.before part s.after

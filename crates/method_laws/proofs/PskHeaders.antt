@@ -13,7 +13,7 @@ use Rattle.psk_messages.specs.Reading.{read_of}
 use Rattle.eap_method.specs.PskPeer as psk
 use Rattle.eap_method.specs.PskTags.{channel_nonce, channel_octets, header_of}
 use Rattle.eap_method.specs.Turns.{body_of}
-use Rattle.world_laws.proofs.Fields.{ends, fronts}
+use Rattle.method_laws.proofs.Fields.{ends, fronts}
 
 -- RAND_S of PSK-4 are the first sixteen of these octets
 record StartsAt (octets : List ℕ) (message : Message) : Type 0 where

@@ -5,21 +5,20 @@ use Rattle.login_setup.specs.Setup.{ServerSetup}
 use Rattle.eap_packet.specs.Fault.{code_of}
 use Rattle.eap_packet.specs.Packet.{request, spelled}
 use Rattle.eap_packet.specs.declared.cause.Cause.{Cause}
-use Rattle.world_laws.specs.ServerInvariant.{ServerHasBoth}
+use Rattle.method_laws.specs.Both.{ServerHasBoth}
 use Rattle.eap_method.specs.declared.tags.TagRecord.{TagRecord}
 use Rattle.eap_method.specs.Server.{Offer, ServerViews}
 use Rattle.eap_method.specs.ServerTurn.{ServerTurn}
 use Rattle.eap_method.specs.ServerTurn as turn
 use Rattle.eap_method.specs.Tags.{Tags}
-use Rattle.eap_method.specs.Turns.{ServerOutcome, dropped}
-use Rattle.world_laws.specs.ByMethod.{ServerTags}
-use Rattle.world_laws.specs.SingleSteps.{identifier_of}
+use Rattle.eap_method.specs.Turns.{ServerOutcome, dropped, id_of}
+use Rattle.method_laws.specs.ByMethod.{ServerTags}
 
 -- ---- a Request with an Identifier
 
 pub record IsRequest (id : ℕ) (packet : List ℕ) : Type 0 where
   pub code : code_of packet ≡ 1
-  pub same : identifier_of packet ≡ id
+  pub same : id_of packet ≡ id
 
 pub request_is : (id kind : ℕ) (body : List ℕ) → IsRequest id (spelled (request id kind body))
 unfolding spelled

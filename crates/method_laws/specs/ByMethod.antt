@@ -14,10 +14,10 @@ use Rattle.eap_method.specs.PskPeer as psk_peer
 use Rattle.eap_method.specs.PskServer as psk_server
 use Rattle.eap_method.specs.Peer.{PeerViews}
 use Rattle.eap_method.specs.Server.{ServerViews}
-use Rattle.world_laws.specs.GpskPeerInvariant.{GpskPeerTags, gpsk_peer_login, gpsk_rand_s}
-use Rattle.world_laws.specs.GpskServerInvariant.{GpskServerTags, gpsk_rand_p_in, gpsk_server_login}
-use Rattle.world_laws.specs.PskPeerInvariant.{PskPeerTags, psk_peer_login, psk_rand_s}
-use Rattle.world_laws.specs.PskServerInvariant.{PskServerTags, psk_rand_p_in, psk_server_login}
+use Rattle.method_laws.specs.GpskPeerInvariant.{GpskPeerTags, gpsk_peer_login, gpsk_rand_s}
+use Rattle.method_laws.specs.GpskServerInvariant.{GpskServerTags, gpsk_rand_p_in, gpsk_server_login}
+use Rattle.method_laws.specs.PskPeerInvariant.{PskPeerTags, psk_peer_login, psk_rand_s}
+use Rattle.method_laws.specs.PskServerInvariant.{PskServerTags, psk_rand_p_in, psk_server_login}
 use Rattle.eap_method.specs.BothPeers.{psk_in}
 use Rattle.eap_method.specs.BothPeers.{gpsk_in}
 

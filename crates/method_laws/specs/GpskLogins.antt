@@ -11,8 +11,8 @@ use Rattle.eap_method.specs.declared.values.Report.{Report}
 use Rattle.eap_method.specs.GpskTags.{suite_list}
 use Rattle.eap_method.specs.Peer.{PeerViews}
 use Rattle.eap_method.specs.Server.{ServerViews}
-use Rattle.world_laws.specs.GpskPeerInvariant.{gpsk_whole_rand_s}
-use Rattle.world_laws.specs.GpskServerInvariant.{gpsk_whole_rand_p_in}
+use Rattle.method_laws.specs.GpskPeerInvariant.{gpsk_whole_rand_s}
+use Rattle.method_laws.specs.GpskServerInvariant.{gpsk_whole_rand_p_in}
 use Rattle.eap_method.specs.BothPeers.{gpsk_in}
 
 -- the peer, with these views and this nonce, and the server have the whole of each other's nonces

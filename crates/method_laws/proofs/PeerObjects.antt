@@ -9,10 +9,10 @@ use Rattle.eap_method.specs.BothPeers.{IsOne, both_of, is_gpsk, is_psk}
 use Rattle.eap_method.specs.GpskPeer as gpsk_peer
 use Rattle.eap_method.specs.Peer.{Method, PeerShown, PeerViews, View, by_gpsk, by_other, by_psk}
 use Rattle.eap_method.specs.Peer.{gpsk, method_of, peer_started_in, peer_turn, psk, put, turned}
-use Rattle.eap_method.specs.Peer.{views_started}
+use Rattle.eap_method.specs.Peer.{peer_kind, views_started}
 use Rattle.eap_method.specs.PskPeer as psk_peer
 use Rattle.eap_method.proofs.PeerViews.{started_method, step_method}
-use Rattle.world_laws.specs.PeerInvariant.{PeerHasBoth}
+use Rattle.method_laws.specs.Both.{PeerHasBoth}
 
 -- what it begins with is so
 pub both_are : (methods : List ℕ) → PeerHasBoth methods (both_of methods)
@@ -33,6 +33,10 @@ by_tests kind true false true (by_other custom) view e of_psk of_gpsk = absurd c
 by_tests kind true false false m view e of_psk of_gpsk = absurd cc
 by_tests kind false at_psk at_gpsk m view e of_psk of_gpsk = absurd cc
 
+kind_is : (kind : ℕ) (s : PeerShown) → IsOne kind s → peer_kind s ≡ kind
+kind_is kind _ (is_psk same view) = sym same
+kind_is kind _ (is_gpsk same view) = sym same
+
 named_by : (named : Bool) (found : Option PeerShown) (m : Method)
     → Some m ≡ option_map method_of (if named then found else None) → named ≡ true
 named_by true found m e = refl
@@ -48,6 +52,12 @@ module _ {methods : List ℕ} {views : PeerViews} (both : PeerHasBoth methods vi
   pub is_named : (kind : ℕ) (s : PeerShown) → views kind ≡ Some s → is_among methods kind ≡ true
   is_named kind s is = named_by (is_among methods kind) _ s.method
       (sym (ap (option_map method_of) is) ∙ both.same kind)
+
+  -- so each is of a method that the peer allows
+  pub are_allowed : (kind : ℕ) (s : PeerShown) → views kind ≡ Some s
+      → is_among methods (peer_kind s) ≡ true
+  are_allowed kind s is =
+      ap (is_among methods) (kind_is kind s (is_one kind s is)) ∙ is_named kind s is
 
   put_both : (kind : ℕ) (s after : PeerShown) → views kind ≡ Some s → method_of after ≡ method_of s
       → PeerHasBoth methods (put kind after views)

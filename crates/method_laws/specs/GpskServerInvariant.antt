@@ -12,7 +12,7 @@ use Rattle.eap_method.specs.declared.values.Report.{Report}
 use Rattle.eap_method.specs.GpskServer as gpsk
 use Rattle.eap_method.specs.GpskTags.{sk_record, suite_list, message_with_mac}
 use Rattle.eap_method.specs.Server.{side_of}
-use Rattle.world_laws.specs.GpskPeerInvariant.{front_in}
+use Rattle.method_laws.specs.GpskPeerInvariant.{front_in}
 
 -- the whole of RAND_Peer, and its prefix
 abbrev pub gpsk_whole_rand_p : gpsk.View → Option (List ℕ)

@@ -1,6 +1,6 @@
 -- What an end holds of the other's nonce after a call: what it held before, or what came in it.
 use Rattle.std.proofs.Common.{◌≡◌, List, ℕ, Option, Some, refl, subst}
-use Rattle.world_laws.proofs.Occurrence.{Occurrence, within}
+use Rattle.method_laws.proofs.Occurrence.{Occurrence, within}
 
 pub data Receives (came : Option (List ℕ)) (before after : Option (List ℕ)) : Type 0 where
   as_before : (same : after ≡ before) → Receives came before after

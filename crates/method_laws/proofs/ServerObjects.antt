@@ -15,7 +15,7 @@ use Rattle.eap_method.specs.Server.{server_started_in, server_turn, started_serv
 use Rattle.eap_method.specs.Server.{views_started}
 use Rattle.eap_method.specs.PskServer as psk_server
 use Rattle.eap_method.proofs.ServerViews.{started_method, first_method, step_method}
-use Rattle.world_laws.specs.ServerInvariant.{ServerHasBoth}
+use Rattle.method_laws.specs.Both.{ServerHasBoth}
 
 -- what it begins with is so
 pub both_are : (methods : List ℕ) → ServerHasBoth methods (both_of methods)

@@ -8,7 +8,7 @@ use Rattle.eap_packet.specs.declared.cause.Cause.TheVariants.{PskShape}
 use Rattle.psk_messages.specs.Message.{Message, psk1, psk2, psk3, psk4}
 use Rattle.psk_messages.specs.Reading.{is_size, psk1_at, psk2_at, psk3_at, psk4_at, message_at}
 use Rattle.psk_messages.specs.Reading.{read_of}
-use Rattle.world_laws.proofs.Occurrence.{Occurrence, part_of, trailing_of, one_more}
+use Rattle.method_laws.proofs.Occurrence.{Occurrence, part_of, trailing_of, one_more}
 
 abbrev pub OccursInMessage : List ℕ → Message → Type 0
 OccursInMessage octets (psk1 rand_s id_s) = Occurrence rand_s octets

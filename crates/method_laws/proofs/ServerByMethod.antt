@@ -6,7 +6,6 @@ use Rattle.login_setup.specs.Setup.{ServerSetup}
 use Rattle.login_setup.specs.declared.users.User.{User}
 use Rattle.octet_lists.specs.Among.{psk_kind, gpsk_kind, is_among, identity_kind}
 use Rattle.eap_packet.specs.declared.cause.Cause.{Cause}
-use Rattle.login_policy.proofs.Choices.{next_is_ordered}
 use Rattle.eap_method.specs.BothServers.{IsOne, gpsk_at, gpsk_shown, is_gpsk, is_psk, psk_at}
 use Rattle.eap_method.specs.BothServers.{psk_shown}
 use Rattle.eap_method.specs.declared.tags.TagRecord.{TagRecord}
@@ -22,28 +21,27 @@ use Rattle.method_laws.specs.GpskServerRows.{GpskServerRow}
 use Rattle.method_laws.specs.PskServerRows.{PskServerRow}
 use Rattle.method_laws.proofs.GpskServerCases.{gpsk_server_steps_are_rows}
 use Rattle.method_laws.proofs.PskServerCases.{psk_server_steps_are_rows}
-use Rattle.server_machine.specs.Rows.{Proposes}
-use Rattle.server_machine.specs.ServerTable.{ServerNow, next_id}
-use Rattle.server_machine.specs.Variables.{ServerVariables}
-use Rattle.world_laws.specs.ByMethod.{ServerHasSucceeded, ServerTags, gpsk_current}
-use Rattle.world_laws.specs.ByMethod.{gpsk_server_succeeded, identity_current, none_current}
-use Rattle.world_laws.specs.ByMethod.{psk_current, psk_server_succeeded, server_foreign}
-use Rattle.world_laws.specs.ByMethod.{server_foreign_of}
-use Rattle.world_laws.specs.ServerInvariant.{ServerHasBoth}
-use Rattle.world_laws.proofs.ServerObjects.{both_offered, is_one}
-use Rattle.world_laws.specs.GpskServerInvariant.{GpskServerTags, gpsk_asked, gpsk_rand_p}
-use Rattle.world_laws.specs.GpskServerInvariant.{gpsk_rand_p_in}
-use Rattle.world_laws.specs.PskServerInvariant.{PskServerTags, psk_asked, psk_rand_p, psk_rand_p_in}
-use Rattle.world_laws.specs.Records.{AreFew, AreNone, IsIn, untagged}
-use Rattle.world_laws.proofs.GpskServerTurns.{gpsk_asks, gpsk_few, gpsk_first, gpsk_from_sender}
-use Rattle.world_laws.proofs.GpskServerTurns.{gpsk_method, gpsk_none, gpsk_turned}
-use Rattle.world_laws.proofs.Receiving.{Receives, as_before}
-use Rattle.world_laws.proofs.OneMethod.{apart}
-use Rattle.world_laws.proofs.PeerByMethod.{kinds_apart}
-use Rattle.world_laws.proofs.PskServerTurns.{psk_asks, psk_few, psk_first, psk_from_sender}
-use Rattle.world_laws.proofs.PskServerTurns.{psk_method, psk_none, psk_turned}
-use Rattle.world_laws.proofs.ServerTurns.{Asks, IsRequest, Offers, Turned, asks, asks_none, carried}
-use Rattle.world_laws.proofs.ServerTurns.{drops, lacks}
+use Rattle.method_laws.specs.ByMethod.{ServerHasSucceeded, ServerTags, gpsk_current}
+use Rattle.method_laws.specs.ByMethod.{gpsk_server_succeeded, identity_current, none_current}
+use Rattle.method_laws.specs.ByMethod.{psk_current, psk_server_succeeded, server_foreign}
+use Rattle.method_laws.specs.ByMethod.{server_foreign_of}
+use Rattle.method_laws.specs.Both.{ServerHasBoth}
+use Rattle.method_laws.proofs.ServerObjects.{is_one}
+use Rattle.method_laws.specs.GpskServerInvariant.{GpskServerTags, gpsk_asked, gpsk_rand_p}
+use Rattle.method_laws.specs.GpskServerInvariant.{gpsk_rand_p_in}
+use Rattle.method_laws.specs.PskServerInvariant.{PskServerTags, psk_asked, psk_rand_p}
+use Rattle.method_laws.specs.PskServerInvariant.{psk_rand_p_in}
+use Rattle.method_laws.specs.Records.{AreFew, AreNone, IsIn, untagged}
+use Rattle.method_laws.proofs.GpskServerTurns.{gpsk_asks, gpsk_few, gpsk_first, gpsk_from_sender}
+use Rattle.method_laws.proofs.GpskServerTurns.{gpsk_method, gpsk_none, gpsk_turned}
+use Rattle.method_laws.proofs.Receiving.{Receives, as_before}
+use Rattle.method_laws.proofs.OneMethod.{apart}
+use Rattle.method_laws.proofs.PeerByMethod.{kinds_apart}
+use Rattle.method_laws.proofs.PskServerTurns.{psk_asks, psk_few, psk_first, psk_from_sender}
+use Rattle.method_laws.proofs.PskServerTurns.{psk_method, psk_none, psk_turned}
+use Rattle.method_laws.proofs.ServerTurns.{Asks, IsRequest, Offers, Turned, asks, asks_none}
+use Rattle.method_laws.proofs.ServerTurns.{carried}
+use Rattle.method_laws.proofs.ServerTurns.{drops, lacks}
 
 -- ---- the turn of a Type
 
@@ -307,7 +305,7 @@ module _ (own : ServerSide) (nonce : List ℕ) (kind id : ℕ) (views : ServerVi
       subst (IsRequest id) is (gpsk_first own nonce id)
   offer_asks _ by_none packet e = cc e
 
-offers_so : (setup : ServerSetup) (kind id : ℕ) (views : ServerViews)
+pub offers_so : (setup : ServerSetup) (kind id : ℕ) (views : ServerViews)
     → is_among setup.methods kind ≡ true → (offer : Offer)
     → ServerHasBoth setup.methods offer.after
     → OfferOf (side_of setup) setup.nonce kind id views offer → Offers setup kind views offer
@@ -318,20 +316,3 @@ offers_so setup kind id views ordered _ both (by_gpsk same) =
     asks _ _ both (gpsk_current _ _ _ (ap (λ (k : ℕ). Some k) same) refl
     (gpsk_asked (subst (λ (k : ℕ). is_among setup.methods k ≡ true) same ordered)))
 offers_so setup kind id views ordered _ both by_none = lacks
-
-pub proposes_own : (setup : ServerSetup) (now : ServerNow) → ServerHasBoth setup.methods now.views
-    → (vars : ServerVariables) (desired : Option (List ℕ)) (kind : ℕ)
-    (offer : Offer) → vars.setup ≡ setup → Proposes now vars desired kind offer
-    → Offers setup kind now.views offer
-proposes_own setup now both vars desired kind offer own next =
-    let set : ServerHasBoth vars.setup.methods now.views =
-    subst (λ (s : ServerSetup). ServerHasBoth s.methods now.views) (sym own) both in
-    let side = side_of vars.setup in
-    let nonce = vars.setup.nonce in
-    let id = next_id vars in
-    subst (λ (s : ServerSetup). Offers s kind now.views offer) own
-    (offers_so vars.setup kind id now.views
-    (next_is_ordered vars.setup.methods vars.proposed desired kind next.is_next) offer
-    (subst (λ (o : Offer). ServerHasBoth vars.setup.methods o.after) next.is_offer
-    (both_offered set side nonce kind id)) (subst (OfferOf side nonce kind id now.views)
-    next.is_offer (offer_of side nonce kind id now.views set)))
