@@ -74,3 +74,9 @@ pub mod PeerHistories
 -- What the history of a peer's method tells, by one induction over all methods: by EAP-PSK and
 -- EAP-GPSK its tags, and of a decision other than FAIL a success.
 pub mod PeerTells
+-- A server's object that has made its first Request, has made one more or has ended, has a history,
+-- whatever its method.
+pub mod ServerHistories
+-- What the history of a server's method tells, by one induction over all methods: by EAP-PSK and
+-- EAP-GPSK its tags, and of a good end a success.
+pub mod ServerTells

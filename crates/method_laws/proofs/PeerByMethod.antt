@@ -1,10 +1,10 @@
 -- The peer by the method of a Type: what holds of the turns, the nonce and the tags of each method
 -- holds of a Type's.
-use Rattle.std.proofs.Common.{◌≡◌, ℕ, List, [], Bool, true, false, ◌||◌, Option, Some, None, refl}
+use Rattle.std.proofs.Common.{◌≡◌, ℕ, List, Bool, true, false, ◌||◌, Option, Some, None, refl}
 use Rattle.std.proofs.Common.{sym, ap, subst, ◌∙◌, arith}
-use Rattle.std.specs.Prelude.{◌==◌, option_map}
+use Rattle.std.specs.Prelude.{◌==◌}
 use Rattle.login_setup.specs.declared.setup.PeerSetup.{PeerSetup}
-use Rattle.octet_lists.specs.Among.{psk_kind, gpsk_kind, is_among, is_kind}
+use Rattle.octet_lists.specs.Among.{psk_kind, gpsk_kind, is_kind}
 use Rattle.eap_packet.specs.declared.cause.Cause.{Cause}
 use Rattle.eap_method.specs.declared.tags.TagRecord.{TagRecord}
 use Rattle.eap_method.specs.GpskPeer as gpsk
@@ -17,22 +17,22 @@ use Rattle.method_laws.specs.GpskPeerRows.{GpskPeerRow}
 use Rattle.method_laws.specs.PskPeerRows.{PskPeerRow}
 use Rattle.method_laws.proofs.GpskPeerCases.{gpsk_peer_steps_are_rows}
 use Rattle.method_laws.proofs.PskPeerCases.{psk_peer_steps_are_rows}
-use Rattle.method_laws.specs.ByMethod.{PeerHasSucceeded, PeerTags, by_kind, gpsk_peer_succeeded}
+use Rattle.method_laws.specs.ByMethod.{PeerTags, by_kind}
 use Rattle.method_laws.specs.ByMethod.{gpsk_selected, none_selected, peer_foreign_of}
-use Rattle.method_laws.specs.ByMethod.{psk_peer_succeeded, psk_selected}
+use Rattle.method_laws.specs.ByMethod.{psk_selected}
 use Rattle.method_laws.specs.Both.{PeerHasBoth}
-use Rattle.method_laws.proofs.PeerObjects.{is_named, is_one}
-use Rattle.method_laws.specs.GpskPeerInvariant.{GpskPeerTags, gpsk_unset, gpsk_fresh}
-use Rattle.method_laws.specs.PskPeerInvariant.{PskPeerTags, psk_unset, psk_fresh}
+use Rattle.method_laws.proofs.PeerObjects.{is_one}
+use Rattle.method_laws.specs.GpskPeerInvariant.{GpskPeerTags}
+use Rattle.method_laws.specs.PskPeerInvariant.{PskPeerTags}
 use Rattle.method_laws.specs.Records.{AreFew, IsIn}
 use Rattle.eap_method.specs.BothPeers.{IsOne, is_psk, is_gpsk, psk_in, gpsk_in, psk_shown}
 use Rattle.eap_method.specs.BothPeers.{gpsk_shown}
 use Rattle.method_laws.proofs.GpskPeerTurns.{gpsk_few, gpsk_from_sender, gpsk_method, gpsk_none}
-use Rattle.method_laws.proofs.GpskPeerTurns.{gpsk_responds, gpsk_turned}
+use Rattle.method_laws.proofs.GpskPeerTurns.{gpsk_responds}
 use Rattle.method_laws.proofs.Receiving.{Receives, as_before}
-use Rattle.method_laws.proofs.PeerTurns.{Answers, Turned, carried, discards_none, drops}
+use Rattle.method_laws.proofs.PeerTurns.{Answers, discards_none}
 use Rattle.method_laws.proofs.PskPeerTurns.{psk_few, psk_from_sender, psk_method, psk_none}
-use Rattle.method_laws.proofs.PskPeerTurns.{psk_responds, psk_turned}
+use Rattle.method_laws.proofs.PskPeerTurns.{psk_responds}
 
 pub kinds_apart : {A : Type 0} (k : ℕ) → k ≡ psk_kind → k ≡ gpsk_kind → A
 kinds_apart k at_psk at_gpsk = absurd (omega (arith, at_psk, at_gpsk))
@@ -137,40 +137,6 @@ unselected_none setup selected views _ _ kind (gpsk_selected accepted made is_se
 
 -- ---- the tags
 
-psk_started_at : (setup : PeerSetup) (found : Option PeerShown)
-    → ((s : PeerShown) → found ≡ Some s → IsOne psk_kind s)
-    → ((s : PeerShown) → found ≡ Some s → is_among setup.methods psk_kind ≡ true)
-    → PskPeerTags setup (psk_shown (option_map (peer_started_in setup) found)) [] []
-unfolding peer_started_in
-psk_started_at setup None one named = psk_unset
-psk_started_at setup (Some s) one named = of_psk s (one s refl) (named s refl)
-  where
-    of_psk : (s : PeerShown) → IsOne psk_kind s → is_among setup.methods psk_kind ≡ true
-        → PskPeerTags setup (psk_shown (Some (peer_started_in setup s))) [] []
-    of_psk _ (is_psk same view) allowed = rw allowed (psk_fresh allowed)
-    of_psk _ (is_gpsk same view) allowed = absurd (omega (arith, same))
-
-gpsk_started_at : (setup : PeerSetup) (found : Option PeerShown)
-    → ((s : PeerShown) → found ≡ Some s → IsOne gpsk_kind s)
-    → ((s : PeerShown) → found ≡ Some s → is_among setup.methods gpsk_kind ≡ true)
-    → GpskPeerTags setup (gpsk_shown (option_map (peer_started_in setup) found)) [] []
-unfolding peer_started_in
-gpsk_started_at setup None one named = gpsk_unset
-gpsk_started_at setup (Some s) one named = of_gpsk s (one s refl) (named s refl)
-  where
-    of_gpsk : (s : PeerShown) → IsOne gpsk_kind s → is_among setup.methods gpsk_kind ≡ true
-        → GpskPeerTags setup (gpsk_shown (Some (peer_started_in setup s))) [] []
-    of_gpsk _ (is_psk same view) allowed = absurd (omega (arith, same))
-    of_gpsk _ (is_gpsk same view) allowed = rw allowed (gpsk_fresh allowed)
-
-pub started_tags : (setup : PeerSetup) (views : PeerViews) → PeerHasBoth setup.methods views
-    → PeerTags setup None (views_started setup views) [] []
-unfolding views_started
-started_tags setup views both =
-    none_selected refl
-    (psk_started_at setup (views psk_kind) (is_one both psk_kind) (is_named both psk_kind))
-    (gpsk_started_at setup (views gpsk_kind) (is_one both gpsk_kind) (is_named both gpsk_kind))
-
 -- what the method that isn't excluded tells
 pub reported_by_psk : (setup : PeerSetup) (selected : Option ℕ) (views : PeerViews)
     (accepted made : List TagRecord) → (selected ≡ Some gpsk_kind → ⊥)
@@ -213,37 +179,6 @@ created_by_gpsk setup selected views _ _ t (psk_selected accepted made is_select
     kinds_apart t.method (psk_method setup (psk_in views) accepted made t told is) same
 created_by_gpsk setup selected views _ _ t (gpsk_selected accepted made is_selected told) is same =
     (is_selected, told)
-
--- the method of this Type has its turn
-abbrev pub MethodTurned : PeerSetup → List TagRecord → List TagRecord → ℕ
-    → PeerOutcome PeerViews → Type 0
-MethodTurned setup accepted made kind out =
-    Turned PeerViews (PeerTags setup (Some kind)) (PeerHasSucceeded (Some kind)) accepted made out
-
--- a method has its turn only where no other is selected
-pub method_turned : (setup : PeerSetup) (selected : Option ℕ) (views : PeerViews)
-    (accepted made : List TagRecord) → PeerTags setup selected views accepted made
-    → (kind : ℕ) (octets : List ℕ) (out : PeerOutcome PeerViews)
-    → ((other : ℕ) → selected ≡ Some other → kind ≡ other) → TurnOf kind views octets out
-    → MethodTurned setup accepted made kind out
-method_turned setup selected views accepted made tags kind octets _ alone (of_psk same out row) =
-    let is : Some kind ≡ Some psk_kind = ap (λ (k : ℕ). Some k) same in
-    carried (λ (view : psk.View). put psk_kind (shown.psk view) views)
-    (λ view a m told. psk_selected a m is told)
-    (λ view well. psk_peer_succeeded well.0 is well.1) out
-    (psk_turned setup octets accepted made (psk_in views) out
-    (reported_by_psk setup selected views accepted made
-    (λ e. kinds_apart kind same (alone gpsk_kind e)) tags) row)
-method_turned setup selected views accepted made tags kind octets _ alone (of_gpsk same out row) =
-    let is : Some kind ≡ Some gpsk_kind = ap (λ (k : ℕ). Some k) same in
-    carried (λ (view : gpsk.View). put gpsk_kind (shown.gpsk view) views)
-    (λ view a m told. gpsk_selected a m is told)
-    (λ view well. gpsk_peer_succeeded well.0 is well.1) out
-    (gpsk_turned setup octets accepted made (gpsk_in views) out
-    (reported_by_gpsk setup selected views accepted made
-    (λ e. kinds_apart kind (alone psk_kind e) same) tags) row)
-method_turned setup selected views accepted made tags kind octets _ alone (of_none c) =
-    drops views c
 
 pub tags_few : (setup : PeerSetup) (selected : Option ℕ) (views : PeerViews)
     (accepted made : List TagRecord)

@@ -52,18 +52,6 @@ pub data Turned (V : Type 0) (IsResult : V → List TagRecord → List TagRecord
       → Turned V IsResult Succeeds accepted made
       (record { turn = Reply packet m d tags; after = view })
 
--- a turn of one method's view is one of the views that it is in
-pub carried : {V W : Type 0} {IsResult : V → List TagRecord → List TagRecord → Type 0}
-    {Succeeds : V → Type 0} {Shows : W → List TagRecord → List TagRecord → Type 0}
-    {Wins : W → Type 0} {accepted made : List TagRecord} (into : V → W)
-    → ((view : V) (a m : List TagRecord) → IsResult view a m → Shows (into view) a m)
-    → ((view : V) → Succeeds view → Wins (into view))
-    → (out : PeerOutcome V) → Turned V IsResult Succeeds accepted made out
-    → Turned W Shows Wins accepted made (record { turn = out.turn; after = into out.after })
-carried into shows wins _ (drops view c) = drops _ c
-carried into shows wins _ (replies packet m d tags view told decided) =
-    replies packet m d tags _ (shows _ _ _ told) (λ e. wins _ (decided e))
-
 -- where the turn is a Response, so it is
 pub told_by : {V : Type 0} {IsResult : V → List TagRecord → List TagRecord → Type 0}
     {Succeeds : V → Type 0} (accepted made : List TagRecord) (out : PeerOutcome V)

@@ -1,10 +1,10 @@
 -- The server by the method of a Type: what holds of the turns, the offer, the nonce and the tags of
 -- each method holds of a Type's.
-use Rattle.std.proofs.Common.{◌≡◌, ℕ, List, [], true, Option, Some, None, refl, ap, sym, subst, ◌∙◌}
+use Rattle.std.proofs.Common.{◌≡◌, ℕ, List, [], Option, Some, None, refl, ap, sym, subst, ◌∙◌}
 use Rattle.std.proofs.Common.{arith}
 use Rattle.login_setup.specs.Setup.{ServerSetup}
 use Rattle.login_setup.specs.declared.users.User.{User}
-use Rattle.octet_lists.specs.Among.{psk_kind, gpsk_kind, is_among, identity_kind}
+use Rattle.octet_lists.specs.Among.{psk_kind, gpsk_kind, identity_kind}
 use Rattle.eap_packet.specs.declared.cause.Cause.{Cause}
 use Rattle.eap_method.specs.BothServers.{IsOne, gpsk_at, gpsk_shown, is_gpsk, is_psk, psk_at}
 use Rattle.eap_method.specs.BothServers.{psk_shown}
@@ -21,27 +21,25 @@ use Rattle.method_laws.specs.GpskServerRows.{GpskServerRow}
 use Rattle.method_laws.specs.PskServerRows.{PskServerRow}
 use Rattle.method_laws.proofs.GpskServerCases.{gpsk_server_steps_are_rows}
 use Rattle.method_laws.proofs.PskServerCases.{psk_server_steps_are_rows}
-use Rattle.method_laws.specs.ByMethod.{ServerHasSucceeded, ServerTags, gpsk_current}
-use Rattle.method_laws.specs.ByMethod.{gpsk_server_succeeded, identity_current, none_current}
-use Rattle.method_laws.specs.ByMethod.{psk_current, psk_server_succeeded, server_foreign}
+use Rattle.method_laws.specs.ByMethod.{ServerTags, gpsk_current}
+use Rattle.method_laws.specs.ByMethod.{identity_current, none_current}
+use Rattle.method_laws.specs.ByMethod.{psk_current, server_foreign}
 use Rattle.method_laws.specs.ByMethod.{server_foreign_of}
 use Rattle.method_laws.specs.Both.{ServerHasBoth}
 use Rattle.method_laws.proofs.ServerObjects.{is_one}
-use Rattle.method_laws.specs.GpskServerInvariant.{GpskServerTags, gpsk_asked, gpsk_rand_p}
+use Rattle.method_laws.specs.GpskServerInvariant.{GpskServerTags, gpsk_rand_p}
 use Rattle.method_laws.specs.GpskServerInvariant.{gpsk_rand_p_in}
-use Rattle.method_laws.specs.PskServerInvariant.{PskServerTags, psk_asked, psk_rand_p}
+use Rattle.method_laws.specs.PskServerInvariant.{PskServerTags, psk_rand_p}
 use Rattle.method_laws.specs.PskServerInvariant.{psk_rand_p_in}
-use Rattle.method_laws.specs.Records.{AreFew, AreNone, IsIn, untagged}
+use Rattle.method_laws.specs.Records.{AreFew, IsIn}
 use Rattle.method_laws.proofs.GpskServerTurns.{gpsk_asks, gpsk_few, gpsk_first, gpsk_from_sender}
-use Rattle.method_laws.proofs.GpskServerTurns.{gpsk_method, gpsk_none, gpsk_turned}
+use Rattle.method_laws.proofs.GpskServerTurns.{gpsk_method, gpsk_none}
 use Rattle.method_laws.proofs.Receiving.{Receives, as_before}
 use Rattle.method_laws.proofs.OneMethod.{apart}
 use Rattle.method_laws.proofs.PeerByMethod.{kinds_apart}
 use Rattle.method_laws.proofs.PskServerTurns.{psk_asks, psk_few, psk_first, psk_from_sender}
-use Rattle.method_laws.proofs.PskServerTurns.{psk_method, psk_none, psk_turned}
-use Rattle.method_laws.proofs.ServerTurns.{Asks, IsRequest, Offers, Turned, asks, asks_none}
-use Rattle.method_laws.proofs.ServerTurns.{carried}
-use Rattle.method_laws.proofs.ServerTurns.{drops, lacks}
+use Rattle.method_laws.proofs.PskServerTurns.{psk_method, psk_none}
+use Rattle.method_laws.proofs.ServerTurns.{Asks, IsRequest, asks_none}
 
 -- ---- the turn of a Type
 
@@ -145,24 +143,6 @@ module _ (setup : ServerSetup) (current : Option ℕ) (views : ServerViews) wher
       subst (λ (v : gpsk.View). GpskServerTags setup v accepted made)
       (one_view (gpsk_at views) view other at_view in_view) told
 
-  -- the Identity round has no tags
-  pub in_identity : (accepted made : List TagRecord) → current ≡ Some identity_kind
-      → ServerTags setup current views accepted made → AreNone accepted made
-  in_identity _ _ is_identity (none_current none) = untagged
-  in_identity _ _ is_identity (identity_current is_current) = untagged
-  in_identity _ _ is_identity (psk_current view accepted made is_current in_view told) =
-      apart current psk_kind identity_kind refl is_current is_identity
-  in_identity _ _ is_identity (gpsk_current view accepted made is_current in_view told) =
-      apart current gpsk_kind identity_kind refl is_current is_identity
-
-  -- nor has a server without a current method
-  pub in_none : (accepted made : List TagRecord) → current ≡ None
-      → ServerTags setup current views accepted made → AreNone accepted made
-  in_none _ _ none (none_current _) = untagged
-  in_none _ _ none (identity_current is_current) = untagged
-  in_none _ _ none (psk_current view accepted made is_current in_view told) = absurd cc
-  in_none _ _ none (gpsk_current view accepted made is_current in_view told) = absurd cc
-
 -- what the method of a tag tells
 pub record PskCreated (setup : ServerSetup) (current : Option ℕ) (views : ServerViews)
     (accepted made : List TagRecord) : Type 0 where
@@ -227,36 +207,6 @@ tags_few setup current views _ _ (psk_current view accepted made is_current in_v
 tags_few setup current views _ _ (gpsk_current view accepted made is_current in_view told) =
     gpsk_few setup view accepted made told
 
--- the current method has its turn
-abbrev pub MethodTurned : ServerSetup → Option ℕ → List TagRecord → List TagRecord
-    → ServerOutcome ServerViews → Type 0
-MethodTurned setup current accepted made out =
-    Turned ServerViews (ServerTags setup current) (ServerHasSucceeded current) accepted made out
-
-pub method_turned : (setup : ServerSetup) (current : Option ℕ) (views : ServerViews)
-    (accepted made : List TagRecord)
-    → ServerTags setup current views accepted made
-    → (id kind : ℕ) (octets : List ℕ) (out : ServerOutcome ServerViews) → current ≡ Some kind
-    → TurnOf setup.users id kind views octets out → MethodTurned setup current accepted made out
-method_turned setup current views accepted made tags id kind octets _ is_current
-    (of_psk same view at_view out row) =
-    let is : current ≡ Some psk_kind = is_current ∙ ap (λ (k : ℕ). Some k) same in
-    carried (λ (v : psk.View). put psk_kind (shown.psk v) views)
-    (λ v a m told. psk_current v a m is refl told)
-    (λ v well. psk_server_succeeded well.0 is (ap (λ (v : psk.View). Some v) well.1)) out
-    (psk_turned setup id octets accepted made view out
-    (reported_by_psk setup current views view accepted made is at_view tags) row)
-method_turned setup current views accepted made tags id kind octets _ is_current
-    (of_gpsk same view at_view out row) =
-    let is : current ≡ Some gpsk_kind = is_current ∙ ap (λ (k : ℕ). Some k) same in
-    carried (λ (v : gpsk.View). put gpsk_kind (shown.gpsk v) views)
-    (λ v a m told. gpsk_current v a m is refl told)
-    (λ v well. gpsk_server_succeeded well.0 is (ap (λ (v : gpsk.View). Some v) well.1)) out
-    (gpsk_turned setup id octets accepted made view out
-    (reported_by_gpsk setup current views view accepted made is at_view tags) row)
-method_turned setup current views accepted made tags id kind octets _ is_current (of_none c) =
-    drops views c
-
 -- ---- the offer of a Type
 
 -- it is that of its method, if there is an object of it
@@ -304,15 +254,3 @@ module _ (own : ServerSide) (nonce : List ℕ) (kind id : ℕ) (views : ServerVi
   offer_asks _ (by_gpsk same) packet e = let is : gpsk.first own nonce id ≡ packet = cc in
       subst (IsRequest id) is (gpsk_first own nonce id)
   offer_asks _ by_none packet e = cc e
-
-pub offers_so : (setup : ServerSetup) (kind id : ℕ) (views : ServerViews)
-    → is_among setup.methods kind ≡ true → (offer : Offer)
-    → ServerHasBoth setup.methods offer.after
-    → OfferOf (side_of setup) setup.nonce kind id views offer → Offers setup kind views offer
-offers_so setup kind id views ordered _ both (by_psk same) =
-    asks _ _ both (psk_current _ _ _ (ap (λ (k : ℕ). Some k) same) refl
-    (psk_asked (subst (λ (k : ℕ). is_among setup.methods k ≡ true) same ordered)))
-offers_so setup kind id views ordered _ both (by_gpsk same) =
-    asks _ _ both (gpsk_current _ _ _ (ap (λ (k : ℕ). Some k) same) refl
-    (gpsk_asked (subst (λ (k : ℕ). is_among setup.methods k ≡ true) same ordered)))
-offers_so setup kind id views ordered _ both by_none = lacks

@@ -12,7 +12,7 @@ use Rattle.eap_method.specs.GpskServer as gpsk_server
 use Rattle.eap_method.specs.Server.{Method, ServerShown, ServerViews, View, by_gpsk, by_other}
 use Rattle.eap_method.specs.Server.{by_psk, gpsk, method_of, offered, psk, put, server_offer}
 use Rattle.eap_method.specs.Server.{server_started_in, server_turn, started_server, turned}
-use Rattle.eap_method.specs.Server.{views_started}
+use Rattle.eap_method.specs.Server.{server_kind, views_started}
 use Rattle.eap_method.specs.PskServer as psk_server
 use Rattle.eap_method.proofs.ServerViews.{started_method, first_method, step_method}
 use Rattle.method_laws.specs.Both.{ServerHasBoth}
@@ -36,6 +36,10 @@ by_tests kind true false true (by_other custom) view e of_psk of_gpsk = absurd c
 by_tests kind true false false m view e of_psk of_gpsk = absurd cc
 by_tests kind false at_psk at_gpsk m view e of_psk of_gpsk = absurd cc
 
+kind_is : (kind : ℕ) (s : ServerShown) → IsOne kind s → server_kind s ≡ kind
+kind_is kind _ (is_psk same view) = sym same
+kind_is kind _ (is_gpsk same view) = sym same
+
 named_by : (named : Bool) (found : Option ServerShown) (m : Method)
     → Some m ≡ option_map method_of (if named then found else None) → named ≡ true
 named_by true found m e = refl
@@ -51,6 +55,14 @@ module _ {methods : List ℕ} {views : ServerViews} (both : ServerHasBoth method
   pub is_named : (kind : ℕ) (s : ServerShown) → views kind ≡ Some s → is_among methods kind ≡ true
   is_named kind s is = named_by (is_among methods kind) _ s.method
       (sym (ap (option_map method_of) is) ∙ both.same kind)
+
+  pub is_of_kind : (kind : ℕ) (s : ServerShown) → views kind ≡ Some s → server_kind s ≡ kind
+  is_of_kind kind s is = kind_is kind s (is_one kind s is)
+
+  -- so each is of a method that the server proposes
+  pub are_ordered : (kind : ℕ) (s : ServerShown) → views kind ≡ Some s
+      → is_among methods (server_kind s) ≡ true
+  are_ordered kind s is = ap (is_among methods) (is_of_kind kind s is) ∙ is_named kind s is
 
   put_both : (kind : ℕ) (s after : ServerShown) → views kind ≡ Some s
       → method_of after ≡ method_of s → ServerHasBoth methods (put kind after views)
@@ -74,7 +86,7 @@ module _ {methods : List ℕ} {views : ServerViews} (both : ServerHasBoth method
     both_after = after_found (views kind) refl
 
   module _ (own : ServerSide) (nonce : List ℕ) (kind id : ℕ) where
-    offered_found : (found : Option ServerShown) → views kind ≡ found
+    pub offered_found : (found : Option ServerShown) → views kind ≡ found
         → ServerHasBoth methods (offered own nonce kind id views found).after
     offered_found None is = both
     offered_found (Some s) is = put_both kind s _ is (first_method (started_server own nonce s) id)

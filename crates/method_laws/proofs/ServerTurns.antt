@@ -1,18 +1,14 @@
 -- What is asked of a turn of a server's method: each Request has the next Identifier, and the view
 -- after it tells the tags.
-use Rattle.std.proofs.Common.{◌≡◌, ℕ, List, [], ◌++◌, Bool, true, Some, None, refl, subst}
-use Rattle.login_setup.specs.Setup.{ServerSetup}
+use Rattle.std.proofs.Common.{◌≡◌, ℕ, List, ◌++◌, Bool, true, refl, subst}
 use Rattle.eap_packet.specs.Fault.{code_of}
 use Rattle.eap_packet.specs.Packet.{request, spelled}
 use Rattle.eap_packet.specs.declared.cause.Cause.{Cause}
-use Rattle.method_laws.specs.Both.{ServerHasBoth}
 use Rattle.eap_method.specs.declared.tags.TagRecord.{TagRecord}
-use Rattle.eap_method.specs.Server.{Offer, ServerViews}
 use Rattle.eap_method.specs.ServerTurn.{ServerTurn}
 use Rattle.eap_method.specs.ServerTurn as turn
 use Rattle.eap_method.specs.Tags.{Tags}
 use Rattle.eap_method.specs.Turns.{ServerOutcome, dropped, id_of}
-use Rattle.method_laws.specs.ByMethod.{ServerTags}
 
 -- ---- a Request with an Identifier
 
@@ -59,24 +55,30 @@ pub data Turned (V : Type 0) (IsResult : V → List TagRecord → List TagRecord
       → Turned V IsResult Succeeds accepted made
       (record { turn = turn.Done good tags; after = view })
 
--- a turn of one method's view is one of the views that it is in
-pub carried : {V W : Type 0} {IsResult : V → List TagRecord → List TagRecord → Type 0}
-    {Succeeds : V → Type 0} {Shows : W → List TagRecord → List TagRecord → Type 0}
-    {Wins : W → Type 0} {accepted made : List TagRecord} (into : V → W)
-    → ((view : V) (a m : List TagRecord) → IsResult view a m → Shows (into view) a m)
-    → ((view : V) → Succeeds view → Wins (into view))
-    → (out : ServerOutcome V) → Turned V IsResult Succeeds accepted made out
-    → Turned W Shows Wins accepted made (record { turn = out.turn; after = into out.after })
-carried into shows wins _ (drops view c) = drops _ c
-carried into shows wins _ (requests packet tags view told) =
-    requests packet tags _ (shows _ _ _ told)
-carried into shows wins _ (ends good tags view told well) =
-    ends good tags _ (shows _ _ _ told) (λ e. wins _ (well e))
+-- where the turn is a Request, or the end, so it is
+pub requested_by : {V : Type 0} {IsResult : V → List TagRecord → List TagRecord → Type 0}
+    {Succeeds : V → Type 0} (accepted made : List TagRecord) (out : ServerOutcome V)
+    → Turned V IsResult Succeeds accepted made out → (packet : List ℕ) (tags : Tags)
+    → out.turn ≡ turn.Request packet tags
+    → IsResult out.after (accepted ++ tags.accepted) (made ++ tags.made)
+requested_by accepted made _ (drops view c) packet tags e = absurd cc
+requested_by {IsResult = IsResult} accepted made _ (requests packet' tags' view told) packet tags e =
+    let same : tags' ≡ tags = cc in
+    subst (λ (t : Tags). IsResult view (accepted ++ t.accepted) (made ++ t.made)) same told
+requested_by accepted made _ (ends good tags' view told well) packet tags e = absurd cc
 
--- the offer of a method: its view then says that it has asked, and the objects are of both methods
--- still; without an object of it all views stay
-pub data Offers (setup : ServerSetup) (kind : ℕ) (views : ServerViews) : Offer → Type 0 where
-  asks : (packet : List ℕ) (after : ServerViews) (both : ServerHasBoth setup.methods after)
-      (tags : ServerTags setup (Some kind) after [] [])
-      → Offers setup kind views (record { packet = Some packet; after = after })
-  lacks : Offers setup kind views (record { packet = None; after = views })
+pub ended_by : {V : Type 0} {IsResult : V → List TagRecord → List TagRecord → Type 0}
+    {Succeeds : V → Type 0} (accepted made : List TagRecord) (out : ServerOutcome V)
+    → Turned V IsResult Succeeds accepted made out → (good : Bool) (tags : Tags)
+    → out.turn ≡ turn.Done good tags
+    → IsResult out.after (accepted ++ tags.accepted) (made ++ tags.made)
+    × (good ≡ true → Succeeds out.after)
+ended_by accepted made _ (drops view c) good tags e = absurd cc
+ended_by accepted made _ (requests packet tags' view told) good tags e = absurd cc
+ended_by {IsResult = IsResult} {Succeeds = Succeeds} accepted made _
+    (ends good' tags' view told well) good tags e =
+    let same : tags' ≡ tags = cc in
+    let is : good' ≡ good = cc in (
+      subst (λ (t : Tags). IsResult view (accepted ++ t.accepted) (made ++ t.made)) same told,
+      subst (λ (b : Bool). b ≡ true → Succeeds view) is well,
+    )

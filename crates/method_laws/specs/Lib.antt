@@ -13,3 +13,4 @@ pub mod GpskLogins
 pub mod ByMethod
 pub mod Records
 pub mod PeerHistory
+pub mod ServerHistory

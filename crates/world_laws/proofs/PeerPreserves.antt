@@ -1,9 +1,9 @@
 -- Every input of the peer keeps what stands of it, but for the begin of a new conversation, in
 -- which it stands anew.
-use Rattle.std.proofs.Common.{◌≡◌, ◌≢◌, ℕ, List, [], ◌++◌, Bool, true, false, Option, Some, None}
+use Rattle.std.proofs.Common.{◌≡◌, ℕ, List, [], ◌++◌, Bool, true, false, Option, Some, None}
 use Rattle.std.proofs.Common.{refl}
 use Rattle.std.proofs.Common.{sym, subst, ◌∙◌, append-nil}
-use Rattle.std.proofs.lemmas.Bool.{true≢false, false≢true}
+use Rattle.std.proofs.lemmas.Bool.{false≢true}
 use Rattle.login_setup.specs.declared.setup.PeerSetup.{PeerSetup}
 use Rattle.eap_packet.specs.declared.state.State.{State}
 use Rattle.eap_method.specs.declared.tags.TagRecord.{TagRecord}

@@ -36,7 +36,8 @@ use Rattle.method_laws.proofs.Receiving.{Receives, as_before, receives_now, deli
 use Rattle.method_laws.proofs.PeerByMethod.{method_satisfies}
 use Rattle.world_laws.proofs.Proposing.{proposes_own}
 use Rattle.method_laws.proofs.ServerByMethod.{turn_received, turn_of, untagged_none}
-use Rattle.method_laws.proofs.ServerTurns.{Offers, asks, lacks}
+use Rattle.method_laws.proofs.ServerHistories.{Offers, asks, lacks}
+use Rattle.method_laws.proofs.ServerTells.{has_tags}
 use Rattle.world_laws.proofs.Told.{server_tags}
 
 current_of : (current : Option ℕ) (views : ServerViews) (kind : ℕ) → current ≡ Some kind
@@ -127,8 +128,8 @@ module _ (setup : ServerSetup) (now : ServerNow) (accepted made : List TagRecord
   offered_none : (kind : ℕ) (packet : List ℕ) (views : ServerViews)
       → Offers setup kind now.views (record { packet = Some packet; after = views })
       → server_foreign (Some kind) views ≡ None
-  offered_none kind _ _ (asks packet after both tags) =
-      untagged_none setup (Some kind) after [] [] tags refl
+  offered_none kind _ _ (asks packet after both has) =
+      untagged_none setup (Some kind) after [] [] (has_tags setup _ _ _ _ _ both has) refl
 
   offered_same : (kind : ℕ) (views : ServerViews)
       → Offers setup kind now.views (record { packet = None; after = views }) → views ≡ now.views

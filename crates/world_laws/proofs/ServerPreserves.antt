@@ -35,18 +35,18 @@ use Rattle.server_machine.specs.declared.variables.Progress.{Progress}
 use Rattle.server_machine.specs.declared.variables.Progress.TheVariants as progress
 use Rattle.server_machine.specs.Variables.{ServerVariables}
 use Rattle.eap_world.specs.Judgement.{is_success}
-use Rattle.method_laws.specs.ByMethod.{ServerHasSucceeded, ServerTags, identity_current}
-use Rattle.method_laws.specs.ByMethod.{none_current}
 use Rattle.method_laws.specs.Records.{AreFew, AreNone, untagged}
+use Rattle.method_laws.specs.ServerHistory.{ServerHas, identity_round, unproposed}
 use Rattle.world_laws.specs.Runs.{initial_server}
 use Rattle.world_laws.specs.ServerInvariant.{IsUntouched, ServerInvariant}
 use Rattle.method_laws.specs.Both.{ServerHasBoth}
 use Rattle.world_laws.proofs.Going.{goes_on}
 use Rattle.method_laws.proofs.ServerObjects.{both_after, both_are, both_started}
-use Rattle.method_laws.proofs.ServerByMethod.{MethodTurned, in_identity, in_none, method_turned}
 use Rattle.world_laws.proofs.Proposing.{proposes_own}
-use Rattle.method_laws.proofs.ServerByMethod.{tags_few, turn_of}
-use Rattle.method_laws.proofs.ServerTurns.{Offers, asks, ends, lacks, requests}
+use Rattle.method_laws.proofs.ServerByMethod.{tags_few}
+use Rattle.method_laws.proofs.ServerHistories.{Offers, asks, ends_has, in_identity, in_none, lacks}
+use Rattle.method_laws.proofs.ServerHistories.{requests_has}
+use Rattle.world_laws.proofs.Told.{server_tags}
 use Rattle.world_laws.proofs.Accepting.{server_accepted_tags}
 
 -- ---- the begin
@@ -58,7 +58,8 @@ module _ (of : Role) (setup : ServerSetup) (views : ServerViews)
   initiates_with = record {
     own = refl;
     both = both_started setup views both;
-    tags = none_current refl;
+    good = false;
+    has = unproposed refl;
     unstarted = λ _. record { no_method = refl; no_id = refl };
     proposed = λ _. untagged;
     sure = λ e. absurd (false≢true e);
@@ -70,7 +71,8 @@ module _ (of : Role) (setup : ServerSetup) (views : ServerViews)
   starts_with = record {
     own = refl;
     both = both_started setup views both;
-    tags = identity_current refl;
+    good = false;
+    has = identity_round refl;
     unstarted = λ e. absurd (false≢true (sym e));
     proposed = λ _. untagged;
     sure = λ e. absurd (false≢true e);
@@ -87,10 +89,10 @@ started_invariant of setup = starts_with of setup (both_of setup.methods) (both_
 
 -- ---- the calls
 
-none_told : {setup : ServerSetup} {current : Option ℕ} {views : ServerViews}
+none_had : {setup : ServerSetup} {current : Option ℕ} {views : ServerViews}
     {accepted made : List TagRecord} → AreNone accepted made
-    → ServerTags setup current views [] [] → ServerTags setup current views accepted made
-none_told untagged tags = tags
+    → ServerHas setup current views false [] [] → ServerHas setup current views false accepted made
+none_had untagged has = has
 
 -- what stands after a call, with the tags of its step
 record Preserves (setup : ServerSetup) (accepted made : List TagRecord)
@@ -114,7 +116,7 @@ module _ (setup : ServerSetup) (now : ServerNow) (accepted made : List TagRecord
       → (is_started (record now.vars { state = s }) ≡ false
       → IsUntouched (record now.vars { current_id = id }))
       → (is_proposed p ≡ true → AreNone accepted made)
-      → (is_success s ≡ true → ServerHasSucceeded now.vars.current now.views)
+      → (is_success s ≡ true → stands.good ≡ true)
       → ServerInvariant setup (record {
         vars = record now.vars { state = s; current_id = id; progress = p; retrans_count = count };
         views = now.views;
@@ -123,7 +125,8 @@ module _ (setup : ServerSetup) (now : ServerNow) (accepted made : List TagRecord
   remains s id p count unstarted proposed sure = record {
     own = stands.own;
     both = stands.both;
-    tags = stands.tags;
+    good = stands.good;
+    has = stands.has;
     unstarted = λ e. let untouched = unstarted e in
         record { no_method = untouched.no_method; no_id = untouched.no_id };
     proposed = proposed;
@@ -140,16 +143,12 @@ module _ (setup : ServerSetup) (now : ServerNow) (accepted made : List TagRecord
 
   turned_to : (id kind : ℕ) (body : List ℕ) (answered : ServerTurn) (views : ServerViews)
       → rows.Turns now id kind body answered views
-      → MethodTurned setup now.vars.current accepted made
-      (record { turn = answered; after = views })
+      → server_turn setup.users (next_id now.vars) kind now.views (spelled (response id kind body))
+      ≡ record { turn = answered; after = views }
   turned_to id kind body answered views turned =
-      subst (MethodTurned setup now.vars.current accepted made) turned.is_turn
-      (subst (λ (users : List User). MethodTurned setup now.vars.current accepted made
-      (server_turn users (next_id now.vars) kind now.views (spelled (response id kind body))))
-      (sym own_users)
-      (method_turned setup now.vars.current now.views accepted made stands.tags (next_id now.vars)
-      kind _ _ turned.is_current (turn_of setup.users (next_id now.vars) kind now.views
-      (spelled (response id kind body)) stands.both)))
+      subst (λ (users : List User). server_turn users (next_id now.vars) kind now.views
+      (spelled (response id kind body)) ≡ record { turn = answered; after = views })
+      own_users turned.is_turn
 
   still_both : (id kind : ℕ) (body : List ℕ) (answered : ServerTurn) (views : ServerViews)
       → rows.Turns now id kind body answered views → ServerHasBoth setup.methods views
@@ -158,38 +157,42 @@ module _ (setup : ServerSetup) (now : ServerNow) (accepted made : List TagRecord
       turned.is_turn (both_after stands.both now.vars.setup.users (next_id now.vars) kind
       (spelled (response id kind body)))
 
-  after_request : (packet : List ℕ) (tags : Tags) (views : ServerViews) → MethodTurned setup
-      now.vars.current accepted made (record { turn = turn.Request packet tags; after = views })
-      → ServerHasBoth setup.methods views → (is_started now.vars ≡ false → ⊥)
-      → (is_success now.vars.state ≡ true → ⊥)
+  after_request : (id kind : ℕ) (body packet : List ℕ) (tags : Tags) (views : ServerViews)
+      → rows.Turns now id kind body (turn.Request packet tags) views
+      → (is_started now.vars ≡ false → ⊥) → (is_success now.vars.state ≡ true → ⊥)
       → ServerInvariant setup (record {
         vars = record (with_request now.vars packet) { progress = progress.Continue };
         views = views;
       })
       (accepted ++ tags.accepted) (made ++ tags.made)
-  after_request _ _ _ (requests _ _ _ told) both begun unsure = record {
+  after_request id kind body packet tags views turned begun unsure = record {
     own = stands.own;
-    both = both;
-    tags = told;
+    both = still_both id kind body _ views turned;
+    good = false;
+    has = requests_has setup now.vars.current now.views stands.good accepted made
+        (next_id now.vars) kind (spelled (response id kind body)) tags views stands.has
+        turned.is_current turned.no_identity packet (turned_to id kind body _ views turned);
     unstarted = λ e. absurd (begun e);
     proposed = λ e. absurd (false≢true e);
     sure = λ e. absurd (unsure e);
   }
 
-  after_end : (good : Bool) (tags : Tags) (views : ServerViews) → MethodTurned setup
-      now.vars.current accepted made (record { turn = turn.Done good tags; after = views })
-      → ServerHasBoth setup.methods views → (s : State) → is_started (record now.vars { state = s })
-      ≡ true → (is_success s ≡ true → good ≡ true)
+  after_end : (id kind : ℕ) (body : List ℕ) (good : Bool) (tags : Tags) (views : ServerViews)
+      → rows.Turns now id kind body (turn.Done good tags) views → (s : State)
+      → is_started (record now.vars { state = s }) ≡ true → (is_success s ≡ true → good ≡ true)
       → ServerInvariant setup
       (record { vars = record now.vars { progress = progress.End; state = s }; views = views })
       (accepted ++ tags.accepted) (made ++ tags.made)
-  after_end _ _ _ (ends _ _ _ told well) both s begun sure = record {
+  after_end id kind body good tags views turned s begun sure = record {
     own = stands.own;
-    both = both;
-    tags = told;
+    both = still_both id kind body _ views turned;
+    good = good;
+    has = ends_has setup now.vars.current now.views stands.good accepted made (next_id now.vars)
+        kind (spelled (response id kind body)) tags views stands.has turned.is_current
+        turned.no_identity good (turned_to id kind body _ views turned);
     unstarted = λ e. absurd (false≢true (sym e ∙ begun));
     proposed = λ e. absurd (false≢true e);
-    sure = λ e. well (sure e);
+    sure = sure;
   }
 
   -- a server that is to propose a method
@@ -210,8 +213,8 @@ module _ (setup : ServerSetup) (now : ServerNow) (accepted made : List TagRecord
       (and_parts (is_backend now.vars) (not (is_started now.vars)) awaited).1 in
       record {
         own = stands.own;
-        none = in_none setup now.vars.current now.views accepted made
-            (stands.unstarted before).no_method stands.tags;
+        none = in_none setup now.vars.current now.views stands.good accepted made
+            (stands.unstarted before).no_method stands.has;
         begun = λ e. false≢true (sym e);
         unsure = λ e. false≢true e;
         gives_up = remains _ _ _ _ (λ e. absurd (false≢true (sym e))) proposed
@@ -224,7 +227,8 @@ module _ (setup : ServerSetup) (now : ServerNow) (accepted made : List TagRecord
   proposing unsure id kind body _ _ _ (after_identity is_id is_identity is_current unawaited) =
       record {
         own = stands.own;
-        none = in_identity setup now.vars.current now.views accepted made is_current stands.tags;
+        none = in_identity setup now.vars.current now.views stands.good accepted made is_current
+            stands.has;
         begun = started_by id is_id;
         unsure = unsure;
         gives_up = remains _ _ _ _ (λ e. absurd (false≢true (sym e))) (λ e. absurd (false≢true e))
@@ -249,11 +253,12 @@ module _ (setup : ServerSetup) (now : ServerNow) (accepted made : List TagRecord
   offered : (entered : List State) (vars : ServerVariables) (id kind : ℕ) → Proposing vars
       → (offer : Offer) → Offers setup kind now.views offer
       → Preserves setup accepted made (offers entered vars offer.after id kind offer.packet)
-  offered entered vars id kind at _ (asks packet after both tags) =
+  offered entered vars id kind at _ (asks packet after both has) =
       quiet setup accepted made _ refl (record {
         own = at.own;
         both = both;
-        tags = none_told at.none tags;
+        good = false;
+        has = none_had at.none has;
         unstarted = λ e. absurd (at.begun e);
         proposed = λ _. at.none;
         sure = λ e. absurd (at.unsure e);
@@ -296,20 +301,13 @@ module _ (setup : ServerSetup) (now : ServerNow) (accepted made : List TagRecord
       id kind body entered vars desired selects).gives_up
   row_preserves _ _ later same (rows.requests bytes id kind body packet tags views heard turned) =
       record {
-        stands = after_request packet tags views (turned_to id kind body _ views turned)
-            (still_both id kind body _ views turned) (started_by id turned.is_id)
+        stands = after_request id kind body packet tags views turned (started_by id turned.is_id)
             (goes_on now.vars.state heard.going);
       }
   row_preserves _ _ later same (rows.succeeds bytes id kind body tags views heard turned) =
-      record {
-        stands = after_end true tags views (turned_to id kind body _ views turned)
-            (still_both id kind body _ views turned) _ refl (λ _. refl);
-      }
+      record { stands = after_end id kind body true tags views turned _ refl (λ _. refl) }
   row_preserves _ _ later same (rows.method_fails bytes id kind body tags views heard turned) =
-      record {
-        stands = after_end false tags views (turned_to id kind body _ views turned)
-            (still_both id kind body _ views turned) _ refl (λ e. e);
-      }
+      record { stands = after_end id kind body false tags views turned _ refl (λ e. e) }
 
   -- by the table alone
   abbrev IsConsistent : ServerInput → ServerAnswer → Type 0
@@ -335,7 +333,8 @@ module _ (setup : ServerSetup) (now : ServerNow) (accepted made : List TagRecord
         stands = record {
           own = s.own;
           both = s.both;
-          tags = s.tags;
+          good = s.good;
+          has = s.has;
           unstarted =
               λ e. record { no_method = (s.unstarted e).no_method; no_id = (s.unstarted e).no_id };
           proposed = s.proposed;
@@ -397,4 +396,4 @@ server_tags_none now nonce = cond_both (is_backend now.vars) _ _
 pub server_few : (setup : ServerSetup) (now : ServerNow) (accepted made : List TagRecord)
     → ServerInvariant setup now accepted made → AreFew accepted made
 server_few setup now accepted made stands =
-    tags_few setup now.vars.current now.views accepted made stands.tags
+    tags_few setup now.vars.current now.views accepted made (server_tags stands)

@@ -11,7 +11,8 @@ use Rattle.server_machine.specs.ServerTable.{ServerNow}
 use Rattle.eap_world.specs.Judgement.{is_success}
 use Rattle.method_laws.specs.ByMethod.{PeerHasSucceeded, PeerTags, ServerHasSucceeded}
 use Rattle.method_laws.specs.ByMethod.{ServerTags}
-use Rattle.method_laws.proofs.PeerTells.{has_succeeded, has_tags}
+use Rattle.method_laws.proofs.PeerTells as peers
+use Rattle.method_laws.proofs.ServerTells as servers
 use Rattle.world_laws.specs.PeerInvariant.{PeerInvariant}
 use Rattle.world_laws.specs.ServerInvariant.{ServerInvariant}
 
@@ -22,21 +23,25 @@ not_failing d e same = absurd cc
 module _ {setup : PeerSetup} {now : PeerNow} {accepted made : List TagRecord}
     (stands : PeerInvariant setup now accepted made) where
   pub peer_tags : PeerTags setup now.vars.selected now.views accepted made
-  peer_tags = has_tags setup now.vars.selected now.views now.vars.decision accepted made
+  peer_tags = peers.has_tags setup now.vars.selected now.views now.vars.decision accepted made
       stands.both stands.has
 
   -- a decision other than FAIL comes from a success, and SUCCESS from such a decision
   pub peer_success : is_success now.vars.state ≡ true
       → PeerHasSucceeded now.vars.selected now.views
   peer_success won =
-      has_succeeded setup now.vars.selected now.views now.vars.decision accepted made
+      peers.has_succeeded setup now.vars.selected now.views now.vars.decision accepted made
       stands.both stands.has (not_failing now.vars.decision (stands.sure won))
 
 module _ {setup : ServerSetup} {now : ServerNow} {accepted made : List TagRecord}
     (stands : ServerInvariant setup now accepted made) where
   pub server_tags : ServerTags setup now.vars.current now.views accepted made
-  server_tags = stands.tags
+  server_tags = servers.has_tags setup now.vars.current now.views stands.good accepted made
+      stands.both stands.has
 
+  -- SUCCESS comes from a good end, and that from a success
   pub server_success : is_success now.vars.state ≡ true
       → ServerHasSucceeded now.vars.current now.views
-  server_success won = stands.sure won
+  server_success won =
+      servers.has_succeeded setup now.vars.current now.views stands.good accepted made
+      stands.both stands.has (stands.sure won)

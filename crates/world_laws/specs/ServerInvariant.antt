@@ -1,14 +1,15 @@
 -- What holds of the server at every moment of a run, with the tags that it has accepted and made:
--- the view of its current method determines them exactly, also if the login has failed.
-use Rattle.std.specs.Prelude.{◌≡◌, List, true, false, None}
+-- they are those of its method's history, which the view determines exactly, also if the login has
+-- failed.
+use Rattle.std.specs.Prelude.{◌≡◌, List, Bool, true, false, None}
 use Rattle.login_setup.specs.Setup.{ServerSetup}
 use Rattle.eap_method.specs.declared.tags.TagRecord.{TagRecord}
 use Rattle.server_machine.specs.ServerTable.{ServerNow, is_proposed, is_started}
 use Rattle.server_machine.specs.Variables.{ServerVariables}
 use Rattle.eap_world.specs.Judgement.{is_success}
 use Rattle.method_laws.specs.Both.{ServerHasBoth}
-use Rattle.method_laws.specs.ByMethod.{ServerHasSucceeded, ServerTags}
 use Rattle.method_laws.specs.Records.{AreNone}
+use Rattle.method_laws.specs.ServerHistory.{ServerHas}
 
 -- a server that has not started: neither a method nor an Identifier is current
 pub record IsUntouched (vars : ServerVariables) : Type 0 where
@@ -20,9 +21,11 @@ pub record ServerInvariant (setup : ServerSetup) (now : ServerNow)
     (accepted made : List TagRecord) : Type 0 where
   pub own : now.vars.setup ≡ setup
   pub both : ServerHasBoth setup.methods now.views
-  pub tags : ServerTags setup now.vars.current now.views accepted made
+  -- whether its current method has ended well
+  pub good : Bool
+  pub has : ServerHas setup now.vars.current now.views good accepted made
   pub unstarted : is_started now.vars ≡ false → IsUntouched now.vars
   -- a method that is only proposed has none
   pub proposed : is_proposed now.vars.progress ≡ true → AreNone accepted made
-  -- SUCCESS comes from a success
-  pub sure : is_success now.vars.state ≡ true → ServerHasSucceeded now.vars.current now.views
+  -- SUCCESS comes from a good end
+  pub sure : is_success now.vars.state ≡ true → good ≡ true
