@@ -80,3 +80,24 @@ pub mod ServerHistories
 -- What the history of a server's method tells, by one induction over all methods: by EAP-PSK and
 -- EAP-GPSK its tags, and of a good end a success.
 pub mod ServerTells
+-- What each end asks of the other by the first tag that it accepts.
+pub mod Asks
+-- What a tag that the peer made by EAP-GPSK tells of the conversation in which it did: both nonces,
+-- whole.
+pub mod GpskPeerOwners
+-- What a tag that the server made by EAP-GPSK tells of the conversation in which it did; and what
+-- each end asks by its first tag.
+pub mod GpskServerOwners
+-- By EAP-GPSK two conversations of which one rests on the other hold the whole of each other's
+-- nonces.
+pub mod GpskNoncesWhole
+-- The PSK-4 that a server accepts tells which conversation of the peer made it: that has accepted
+-- PSK-3.
+pub mod PskAnswered
+-- What a tag that the peer made by EAP-PSK tells of the conversation in which it did: both nonces.
+pub mod PskPeerOwners
+-- What a tag that the server made by EAP-PSK tells of the conversation in which it did; and what
+-- each end asks by its first tag.
+pub mod PskServerOwners
+-- A server that holds a nonce of the peer asks so of it, by either method.
+pub mod ServerAsks

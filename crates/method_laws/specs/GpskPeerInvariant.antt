@@ -1,6 +1,6 @@
 -- What a view of EAP-GPSK at the peer has and tells: RAND_Server, the report that its login leads
 -- to, and its tags.
-use Rattle.std.specs.Prelude.{◌≡◌, ℕ, List, [], ◌∷◌, length, take, true, false, Option, None}
+use Rattle.std.specs.Prelude.{◌≡◌, ℕ, List, [], ◌∷◌, length, true, false, Option, None}
 use Rattle.std.specs.Prelude.{Some}
 use Rattle.login_setup.specs.declared.setup.PeerSetup.{PeerSetup}
 use Rattle.octet_lists.specs.Among.{gpsk_kind, is_among}
@@ -12,6 +12,7 @@ use Rattle.eap_method.specs.declared.values.Report.{Report}
 use Rattle.eap_method.specs.GpskPeer as gpsk
 use Rattle.eap_method.specs.GpskTags.{sk_record, message_with_mac}
 use Rattle.eap_method.specs.Peer.{credential_for}
+use Rattle.eap_method.specs.PskTags.{rand_of}
 
 -- the whole of RAND_Server, and its prefix
 abbrev pub gpsk_whole_rand_s : gpsk.View → Option (List ℕ)
@@ -20,10 +21,10 @@ gpsk_whole_rand_s (gpsk.fresh cred nonce) = None
 gpsk_whole_rand_s (gpsk.wait login) = Some login.rand_s
 gpsk_whole_rand_s (gpsk.over login good) = Some login.rand_s
 
--- the prefix of a nonce that a view has, of the size of a nonce of EAP-PSK (RFC 4764 section 3.2)
+-- the prefix of a nonce that a view has, which is all that EAP-PSK has of one
 abbrev pub front_in : Option (List ℕ) → Option (List ℕ)
 front_in None = None
-front_in (Some nonce) = Some (take 16 nonce)
+front_in (Some nonce) = Some (rand_of nonce)
 
 abbrev pub gpsk_rand_s : gpsk.View → Option (List ℕ)
 gpsk_rand_s view = front_in (gpsk_whole_rand_s view)

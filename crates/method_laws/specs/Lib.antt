@@ -14,3 +14,4 @@ pub mod ByMethod
 pub mod Records
 pub mod PeerHistory
 pub mod ServerHistory
+pub mod TagOwners

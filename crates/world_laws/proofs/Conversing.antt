@@ -59,7 +59,7 @@ use Rattle.world_laws.proofs.ServerPreserves.{server_invariant_anew, server_tags
 use Rattle.world_laws.proofs.ServerPreserves.{started_invariant}
 use Rattle.world_laws.proofs.OccursIn.{occurs_if}
 use Rattle.method_laws.proofs.TagsOfEnds.{grows, rests}
-use Rattle.world_laws.specs.TagOwners.{PeerTagOwner, ServerTagOwner}
+use Rattle.method_laws.specs.TagOwners.{PeerTagOwner, ServerTagOwner}
 use Rattle.world_laws.specs.Runs.{initial_world, run_of}
 use Rattle.world_laws.proofs.Told.{peer_tags, server_tags}
 

@@ -11,9 +11,10 @@ use Rattle.peer_machine.specs.PeerTable as peers
 use Rattle.server_machine.specs.ServerTable as servers
 use Rattle.world_laws.specs.Agreement.{IsWhole, AgreeAnew}
 use Rattle.method_laws.specs.Records.{IsIn, tags_by}
-use Rattle.world_laws.specs.TagOwners.{NotByServer, PeerTagOwner, ServerTagOwner}
-use Rattle.world_laws.proofs.Asks.{AsksServer}
-use Rattle.world_laws.proofs.AsksByMethod.{peer_asks, server_asks}
+use Rattle.method_laws.specs.TagOwners.{NotByServer, PeerTagOwner, ServerTagOwner}
+use Rattle.method_laws.proofs.Asks.{AsksServer}
+use Rattle.world_laws.proofs.AsksByMethod.{peer_asks}
+use Rattle.method_laws.proofs.ServerAsks.{server_asks}
 use Rattle.world_laws.proofs.Conversing.{BothConverse, run_converses}
 use Rattle.world_laws.proofs.HonestOfEither.{none_if_honest}
 use Rattle.method_laws.proofs.HonestOther.{honest_other}

@@ -26,8 +26,8 @@ use Rattle.method_laws.specs.GpskServerInvariant as gpsk_server_stands
 use Rattle.method_laws.specs.Records.{IsIn}
 use Rattle.method_laws.proofs.Among.{among_one, among_two}
 use Rattle.world_laws.proofs.GpskAgrees as agrees
-use Rattle.world_laws.proofs.GpskPeerOwners.{not_fail, not_gpsk4}
-use Rattle.world_laws.proofs.GpskServerOwners.{not_bars}
+use Rattle.method_laws.proofs.GpskPeerOwners.{not_fail, not_gpsk4}
+use Rattle.method_laws.proofs.GpskServerOwners.{not_bars}
 use Rattle.world_laws.proofs.Results.{ResultsIn, LoginOf, PeersLogin, ServersLogin, own_key}
 use Rattle.world_laws.proofs.Results.{own_name}
 use Rattle.world_laws.proofs.SucceedingEnds.{FirstIn}

@@ -2,8 +2,6 @@
 pub mod Acting
 -- What one end's success tells by itself of the other end.
 pub mod Alone
--- What each end asks of the other by the first tag that it accepts.
-pub mod Asks
 -- An end asks so of the other by either method; and an end in SUCCESS has accepted a tag.
 pub mod AsksByMethod
 -- An end that has no later nonces never begins a second conversation.
@@ -38,15 +36,6 @@ pub mod GpskAgrees
 -- The login of an end that has succeeded by EAP-GPSK is that of the other end's conversation on
 -- whose tags it rests.
 pub mod GpskLogins
--- What a tag that the peer made by EAP-GPSK tells of the conversation in which it did: both nonces,
--- whole.
-pub mod GpskPeerOwners
--- What a tag that the server made by EAP-GPSK tells of the conversation in which it did; and what
--- each end asks by its first tag.
-pub mod GpskServerOwners
--- By EAP-GPSK two conversations of which one rests on the other hold the whole of each other's
--- nonces.
-pub mod GpskWhole
 -- A book that is honest by the other end's tags alone is honest by those of either end.
 pub mod HonestOfEither
 -- In every run two ends that both stand in SUCCESS agree, where the book is honest.
@@ -80,22 +69,14 @@ pub mod PeerPreserves
 pub mod PeerSpeaks
 -- Two ends that have succeeded by EAP-PSK agree, and what they report is their own.
 pub mod PskAgrees
--- The PSK-4 that a server accepts tells which conversation of the peer made it: that has accepted
--- PSK-3.
-pub mod PskAnswered
 -- The login of an end that has succeeded by EAP-PSK is that of the other end's conversation on
 -- whose tags it rests.
 pub mod PskLogins
 -- Matching conversations by EAP-PSK.
 pub mod PskMatching
--- What a tag that the peer made by EAP-PSK tells of the conversation in which it did: both nonces.
-pub mod PskPeerOwners
 -- No end takes its own tags for the other's, in whichever conversation it made them, where the peer
 -- succeeds by EAP-PSK.
 pub mod PskReflected
--- What a tag that the server made by EAP-PSK tells of the conversation in which it did; and what
--- each end asks by its first tag.
-pub mod PskServerOwners
 -- A tag that the server accepted and can't have made is the peer's.
 pub mod Reflected
 -- Two conversations of which one rests on the other are of one method, and their logins lead to the

@@ -21,10 +21,11 @@ use Rattle.world_laws.specs.Matching.{ServerRests}
 use Rattle.world_laws.specs.PeerInvariant.{PeerInvariant}
 use Rattle.method_laws.specs.Records.{IsIn, tags_by}
 use Rattle.world_laws.specs.ServerInvariant.{ServerInvariant}
-use Rattle.world_laws.specs.TagOwners.{OnlyByPeer, OnlyByServer, NotByServer, PeerTagOwner}
-use Rattle.world_laws.specs.TagOwners.{ServerTagOwner}
-use Rattle.world_laws.proofs.Asks.{AsksPeer, AsksServer}
-use Rattle.world_laws.proofs.AsksByMethod.{peer_asks, server_asks}
+use Rattle.method_laws.specs.TagOwners.{OnlyByPeer, OnlyByServer, NotByServer, PeerTagOwner}
+use Rattle.method_laws.specs.TagOwners.{ServerTagOwner}
+use Rattle.method_laws.proofs.Asks.{AsksPeer, AsksServer}
+use Rattle.world_laws.proofs.AsksByMethod.{peer_asks}
+use Rattle.method_laws.proofs.ServerAsks.{server_asks}
 use Rattle.world_laws.proofs.HonestOfEither.{honest_of_either, none_if_honest}
 use Rattle.method_laws.proofs.HonestOther.{honest_other}
 use Rattle.world_laws.proofs.OneLogin.{first_is_in, one_stored}

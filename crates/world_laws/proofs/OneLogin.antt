@@ -9,12 +9,12 @@ use Rattle.eap_method.specs.declared.tags.TagRecord.{TagRecord}
 use Rattle.server_machine.specs.ServerTable as servers
 use Rattle.method_laws.specs.Records.{IsIn, here}
 use Rattle.eap_world.specs.Conversations.{front}
-use Rattle.world_laws.proofs.Asks.{AsksPeer, AsksServer, some_is}
-use Rattle.world_laws.proofs.AsksByMethod.{server_asks}
+use Rattle.method_laws.proofs.Asks.{AsksPeer, AsksServer, some_is}
+use Rattle.method_laws.proofs.ServerAsks.{server_asks}
 use Rattle.world_laws.proofs.OneKey.{server_one}
 use Rattle.world_laws.proofs.PastConversations.{Moment, PastConversation, Past, Conversed, FromPast}
 use Rattle.world_laws.proofs.PastConversations.{where_created, accepted_before}
-use Rattle.world_laws.specs.TagOwners.{PeerTagOwner, OnlyByPeer, NotByServer, ServerTagOwner}
+use Rattle.method_laws.specs.TagOwners.{PeerTagOwner, OnlyByPeer, NotByServer, ServerTagOwner}
 
 pub one_stored : (held : Option (List ℕ)) (x y : List ℕ) → held ≡ Some x → held ≡ Some y → x ≡ y
 one_stored held x y a b = some_is x y (sym a ∙ b)

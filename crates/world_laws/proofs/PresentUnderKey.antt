@@ -23,10 +23,10 @@ use Rattle.world_laws.specs.Matching.{PeerMatches, ServerRests}
 use Rattle.world_laws.specs.PresentUnderKey.{AgreeOnTheirs, EndsAgreeUnder, OneEndImpliesUnder}
 use Rattle.world_laws.specs.PresentUnderKey.{SucceedBy}
 use Rattle.method_laws.specs.Records.{IsIn, tags_by}
-use Rattle.world_laws.specs.TagOwners.{NotByServer, PeerTagOwner}
+use Rattle.method_laws.specs.TagOwners.{NotByServer, PeerTagOwner}
 use Rattle.world_laws.specs.UnderKey.{IsOfKey}
 use Rattle.world_laws.proofs.Alone.{knows, peer_tells, server_tells}
-use Rattle.world_laws.proofs.Asks.{AsksServer}
+use Rattle.method_laws.proofs.Asks.{AsksServer}
 use Rattle.world_laws.proofs.AsksByMethod.{peer_asks}
 use Rattle.world_laws.proofs.Conversations.{run_known}
 use Rattle.world_laws.proofs.Conversing.{BothConverse, run_converses}

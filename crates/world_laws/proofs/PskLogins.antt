@@ -32,7 +32,7 @@ use Rattle.world_laws.proofs.Results.{own_name}
 use Rattle.world_laws.proofs.PskAgrees as agrees
 use Rattle.method_laws.proofs.PskFields.{front_size}
 use Rattle.method_laws.proofs.PskHeaders.{same_sealed}
-use Rattle.world_laws.proofs.PskPeerOwners.{labels_apart}
+use Rattle.method_laws.proofs.PskPeerOwners.{labels_apart}
 use Rattle.world_laws.proofs.SucceedingEnds.{FirstIn, first_in}
 use Rattle.eap_method.specs.BothPeers.{psk_in}
 

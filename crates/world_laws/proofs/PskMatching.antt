@@ -32,7 +32,7 @@ use Rattle.world_laws.proofs.OneOf.{accepted_in, made_in}
 use Rattle.method_laws.proofs.PeerByMethod.{created_by_psk as peer_made_by_psk}
 use Rattle.world_laws.proofs.PskAgrees.{peer_reported}
 use Rattle.world_laws.proofs.PskLogins as logins
-use Rattle.world_laws.proofs.PskAnswered.{HasAsked, HasPsk4, has_asked, psk4_taken}
+use Rattle.method_laws.proofs.PskAnswered.{HasAsked, HasPsk4, has_asked, psk4_taken}
 use Rattle.world_laws.proofs.PskReflected.{AsksAnother, asks_another}
 use Rattle.method_laws.proofs.ServerByMethod.{reported_by_psk}
 use Rattle.world_laws.proofs.SucceedingEnds.{first_in}

@@ -20,9 +20,9 @@ use Rattle.method_laws.specs.PskPeerInvariant.{PskPeerTags, psk_unset, psk_fresh
 use Rattle.method_laws.specs.PskPeerInvariant.{psk_over, PskStarted, psk2_record}
 use Rattle.world_laws.specs.PskReflected.{ReflectedEndsAgree}
 use Rattle.method_laws.specs.Records.{IsIn, tags_by}
-use Rattle.world_laws.specs.TagOwners.{OnlyByServer, PeerTagOwner}
+use Rattle.method_laws.specs.TagOwners.{OnlyByServer, PeerTagOwner}
 use Rattle.method_laws.proofs.Among.{among_one, among_two}
-use Rattle.world_laws.proofs.Asks.{AsksServer}
+use Rattle.method_laws.proofs.Asks.{AsksServer}
 use Rattle.world_laws.proofs.Conversing.{BothConverse, run_converses}
 use Rattle.method_laws.proofs.Fields.{ends}
 use Rattle.world_laws.proofs.FreshAgree.{agree_anew, peer_won}
@@ -33,8 +33,8 @@ use Rattle.world_laws.proofs.PastConversations.{accepted_now, where_created}
 use Rattle.method_laws.proofs.PeerByMethod.{created_by_psk}
 use Rattle.world_laws.proofs.PskAgrees as psk_agrees
 use Rattle.method_laws.proofs.PskFields.{front_size}
-use Rattle.world_laws.proofs.PskPeerOwners.{labels_apart}
-use Rattle.world_laws.proofs.PskServerOwners.{mac_s_created}
+use Rattle.method_laws.proofs.PskPeerOwners.{labels_apart}
+use Rattle.method_laws.proofs.PskServerOwners.{mac_s_created}
 use Rattle.world_laws.proofs.Reflected.{of_peer}
 use Rattle.world_laws.proofs.SucceedingEnds.{PeerSucceeds, one_of, with_psk, with_gpsk}
 use Rattle.method_laws.proofs.TagsOfEnds.{honest_tags}

@@ -5,7 +5,7 @@ use Rattle.login_setup.specs.declared.setup.Setup.{Setup}
 use Rattle.eap_method.specs.declared.tags.TagRecord.{TagRecord}
 use Rattle.tag_book.specs.Book.{first_broken, tags_verdict_either}
 use Rattle.method_laws.specs.Records.{IsIn, tags_by}
-use Rattle.world_laws.specs.TagOwners.{NotByServer, ServerTagOwner}
+use Rattle.method_laws.specs.TagOwners.{NotByServer, ServerTagOwner}
 use Rattle.eap_world.specs.World.{WorldNow}
 use Rattle.tag_book.specs.declared.book.End.TheVariants as end
 use Rattle.tag_book.specs.declared.book.RecordOwner.TheVariants.{Either}

@@ -28,7 +28,7 @@ use Rattle.method_laws.specs.Records.{IsIn, here, later}
 use Rattle.method_laws.proofs.Among.{first_is, no_tag}
 use Rattle.world_laws.proofs.GpskAgrees as gpsk_agrees
 use Rattle.world_laws.proofs.GpskLogins as gpsk
-use Rattle.world_laws.proofs.GpskWhole as whole
+use Rattle.method_laws.proofs.GpskNoncesWhole as whole
 use Rattle.world_laws.proofs.Results.{ResultsIn, PeersLogin, ServersLogin, reaches_too, login_too}
 use Rattle.method_laws.proofs.OneMethod.{apart as one_method}
 use Rattle.method_laws.proofs.PeerByMethod as peer_by_method

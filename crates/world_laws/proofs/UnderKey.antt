@@ -34,7 +34,7 @@ use Rattle.world_laws.proofs.Matching as matching
 use Rattle.world_laws.proofs.OneKey.{OneKey, keyed_peer, keyed_server, peer_one, server_one}
 use Rattle.world_laws.proofs.OneLogin.{first_is_in, one_stored}
 use Rattle.world_laws.proofs.OneOf.{accepted_in, made_in}
-use Rattle.world_laws.proofs.PskAnswered.{HasAsked, HasPsk4, has_asked}
+use Rattle.method_laws.proofs.PskAnswered.{HasAsked, HasPsk4, has_asked}
 use Rattle.world_laws.proofs.PskMatching as psk
 use Rattle.world_laws.proofs.Resting.{same_report}
 use Rattle.world_laws.proofs.Told.{peer_tags, server_tags}

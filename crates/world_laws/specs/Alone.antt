@@ -21,7 +21,7 @@ use Rattle.world_laws.specs.EachConversation.{server_knows_nonce, server_nonce}
 use Rattle.method_laws.specs.GpskLogins.{HaveSameNames, HaveAllOctets}
 use Rattle.eap_world.specs.Judgement.{is_success}
 use Rattle.method_laws.specs.Records.{IsIn, tags_by}
-use Rattle.world_laws.specs.TagOwners.{OnlyByPeer}
+use Rattle.method_laws.specs.TagOwners.{OnlyByPeer}
 use Rattle.eap_world.specs.World.{WorldNow}
 use Rattle.tag_book.specs.declared.book.End.TheVariants as end
 use Rattle.tag_book.specs.declared.book.TagsVerdict.TheVariants.{Honest}

@@ -2,7 +2,6 @@ pub mod Runs
 pub mod Laws
 pub mod PeerInvariant
 pub mod ServerInvariant
-pub mod TagOwners
 pub mod Agreement
 pub mod EndInvariants
 pub mod SingleSteps

@@ -6,9 +6,7 @@ use Rattle.login_setup.specs.Setup.{ServerSetup}
 use Rattle.eap_method.specs.declared.tags.TagRecord.{TagRecord}
 use Rattle.eap_method.specs.Peer.{PeerViews}
 use Rattle.eap_method.specs.Server.{ServerViews}
-use Rattle.peer_machine.specs.PeerTable as peers
-use Rattle.server_machine.specs.ServerTable as servers
-use Rattle.eap_world.specs.Conversations.{front}
+use Rattle.eap_method.specs.PskTags.{rand_of}
 use Rattle.method_laws.specs.ByMethod.{peer_foreign, server_foreign, PeerTags, ServerTags}
 use Rattle.method_laws.specs.Records.{IsIn}
 
@@ -18,14 +16,14 @@ pub record PeerTagOwner (setup : PeerSetup) (nonce : List ℕ) (held : Option (L
     (accepted made : List TagRecord) : Type 0 where
   pub selected : Option ℕ
   pub views : PeerViews
-  pub tags : PeerTags (peers.setup_with_nonce setup nonce) selected views accepted made
+  pub tags : PeerTags (record setup { nonce = nonce }) selected views accepted made
   pub held_is : peer_foreign selected views ≡ held
 
 -- only a conversation with the one nonce, which has the other, can have made the tag
 pub record OnlyByPeer (t : TagRecord) (own foreign : List ℕ) : Type 0 where
   pub tells : (setup : PeerSetup) (nonce : List ℕ) (held : Option (List ℕ))
       (accepted made : List TagRecord) → length nonce ≡ 32
-      → PeerTagOwner setup nonce held accepted made → IsIn t made → (front nonce ≡ own)
+      → PeerTagOwner setup nonce held accepted made → IsIn t made → (rand_of nonce ≡ own)
       × (held ≡ Some foreign)
 
 -- a conversation of the server with this nonce, which has that nonce of the peer, has accepted and
@@ -34,7 +32,7 @@ pub record ServerTagOwner (setup : ServerSetup) (nonce : List ℕ) (held : Optio
     (accepted made : List TagRecord) : Type 0 where
   pub current : Option ℕ
   pub views : ServerViews
-  pub tags : ServerTags (servers.setup_with_nonce setup nonce) current views accepted made
+  pub tags : ServerTags (record setup { nonce = nonce }) current views accepted made
   pub held_is : server_foreign current views ≡ held
 
 -- only a conversation that has the nonce can have made the tag

@@ -13,9 +13,7 @@ use Rattle.eap_method.specs.GpskPeer as gpsk_peer
 use Rattle.eap_method.specs.GpskServer as gpsk
 use Rattle.eap_method.specs.GpskTags.{sk_record, suite_list}
 use Rattle.eap_method.specs.Server.{ServerViews, side_of}
-use Rattle.peer_machine.specs.PeerTable as peers
-use Rattle.server_machine.specs.ServerTable as servers
-use Rattle.eap_world.specs.Conversations.{front}
+use Rattle.eap_method.specs.PskTags.{rand_of}
 use Rattle.method_laws.specs.ByMethod.{ServerTags, server_foreign}
 use Rattle.method_laws.specs.GpskPeerInvariant.{GpskStarted, front_in, gpsk3_of_login}
 use Rattle.method_laws.specs.GpskServerInvariant.{GpskChecked, GpskServerTags, gpsk_asked}
@@ -24,11 +22,11 @@ use Rattle.method_laws.specs.GpskServerInvariant.{gpsk_checked, gpsk_barred, gps
 use Rattle.method_laws.specs.GpskServerInvariant.{gpsk2_of_login, gpsk_rand_p, gpsk_rand_p_in}
 use Rattle.method_laws.specs.GpskServerInvariant.{gpsk_whole_rand_p}
 use Rattle.method_laws.specs.Records.{IsIn}
-use Rattle.world_laws.specs.TagOwners.{OnlyByPeer, OnlyByServer, NotByServer}
+use Rattle.method_laws.specs.TagOwners.{OnlyByPeer, OnlyByServer, NotByServer}
 use Rattle.method_laws.proofs.Among.{among_one}
-use Rattle.world_laws.proofs.Asks.{AsksPeer, AsksServer, some_is}
+use Rattle.method_laws.proofs.Asks.{AsksPeer, AsksServer, some_is}
 use Rattle.method_laws.proofs.Fields.{fronts}
-use Rattle.world_laws.proofs.GpskPeerOwners.{gpsk2_created, long}
+use Rattle.method_laws.proofs.GpskPeerOwners.{gpsk2_created, long}
 use Rattle.method_laws.proofs.ServerByMethod.{created_by_gpsk}
 
 gpsk3_covers : (p : gpsk_peer.Login) (pd : List ℕ) (s : gpsk.Login) → length p.nonce ≡ 32
@@ -89,25 +87,24 @@ module _ (p : gpsk_peer.Login) (pd : List ℕ) (p_size : length p.nonce ≡ 32) 
   gpsk_tags_imply : (setup : ServerSetup) (current : Option ℕ) (views : ServerViews)
       (accepted made : List TagRecord)
       → ServerTags setup current views accepted made → IsIn gpsk3_tag made
-      → server_foreign current views ≡ Some (front p.nonce)
+      → server_foreign current views ≡ Some (rand_of p.nonce)
   gpsk_tags_imply setup current views accepted made tags is =
       let by = created_by_gpsk setup current views accepted made gpsk3_tag tags is refl in
       ap (λ (o : Option ℕ). server_foreign o views) by.is_current
       ∙ (ap gpsk_rand_p_in by.in_view
       ∙ ap front_in (gpsk_view_implies setup by.view accepted made by.told is).rand_p)
 
-  pub gpsk3_created : OnlyByServer gpsk3_tag (front p.nonce)
+  pub gpsk3_created : OnlyByServer gpsk3_tag (rand_of p.nonce)
   gpsk3_created = record {
     tells = λ setup nonce held accepted made told is.
-        sym told.held_is ∙ gpsk_tags_imply (servers.setup_with_nonce setup
-        nonce) told.current told.views accepted made told.tags is;
+        sym told.held_is ∙ gpsk_tags_imply (record setup { nonce = nonce }) told.current told.views accepted made told.tags is;
   }
 
 -- ---- no conversation of the server makes what a server accepts first
 
 -- the server's own name is that of its setup in each conversation
 gpsk_name : (setup : ServerSetup) (nonce : List ℕ) (login : gpsk.Login) (barred : Bool)
-    → GpskChecked (servers.setup_with_nonce setup nonce) login barred
+    → GpskChecked (record setup { nonce = nonce }) login barred
     → login.own.id_s ≡ setup.name
 unfolding side_of
 gpsk_name setup nonce login barred facts = ap (λ (own : ServerSide). own.id_s) facts.own
@@ -150,13 +147,13 @@ gpsk2_longer id_p id_s rand_p rand_s list suite pd rand_p' rand_s' suite' p s p'
     ))
 
 module _ (setup : ServerSetup) (nonce : List ℕ) (login : gpsk.Login) (barred : Bool) (pd : List ℕ)
-    (facts : GpskChecked (servers.setup_with_nonce setup nonce) login barred)
+    (facts : GpskChecked (record setup { nonce = nonce }) login barred)
     (size : length login.nonce ≡ 32) where
   abbrev gpsk2_tag : TagRecord
   gpsk2_tag = sk_record login.psk (gpsk2_of_login login pd)
 
   not_gpsk3 : (other : List ℕ) (theirs : gpsk.Login) (their_barred : Bool) → length other ≡ 32
-      → GpskChecked (servers.setup_with_nonce setup other) theirs their_barred
+      → GpskChecked (record setup { nonce = other }) theirs their_barred
       → covered_of (gpsk2_of_login login pd) ≡ covered_of (gpsk.gpsk3_of theirs) → ⊥
   unfolding covered_of
   not_gpsk3 other theirs their_barred other_size checked e =
@@ -178,7 +175,7 @@ module _ (setup : ServerSetup) (nonce : List ℕ) (login : gpsk.Login) (barred :
 
   gpsk2_not_in : (other : List ℕ) (view : gpsk.View) (accepted made : List TagRecord)
       → length other ≡ 32
-      → GpskServerTags (servers.setup_with_nonce setup other) view accepted made
+      → GpskServerTags (record setup { nonce = other }) view accepted made
       → IsIn gpsk2_tag made → ⊥
   gpsk2_not_in other _ _ _ o (gpsk_asked ordered) is = elim is [ ]
   gpsk2_not_in other _ _ _ o gpsk_refusing is = elim is [ ]
@@ -195,7 +192,7 @@ module _ (setup : ServerSetup) (nonce : List ℕ) (login : gpsk.Login) (barred :
   gpsk2_alien : NotByServer setup gpsk2_tag
   gpsk2_alien = record {
     none = λ other held accepted made o told is.
-        (let by = created_by_gpsk (servers.setup_with_nonce setup other)
+        (let by = created_by_gpsk (record setup { nonce = other })
         told.current told.views accepted made gpsk2_tag told.tags is refl in
         gpsk2_not_in other by.view accepted made o by.told is);
   }
@@ -204,10 +201,10 @@ module _ (setup : ServerSetup) (nonce : List ℕ) (login : gpsk.Login) (barred :
 
 module _ (setup : ServerSetup) (nonce foreign : List ℕ) (size : length nonce ≡ 32) where
   abbrev own : ServerSetup
-  own = servers.setup_with_nonce setup nonce
+  own = record setup { nonce = nonce }
 
   gpsk_asks : (login : gpsk.Login) (barred : Bool) (pd : List ℕ) (rest : List TagRecord)
-      → GpskChecked own login barred → Some (front login.rand_p) ≡ Some foreign
+      → GpskChecked own login barred → Some (rand_of login.rand_p) ≡ Some foreign
       → AsksPeer setup nonce foreign (sk_record login.psk (gpsk2_of_login login pd) ∷ rest)
   gpsk_asks login barred pd rest facts holds =
       let tag = sk_record login.psk (gpsk2_of_login login pd) in
@@ -216,9 +213,9 @@ module _ (setup : ServerSetup) (nonce foreign : List ℕ) (size : length nonce �
         tag = tag;
         rest = rest;
         first = refl;
-        made = subst (λ (x : List ℕ). OnlyByPeer tag x (front nonce)) (some_is _ _ holds)
-            (subst (λ (x : List ℕ). OnlyByPeer tag (front login.rand_p) x)
-            (ap front facts.nonce) made);
+        made = subst (λ (x : List ℕ). OnlyByPeer tag x (rand_of nonce)) (some_is _ _ holds)
+            (subst (λ (x : List ℕ). OnlyByPeer tag (rand_of login.rand_p) x)
+            (ap rand_of facts.nonce) made);
         alien = gpsk2_alien setup nonce login barred pd facts (ap length facts.nonce ∙ size);
       }
 
@@ -236,7 +233,7 @@ module _ (setup : ServerSetup) (nonce foreign : List ℕ) (size : length nonce �
 
 pub gpsk3_asks : (setup : PeerSetup) (nonce : List ℕ) (login : gpsk_peer.Login) (list pd : List ℕ)
     → length nonce ≡ 32
-    → GpskStarted (peers.setup_with_nonce setup nonce) login list
+    → GpskStarted (record setup { nonce = nonce }) login list
     → AsksServer nonce (sk_record login.cred.psk (gpsk3_of_login login pd) ∷ [])
 gpsk3_asks setup nonce login list pd size facts =
     let tag = gpsk3_tag login pd (ap length facts.nonce ∙ size) in
@@ -244,6 +241,6 @@ gpsk3_asks setup nonce login list pd size facts =
       tag = tag;
       rest = _;
       first = refl;
-      made = subst (λ (x : List ℕ). OnlyByServer tag (front x)) facts.nonce
+      made = subst (λ (x : List ℕ). OnlyByServer tag (rand_of x)) facts.nonce
           (gpsk3_created login pd (ap length facts.nonce ∙ size));
     }

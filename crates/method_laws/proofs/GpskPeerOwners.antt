@@ -10,8 +10,6 @@ use Rattle.eap_method.specs.GpskPeer as gpsk
 use Rattle.eap_method.specs.GpskServer as gpsk_server
 use Rattle.eap_method.specs.GpskTags.{sk_record}
 use Rattle.eap_method.specs.Peer.{PeerViews}
-use Rattle.peer_machine.specs.PeerTable as peers
-use Rattle.eap_world.specs.Conversations.{front}
 use Rattle.method_laws.specs.ByMethod.{PeerTags, peer_foreign}
 use Rattle.method_laws.specs.GpskPeerInvariant.{GpskStarted, GpskPeerTags, gpsk_unset, gpsk_fresh}
 use Rattle.method_laws.specs.GpskPeerInvariant.{gpsk_waits, gpsk_confirmed, gpsk_failed}
@@ -19,11 +17,12 @@ use Rattle.method_laws.specs.GpskPeerInvariant.{gpsk_barred}
 use Rattle.method_laws.specs.GpskPeerInvariant.{gpsk2_record, front_in, gpsk_whole_rand_s}
 use Rattle.method_laws.specs.GpskServerInvariant.{gpsk2_of_login}
 use Rattle.method_laws.specs.Records.{IsIn}
-use Rattle.world_laws.specs.TagOwners.{OnlyByPeer}
+use Rattle.method_laws.specs.TagOwners.{OnlyByPeer}
 use Rattle.method_laws.proofs.Among.{among_one, among_two}
 use Rattle.method_laws.proofs.Fields.{fronts, sized_fronts}
 use Rattle.method_laws.proofs.PeerByMethod.{created_by_gpsk}
 use Rattle.eap_method.specs.BothPeers.{gpsk_in}
+use Rattle.eap_method.specs.PskTags.{rand_of}
 
 -- what the MAC of GPSK-2 covers, cut at the nonces
 gpsk2_covers : (s : gpsk_server.Login) (p : gpsk.Login) (list pd : List ℕ) → length s.rand_p ≡ 32
@@ -72,7 +71,7 @@ module _ (s : gpsk_server.Login) (pd : List ℕ) (p_size : length s.rand_p ≡ 3
   gpsk2_tag = sk_record s.psk (gpsk2_of_login s pd)
 
   gpsk2_implies : (setup : PeerSetup) (nonce : List ℕ) (login : gpsk.Login) (list : List ℕ)
-      → length nonce ≡ 32 → GpskStarted (peers.setup_with_nonce setup nonce) login list
+      → length nonce ≡ 32 → GpskStarted (record setup { nonce = nonce }) login list
       → gpsk2_tag ≡ gpsk2_record login list → (nonce ≡ s.rand_p)
       × (Some login.rand_s ≡ Some s.nonce)
   gpsk2_implies setup nonce login list size facts e =
@@ -83,7 +82,7 @@ module _ (s : gpsk_server.Login) (pd : List ℕ) (p_size : length s.rand_p ≡ 3
   -- both nonces whole
   pub gpsk_view_implies : (setup : PeerSetup) (nonce : List ℕ) (view : gpsk.View)
       (accepted made : List TagRecord) → length nonce ≡ 32
-      → GpskPeerTags (peers.setup_with_nonce setup nonce) view accepted made → IsIn gpsk2_tag made
+      → GpskPeerTags (record setup { nonce = nonce }) view accepted made → IsIn gpsk2_tag made
       → (nonce ≡ s.rand_p) × (gpsk_whole_rand_s view ≡ Some s.nonce)
   gpsk_view_implies setup nonce _ _ _ size gpsk_unset is = elim is [ ]
   gpsk_view_implies setup nonce _ _ _ size (gpsk_fresh allowed) is = elim is [ ]
@@ -104,16 +103,16 @@ module _ (s : gpsk_server.Login) (pd : List ℕ) (p_size : length s.rand_p ≡ 3
 
   gpsk_tags_imply : (setup : PeerSetup) (nonce : List ℕ) (selected : Option ℕ) (views : PeerViews)
       (accepted made : List TagRecord) → length nonce ≡ 32
-      → PeerTags (peers.setup_with_nonce setup nonce) selected views accepted made
+      → PeerTags (record setup { nonce = nonce }) selected views accepted made
       → IsIn gpsk2_tag made
-      → (front nonce ≡ front s.rand_p) × (peer_foreign selected views ≡ Some (front s.nonce))
+      → (rand_of nonce ≡ rand_of s.rand_p) × (peer_foreign selected views ≡ Some (rand_of s.nonce))
   gpsk_tags_imply setup nonce selected views accepted made size tags is =
-      let by = created_by_gpsk (peers.setup_with_nonce setup nonce)
+      let by = created_by_gpsk (record setup { nonce = nonce })
       selected views accepted made gpsk2_tag tags is refl in
       let t = gpsk_view_implies setup nonce (gpsk_in views) accepted made size by.1 is in
-      (ap front t.0, ap (λ (o : Option ℕ). peer_foreign o views) by.0 ∙ ap front_in t.1)
+      (ap rand_of t.0, ap (λ (o : Option ℕ). peer_foreign o views) by.0 ∙ ap front_in t.1)
 
-  pub gpsk2_created : OnlyByPeer gpsk2_tag (front s.rand_p) (front s.nonce)
+  pub gpsk2_created : OnlyByPeer gpsk2_tag (rand_of s.rand_p) (rand_of s.nonce)
   gpsk2_created = record {
     tells = λ setup nonce held accepted made size told is.
         (let t =

@@ -9,23 +9,20 @@ use Rattle.eap_method.specs.Peer.{PeerViews}
 use Rattle.eap_method.specs.PskPeer as psk_peer
 use Rattle.eap_method.specs.PskServer as psk_server
 use Rattle.eap_method.specs.PskTags.{ak_record, rand_of, tek_record}
-use Rattle.peer_machine.specs.PeerTable as peers
-use Rattle.server_machine.specs.ServerTable as servers
-use Rattle.eap_world.specs.Conversations.{front}
 use Rattle.method_laws.specs.ByMethod.{peer_foreign, PeerTags}
 use Rattle.method_laws.specs.PskPeerInvariant.{psk_rand_s, PskPeerTags, psk_unset, psk_fresh}
 use Rattle.method_laws.specs.PskPeerInvariant.{psk_waits}
 use Rattle.method_laws.specs.PskPeerInvariant as psk_peer_stands
 use Rattle.method_laws.specs.PskServerInvariant.{PskServerTags, psk_over}
 use Rattle.method_laws.specs.Records.{IsIn, here, later}
-use Rattle.world_laws.specs.TagOwners.{OnlyByServer}
+use Rattle.method_laws.specs.TagOwners.{OnlyByServer}
 use Rattle.method_laws.proofs.Among.{among_one, among_two}
-use Rattle.world_laws.proofs.Asks.{AsksServer}
+use Rattle.method_laws.proofs.Asks.{AsksServer}
 use Rattle.method_laws.proofs.PeerByMethod.{created_by_psk}
 use Rattle.method_laws.proofs.PskFields.{front_size}
 use Rattle.method_laws.proofs.PskHeaders.{header_created, same_header}
-use Rattle.world_laws.proofs.PskPeerOwners.{labels_apart}
-use Rattle.world_laws.proofs.PskServerOwners.{mac_s_created}
+use Rattle.method_laws.proofs.PskPeerOwners.{labels_apart}
+use Rattle.method_laws.proofs.PskServerOwners.{mac_s_created}
 use Rattle.eap_method.specs.BothPeers.{psk_in}
 
 -- a conversation of the server with this nonce has accepted a PSK-4, whose header ends in its
@@ -36,11 +33,11 @@ pub record HasPsk4 (nonce : List ℕ) (accepted : List TagRecord) : Type 0 where
   pub sealed : ℕ
   pub tag : List ℕ
   pub is_in : IsIn (tek_record psk 1 header sealed tag) accepted
-  pub rand_in : drop 6 header ≡ front nonce
+  pub rand_in : drop 6 header ≡ rand_of nonce
 
 pub psk4_taken : (setup : ServerSetup) (nonce : List ℕ) (login : psk_server.Login) (good : Bool)
     (accepted made : List TagRecord)
-    → PskServerTags (servers.setup_with_nonce setup nonce) (psk_server.over login
+    → PskServerTags (record setup { nonce = nonce }) (psk_server.over login
     good) accepted made → HasPsk4 nonce accepted
 psk4_taken setup nonce login _ _ _ (psk_over _ _ header sealed id facts r_sent rand_in r_came) =
     record {
@@ -49,7 +46,7 @@ psk4_taken setup nonce login _ _ _ (psk_over _ _ header sealed id facts r_sent r
       sealed = sealed;
       tag = _;
       is_in = later _ _ (here _);
-      rand_in = rand_in ∙ ap front facts.nonce;
+      rand_in = rand_in ∙ ap rand_of facts.nonce;
     }
 
 -- a conversation of the peer holds this RAND_S, and asks of the server what only one that holds its
@@ -65,7 +62,7 @@ module _ (psk header : List ℕ) (sealed : ℕ) (tag rand_s : List ℕ) (rand_in
   psk4_tag = tek_record psk 1 header sealed tag
 
   view_asked : (view : psk_peer.View) (accepted made : List TagRecord)
-      → PskPeerTags (peers.setup_with_nonce setup nonce) view accepted made → IsIn psk4_tag made
+      → PskPeerTags (record setup { nonce = nonce }) view accepted made → IsIn psk4_tag made
       → HasAsked nonce rand_s (psk_rand_s view) accepted
   unfolding psk_peer.mac_s_covers
   view_asked _ _ _ psk_unset is = elim is [ ]
@@ -89,7 +86,7 @@ module _ (psk header : List ℕ) (sealed : ℕ) (tag rand_s : List ℕ) (rand_in
                 tag = t;
                 rest = _;
                 first = refl;
-                made = subst (λ (x : List ℕ). OnlyByServer t x) (ap front facts.nonce)
+                made = subst (λ (x : List ℕ). OnlyByServer t x) (ap rand_of facts.nonce)
                     (mac_s_created login.cred.psk login.id_s (rand_of login.nonce)
                     (psk_peer.mac_s_of login) n_front);
               };
@@ -97,10 +94,10 @@ module _ (psk header : List ℕ) (sealed : ℕ) (tag rand_s : List ℕ) (rand_in
       ]
 
   pub has_asked : (selected : Option ℕ) (views : PeerViews) (accepted made : List TagRecord)
-      → PeerTags (peers.setup_with_nonce setup nonce) selected views accepted made
+      → PeerTags (record setup { nonce = nonce }) selected views accepted made
       → IsIn psk4_tag made → HasAsked nonce rand_s (peer_foreign selected views) accepted
   has_asked selected views accepted made told is =
-      let by = created_by_psk (peers.setup_with_nonce setup nonce)
+      let by = created_by_psk (record setup { nonce = nonce })
       selected views accepted made psk4_tag told is refl in
       let h = view_asked (psk_in views) accepted made by.1 is in
       record { holds = ap (λ (o : Option ℕ). peer_foreign o views) by.0 ∙ h.holds; asks = h.asks }

@@ -8,8 +8,6 @@ use Rattle.eap_method.specs.declared.tags.TagRecord.{TagRecord}
 use Rattle.eap_method.specs.GpskPeer as peer
 use Rattle.eap_method.specs.GpskServer as server
 use Rattle.eap_method.specs.GpskTags.{sk_record}
-use Rattle.peer_machine.specs.PeerTable as peers
-use Rattle.server_machine.specs.ServerTable as servers
 use Rattle.method_laws.specs.GpskPeerInvariant.{gpsk_whole_rand_s, GpskStarted, GpskPeerTags}
 use Rattle.method_laws.specs.GpskPeerInvariant.{gpsk3_of_login}
 use Rattle.method_laws.specs.GpskServerInvariant.{gpsk_whole_rand_p, GpskChecked, GpskServerTags}
@@ -17,8 +15,8 @@ use Rattle.method_laws.specs.GpskServerInvariant.{gpsk2_of_login}
 use Rattle.method_laws.specs.GpskServerInvariant as gpsk_server_stands
 use Rattle.method_laws.specs.Records.{IsIn}
 use Rattle.method_laws.proofs.Among.{first_is, no_tag}
-use Rattle.world_laws.proofs.GpskPeerOwners as gpsk_peer_tells
-use Rattle.world_laws.proofs.GpskServerOwners as gpsk_server_tells
+use Rattle.method_laws.proofs.GpskPeerOwners as gpsk_peer_tells
+use Rattle.method_laws.proofs.GpskServerOwners as gpsk_server_tells
 
 -- the tag is that of a GPSK-2 that a conversation of the server accepted, whose RAND_Peer it holds
 pub record HasChained (setup : ServerSetup) (view : server.View) (tag : TagRecord) : Type 0 where
@@ -78,9 +76,9 @@ module _ (peer_setup : PeerSetup) (server_setup : ServerSetup) (nonce server_non
     (size : length nonce ≡ 32) (server_size : length server_nonce ≡ 32) where
   -- one of the server that rests on one of the peer
   pub server_on : (view : server.View) (tag : TagRecord)
-      → HasChained (servers.setup_with_nonce server_setup server_nonce) view tag
+      → HasChained (record server_setup { nonce = server_nonce }) view tag
       → (peer_view : peer.View) (accepted made : List TagRecord)
-      → GpskPeerTags (peers.setup_with_nonce peer_setup nonce) peer_view accepted made
+      → GpskPeerTags (record peer_setup { nonce = nonce }) peer_view accepted made
       → IsIn tag made
       → (gpsk_whole_rand_s peer_view ≡ Some server_nonce) × (gpsk_whole_rand_p view ≡ Some nonce)
   server_on view tag taken peer_view accepted made told is =
@@ -94,14 +92,14 @@ module _ (peer_setup : PeerSetup) (server_setup : ServerSetup) (nonce server_non
 
   -- one of the peer that rests on one of the server
   pub peer_on : (login : peer.Login) (list pd : List ℕ)
-      → GpskStarted (peers.setup_with_nonce peer_setup nonce) login list
+      → GpskStarted (record peer_setup { nonce = nonce }) login list
       → (view : server.View) (accepted made : List TagRecord)
-      → GpskServerTags (servers.setup_with_nonce server_setup server_nonce) view accepted made
+      → GpskServerTags (record server_setup { nonce = server_nonce }) view accepted made
       → IsIn (sk_record login.cred.psk (gpsk3_of_login login pd)) made
       → (Some login.rand_s ≡ Some server_nonce) × (gpsk_whole_rand_p view ≡ Some nonce)
   peer_on login list pd facts view accepted made told is =
       let both = gpsk_server_tells.gpsk_view_implies login pd (ap length facts.nonce ∙ size)
-      (servers.setup_with_nonce server_setup server_nonce) view accepted made told is in (
+      (record server_setup { nonce = server_nonce }) view accepted made told is in (
         ap (λ (x : List ℕ). Some x) (both.rand_s facts.size server_size),
         both.rand_p ∙ ap (λ (x : List ℕ). Some x) facts.nonce,
       )

@@ -2,8 +2,8 @@
 use Rattle.std.proofs.Common.{◌≡◌, ℕ, List, ◌∷◌, Some}
 use Rattle.login_setup.specs.Setup.{ServerSetup}
 use Rattle.eap_method.specs.declared.tags.TagRecord.{TagRecord}
-use Rattle.eap_world.specs.Conversations.{front}
-use Rattle.world_laws.specs.TagOwners.{OnlyByPeer, OnlyByServer, NotByServer}
+use Rattle.eap_method.specs.PskTags.{rand_of}
+use Rattle.method_laws.specs.TagOwners.{OnlyByPeer, OnlyByServer, NotByServer}
 
 pub some_is : (x y : List ℕ) → Some x ≡ Some y → x ≡ y
 some_is x y e = cc
@@ -15,7 +15,7 @@ pub record AsksPeer (setup : ServerSetup) (nonce foreign : List ℕ)
   pub tag : TagRecord
   pub rest : List TagRecord
   pub first : accepted ≡ tag ∷ rest
-  pub made : OnlyByPeer tag foreign (front nonce)
+  pub made : OnlyByPeer tag foreign (rand_of nonce)
   pub alien : NotByServer setup tag
 
 -- a peer that has succeeded has accepted a tag that only a server which holds the peer's nonce can
@@ -24,4 +24,4 @@ pub record AsksServer (nonce : List ℕ) (accepted : List TagRecord) : Type 0 wh
   pub tag : TagRecord
   pub rest : List TagRecord
   pub first : accepted ≡ tag ∷ rest
-  pub made : OnlyByServer tag (front nonce)
+  pub made : OnlyByServer tag (rand_of nonce)

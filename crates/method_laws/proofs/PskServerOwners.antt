@@ -10,20 +10,17 @@ use Rattle.eap_method.specs.PskPeer as psk_peer
 use Rattle.eap_method.specs.PskServer as psk
 use Rattle.eap_method.specs.PskTags.{ak_record, rand_of, mac_p_octets, mac_s_octets}
 use Rattle.eap_method.specs.Server.{ServerViews, side_of}
-use Rattle.peer_machine.specs.PeerTable as peers
-use Rattle.server_machine.specs.ServerTable as servers
-use Rattle.eap_world.specs.Conversations.{front}
 use Rattle.method_laws.specs.ByMethod.{ServerTags, server_foreign}
 use Rattle.method_laws.specs.PskPeerInvariant.{PskStarted, psk3_records_of}
 use Rattle.method_laws.specs.PskServerInvariant.{PskChecked, PskServerTags, psk_asked, psk_checked}
 use Rattle.method_laws.specs.PskServerInvariant.{psk_refused, psk_over, psk_rand_p, psk_rand_p_in}
 use Rattle.method_laws.specs.Records.{IsIn}
-use Rattle.world_laws.specs.TagOwners.{OnlyByPeer, OnlyByServer, NotByServer}
+use Rattle.method_laws.specs.TagOwners.{OnlyByPeer, OnlyByServer, NotByServer}
 use Rattle.method_laws.proofs.Among.{among_two}
-use Rattle.world_laws.proofs.Asks.{AsksPeer, AsksServer, some_is}
+use Rattle.method_laws.proofs.Asks.{AsksPeer, AsksServer, some_is}
 use Rattle.method_laws.proofs.Fields.{ends}
 use Rattle.method_laws.proofs.PskFields.{front_size}
-use Rattle.world_laws.proofs.PskPeerOwners.{labels_apart, mac_p_created}
+use Rattle.method_laws.proofs.PskPeerOwners.{labels_apart, mac_p_created}
 use Rattle.method_laws.proofs.ServerByMethod.{created_by_psk}
 
 mac_s_implies : (id_s rand_p name rand_p' : List ℕ) → length rand_p ≡ 16 → length rand_p' ≡ 16
@@ -69,8 +66,7 @@ module _ (key id_s rand_p mac : List ℕ) (p_size : length rand_p ≡ 16) where
   pub mac_s_created : OnlyByServer mac_s_tag rand_p
   mac_s_created = record {
     tells = λ setup nonce held accepted made told is.
-        sym told.held_is ∙ psk_tags_imply (servers.setup_with_nonce setup
-        nonce) told.current told.views accepted made told.tags is;
+        sym told.held_is ∙ psk_tags_imply (record setup { nonce = nonce }) told.current told.views accepted made told.tags is;
   }
 
 -- ---- no conversation of the server makes what a server accepts first
@@ -97,18 +93,17 @@ mac_p_longer id_p id_s rand_s rand_p rand_p' p p' s e =
 
 -- the server's own name is that of its setup in each conversation
 psk_name : (setup : ServerSetup) (nonce : List ℕ) (login : psk.Login)
-    → PskChecked (servers.setup_with_nonce setup nonce) login → login.own.id_s ≡ setup.name
+    → PskChecked (record setup { nonce = nonce }) login → login.own.id_s ≡ setup.name
 unfolding side_of
 psk_name setup nonce login facts = ap (λ (own : ServerSide). own.id_s) facts.own
 
 module _ (setup : ServerSetup) (nonce : List ℕ) (login : psk.Login)
-    (facts : PskChecked (servers.setup_with_nonce setup nonce) login) (mac : List ℕ)
+    (facts : PskChecked (record setup { nonce = nonce }) login) (mac : List ℕ)
     (n_front : length (rand_of login.nonce) ≡ 16) where
   abbrev psk2_tag : TagRecord
   psk2_tag = ak_record login.psk (psk.mac_p_covers login) mac
 
-  not_psk3 : (other : List ℕ) (theirs : psk.Login) (id : ℕ) → PskChecked (servers.setup_with_nonce
-      setup other) theirs → IsIn psk2_tag (psk.psk3_records theirs id) → ⊥
+  not_psk3 : (other : List ℕ) (theirs : psk.Login) (id : ℕ) → PskChecked (record setup { nonce = other }) theirs → IsIn psk2_tag (psk.psk3_records theirs id) → ⊥
   unfolding psk.mac_p_covers psk.mac_s_covers
   not_psk3 other theirs id checked is =
       elim (among_two _ _ _ is) [
@@ -121,7 +116,7 @@ module _ (setup : ServerSetup) (nonce : List ℕ) (login : psk.Login)
       ]
 
   psk2_not_in : (other : List ℕ) (view : psk.View) (accepted made : List TagRecord)
-      → PskServerTags (servers.setup_with_nonce setup other) view accepted made
+      → PskServerTags (record setup { nonce = other }) view accepted made
       → IsIn psk2_tag made → ⊥
   psk2_not_in other _ _ _ (psk_asked ordered) is = elim is [ ]
   psk2_not_in other _ _ _ (psk_checked theirs id checked) is = not_psk3 other theirs id checked is
@@ -132,7 +127,7 @@ module _ (setup : ServerSetup) (nonce : List ℕ) (login : psk.Login)
   psk2_alien : NotByServer setup psk2_tag
   psk2_alien = record {
     none = λ other held accepted made size told is.
-        (let by = created_by_psk (servers.setup_with_nonce setup other)
+        (let by = created_by_psk (record setup { nonce = other })
         told.current told.views accepted made psk2_tag told.tags is refl in
         psk2_not_in other by.view accepted made by.told is);
   }
@@ -141,7 +136,7 @@ module _ (setup : ServerSetup) (nonce : List ℕ) (login : psk.Login)
 
 module _ (setup : ServerSetup) (nonce foreign : List ℕ) (size : length nonce ≡ 32) where
   abbrev own : ServerSetup
-  own = servers.setup_with_nonce setup nonce
+  own = record setup { nonce = nonce }
 
   psk_asks : (login : psk.Login) (rest : List TagRecord) → PskChecked own login
       → Some login.rand_p ≡ Some foreign
@@ -158,8 +153,8 @@ module _ (setup : ServerSetup) (nonce foreign : List ℕ) (size : length nonce �
         tag = tag;
         rest = rest;
         first = refl;
-        made = subst (λ (x : List ℕ). OnlyByPeer tag x (front nonce)) (some_is _ _ holds)
-            (subst (λ (x : List ℕ). OnlyByPeer tag login.rand_p x) (ap front facts.nonce) made);
+        made = subst (λ (x : List ℕ). OnlyByPeer tag x (rand_of nonce)) (some_is _ _ holds)
+            (subst (λ (x : List ℕ). OnlyByPeer tag login.rand_p x) (ap rand_of facts.nonce) made);
         alien = psk2_alien setup nonce login facts (psk.mac_p_of login) n_front;
       }
 
@@ -174,7 +169,7 @@ module _ (setup : ServerSetup) (nonce foreign : List ℕ) (size : length nonce �
 
 pub psk3_asks : (setup : PeerSetup) (nonce : List ℕ) (login : psk_peer.Login) (header : List ℕ)
     (sealed : ℕ) → length nonce ≡ 32
-    → PskStarted (peers.setup_with_nonce setup nonce) login
+    → PskStarted (record setup { nonce = nonce }) login
     → AsksServer nonce (psk3_records_of login header sealed)
 unfolding psk_peer.mac_s_covers
 psk3_asks setup nonce login header sealed size facts =
@@ -185,7 +180,7 @@ psk3_asks setup nonce login header sealed size facts =
       tag = tag;
       rest = _;
       first = refl;
-      made = subst (λ (x : List ℕ). OnlyByServer tag x) (ap front facts.nonce)
+      made = subst (λ (x : List ℕ). OnlyByServer tag x) (ap rand_of facts.nonce)
           (mac_s_created login.cred.psk login.id_s (rand_of login.nonce)
           (psk_peer.mac_s_of login) n_front);
     }
