@@ -101,3 +101,8 @@ pub mod PskPeerOwners
 pub mod PskServerOwners
 -- A server that holds a nonce of the peer asks so of it, by either method.
 pub mod ServerAsks
+-- Each tag that a conversation accepted or made is the right MAC of its octets, under a key that
+-- the conversation derives.
+pub mod RightMacs
+-- What the peer brings into a method is its setup's.
+pub mod Credentials

@@ -20,7 +20,8 @@ use Rattle.method_laws.specs.ByMethod.{PeerHasSucceeded, PeerTags, gpsk_peer_suc
 use Rattle.method_laws.specs.ByMethod.{gpsk_selected, none_selected, psk_peer_succeeded}
 use Rattle.method_laws.specs.ByMethod.{psk_selected}
 use Rattle.method_laws.specs.GpskPeerInvariant.{GpskPeerTags, gpsk_unset, gpsk_fresh}
-use Rattle.method_laws.specs.PeerHistory.{PeerHistory, begun, responded, PeerHas, each_begun}
+use Rattle.method_laws.specs.PeerHistory.{PeerHistory}
+use Rattle.method_laws.specs.PeerHistory.{PeerHistoriesTell, begun, responded, PeerHas, each_begun}
 use Rattle.method_laws.specs.PeerHistory.{selected_has, TellsOf}
 use Rattle.method_laws.specs.PskPeerInvariant.{PskPeerTags, psk_unset, psk_fresh}
 use Rattle.method_laws.proofs.GpskPeerCases.{gpsk_peer_steps_are_rows}
@@ -53,18 +54,16 @@ at_turn setup by_gpsk view octets packet state d last tags accepted made tells t
     record { told = both.0; decided = both.1 }
 at_turn setup (by_other custom) view octets packet state d last tags accepted made tells turn = tt
 
-pub history_tells : (setup : PeerSetup) (s : PeerShown) (d : Decision)
-    (accepted made : List TagRecord) → PeerHistory setup s d accepted made
-    → TellsOf setup s.method s.view d accepted made
+pub peer_histories_tell : PeerHistoriesTell
 unfolding peer_step
-history_tells setup _ _ _ _ (begun s allowed) = at_start setup s.method allowed
-history_tells setup _ _ _ _ (responded s after octets packet m d last tags accepted made before
+peer_histories_tell setup _ _ _ _ (begun s allowed) = at_start setup s.method allowed
+peer_histories_tell setup _ _ _ _ (responded s after octets packet m d last tags accepted made before
     turn) =
     subst (λ (t : PeerShown).
     TellsOf setup t.method t.view d (accepted ++ tags.accepted) (made ++ tags.made))
     (ap (λ (out : PeerOutcome PeerShown). out.after) turn)
     (at_turn setup s.method s.view octets packet m d last tags accepted made
-    (history_tells setup s last accepted made before)
+    (peer_histories_tell setup s last accepted made before)
     (ap (λ (out : PeerOutcome PeerShown). out.turn) turn))
 
 -- ---- by the selected method
@@ -78,7 +77,7 @@ module _ (setup : PeerSetup) where
     where
       of_one : (s : PeerShown) → IsOne psk_kind s → PeerHistory setup s decision.Fail [] []
           → PskPeerTags setup (psk_shown (Some s)) [] []
-      of_one _ (is_psk same view) history = (history_tells setup _ _ _ _ history).told
+      of_one _ (is_psk same view) history = (peer_histories_tell setup _ _ _ _ history).told
       of_one _ (is_gpsk same view) history = absurd (omega (arith, same))
 
   gpsk_begun : (found : Option PeerShown) → ((s : PeerShown) → found ≡ Some s → IsOne gpsk_kind s)
@@ -90,7 +89,7 @@ module _ (setup : PeerSetup) where
       of_one : (s : PeerShown) → IsOne gpsk_kind s → PeerHistory setup s decision.Fail [] []
           → GpskPeerTags setup (gpsk_shown (Some s)) [] []
       of_one _ (is_psk same view) history = absurd (omega (arith, same))
-      of_one _ (is_gpsk same view) history = (history_tells setup _ _ _ _ history).told
+      of_one _ (is_gpsk same view) history = (peer_histories_tell setup _ _ _ _ history).told
 
   module _ (selected : Option ℕ) (views : PeerViews) (d : Decision) (accepted made : List TagRecord)
       (kind : ℕ) (is_selected : selected ≡ Some kind) where
@@ -100,21 +99,21 @@ module _ (setup : PeerSetup) where
         psk_selected accepted made (is_selected ∙ ap (λ (k : ℕ). Some k) same)
         (subst (λ (v : _). PskPeerTags setup v accepted made)
         (sym (ap psk_shown (ap views (sym same) ∙ in_view)))
-        (history_tells setup _ _ _ _ history).told)
+        (peer_histories_tell setup _ _ _ _ history).told)
     selected_tags _ (is_gpsk same view) in_view history =
         gpsk_selected accepted made (is_selected ∙ ap (λ (k : ℕ). Some k) same)
         (subst (λ (v : _). GpskPeerTags setup v accepted made)
         (sym (ap gpsk_shown (ap views (sym same) ∙ in_view)))
-        (history_tells setup _ _ _ _ history).told)
+        (peer_histories_tell setup _ _ _ _ history).told)
 
     selected_succeeds : (s : PeerShown) → IsOne kind s → views kind ≡ Some s
         → PeerHistory setup s d accepted made → d ≢ decision.Fail → PeerHasSucceeded selected views
     selected_succeeds _ (is_psk same view) in_view history sure =
-        let won = (history_tells setup _ _ _ _ history).decided sure in
+        let won = (peer_histories_tell setup _ _ _ _ history).decided sure in
         psk_peer_succeeded won.0 (is_selected ∙ ap (λ (k : ℕ). Some k) same)
         (ap psk_shown (ap views (sym same) ∙ in_view) ∙ won.1)
     selected_succeeds _ (is_gpsk same view) in_view history sure =
-        let won = (history_tells setup _ _ _ _ history).decided sure in
+        let won = (peer_histories_tell setup _ _ _ _ history).decided sure in
         gpsk_peer_succeeded won.0 (is_selected ∙ ap (λ (k : ℕ). Some k) same)
         (ap gpsk_shown (ap views (sym same) ∙ in_view) ∙ won.1)
 

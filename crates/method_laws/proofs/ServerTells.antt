@@ -21,7 +21,8 @@ use Rattle.method_laws.specs.ByMethod.{gpsk_server_succeeded, identity_current, 
 use Rattle.method_laws.specs.ByMethod.{psk_current, psk_server_succeeded}
 use Rattle.method_laws.specs.GpskServerInvariant.{gpsk_asked}
 use Rattle.method_laws.specs.PskServerInvariant.{psk_asked}
-use Rattle.method_laws.specs.ServerHistory.{ServerHistory, initiated, requested, ended, ServerHas}
+use Rattle.method_laws.specs.ServerHistory.{ServerHistory}
+use Rattle.method_laws.specs.ServerHistory.{ServerHistoriesTell, initiated, requested, ended, ServerHas}
 use Rattle.method_laws.specs.ServerHistory.{unproposed, identity_round, current_has, TellsOf}
 use Rattle.method_laws.proofs.GpskServerCases.{gpsk_server_steps_are_rows}
 use Rattle.method_laws.proofs.GpskServerTurns.{gpsk_turned}
@@ -73,26 +74,24 @@ module _ (setup : ServerSetup) where
         record { told = both.0; well = both.1 }
     at_end (by_other custom) view good tells turned = tt
 
-pub history_tells : (setup : ServerSetup) (s : ServerShown) (good : Bool)
-    (accepted made : List TagRecord) → ServerHistory setup s good accepted made
-    → TellsOf setup s.method s.view good accepted made
+pub server_histories_tell : ServerHistoriesTell
 unfolding server_first_step server_step
-history_tells setup _ _ _ _ (initiated s id ordered) = at_first setup s.method id ordered
-history_tells setup _ _ _ _
+server_histories_tell setup _ _ _ _ (initiated s id ordered) = at_first setup s.method id ordered
+server_histories_tell setup _ _ _ _
     (requested s after id octets packet last tags accepted made before turned) =
     subst (λ (t : ServerShown).
     TellsOf setup t.method t.view false (accepted ++ tags.accepted) (made ++ tags.made))
     (ap (λ (out : ServerOutcome ServerShown). out.after) turned)
     (at_request setup id octets last tags accepted made s.method s.view packet
-    (history_tells setup s last accepted made before)
+    (server_histories_tell setup s last accepted made before)
     (ap (λ (out : ServerOutcome ServerShown). out.turn) turned))
-history_tells setup _ _ _ _
+server_histories_tell setup _ _ _ _
     (ended s after id octets last good tags accepted made before turned) =
     subst (λ (t : ServerShown).
     TellsOf setup t.method t.view good (accepted ++ tags.accepted) (made ++ tags.made))
     (ap (λ (out : ServerOutcome ServerShown). out.after) turned)
     (at_end setup id octets last tags accepted made s.method s.view good
-    (history_tells setup s last accepted made before)
+    (server_histories_tell setup s last accepted made before)
     (ap (λ (out : ServerOutcome ServerShown). out.turn) turned))
 
 -- ---- by the current method
@@ -104,20 +103,20 @@ module _ (setup : ServerSetup) where
         → ServerHistory setup s good accepted made → ServerTags setup current views accepted made
     current_tags _ (is_psk same view) in_view history =
         psk_current view accepted made (is_current ∙ ap (λ (k : ℕ). Some k) same)
-        (ap psk_shown (ap views (sym same) ∙ in_view)) (history_tells setup _ _ _ _ history).told
+        (ap psk_shown (ap views (sym same) ∙ in_view)) (server_histories_tell setup _ _ _ _ history).told
     current_tags _ (is_gpsk same view) in_view history =
         gpsk_current view accepted made (is_current ∙ ap (λ (k : ℕ). Some k) same)
-        (ap gpsk_shown (ap views (sym same) ∙ in_view)) (history_tells setup _ _ _ _ history).told
+        (ap gpsk_shown (ap views (sym same) ∙ in_view)) (server_histories_tell setup _ _ _ _ history).told
 
     current_succeeds : (s : ServerShown) → IsOne kind s → views kind ≡ Some s
         → ServerHistory setup s good accepted made → good ≡ true
         → ServerHasSucceeded current views
     current_succeeds _ (is_psk same view) in_view history well =
-        let won = (history_tells setup _ _ _ _ history).well well in
+        let won = (server_histories_tell setup _ _ _ _ history).well well in
         psk_server_succeeded won.0 (is_current ∙ ap (λ (k : ℕ). Some k) same)
         (ap psk_shown (ap views (sym same) ∙ in_view) ∙ ap (λ (v : psk.View). Some v) won.1)
     current_succeeds _ (is_gpsk same view) in_view history well =
-        let won = (history_tells setup _ _ _ _ history).well well in
+        let won = (server_histories_tell setup _ _ _ _ history).well well in
         gpsk_server_succeeded won.0 (is_current ∙ ap (λ (k : ℕ). Some k) same)
         (ap gpsk_shown (ap views (sym same) ∙ in_view) ∙ ap (λ (v : gpsk.View). Some v) won.1)
 

@@ -15,3 +15,4 @@ pub mod Records
 pub mod PeerHistory
 pub mod ServerHistory
 pub mod TagOwners
+pub mod RightMacs

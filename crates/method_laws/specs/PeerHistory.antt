@@ -62,3 +62,9 @@ TellsOf setup by_psk view d accepted made =
 TellsOf setup by_gpsk view d accepted made =
     Tells (GpskPeerTags setup) gpsk_succeeds view d accepted made
 TellsOf setup (by_other custom) view d accepted made = Unit {0}
+
+-- every history tells so
+abbrev pub PeerHistoriesTell : Type 0
+PeerHistoriesTell = (setup : PeerSetup) (s : PeerShown) (d : Decision)
+    (accepted made : List TagRecord) → PeerHistory setup s d accepted made
+    → TellsOf setup s.method s.view d accepted made

@@ -66,3 +66,9 @@ TellsOf setup by_psk view good accepted made =
 TellsOf setup by_gpsk view good accepted made =
     Tells (GpskServerTags setup) gpsk_succeeds view good accepted made
 TellsOf setup (by_other custom) view good accepted made = Unit {0}
+
+-- every history tells so
+abbrev pub ServerHistoriesTell : Type 0
+ServerHistoriesTell = (setup : ServerSetup) (s : ServerShown) (good : Bool)
+    (accepted made : List TagRecord) → ServerHistory setup s good accepted made
+    → TellsOf setup s.method s.view good accepted made

@@ -32,7 +32,8 @@ use Rattle.world_laws.proofs.Conversations.{conversations_are_all}
 use Rattle.world_laws.proofs.HonestRuns.{honest_ends_agree}
 use Rattle.world_laws.proofs.PastConversations.{in_either}
 use Rattle.world_laws.proofs.PresentUnderKey.{ends_agree_under}
-use Rattle.world_laws.proofs.RightMacs.{OfEach, peer_tags_right, server_tags_right}
+use Rattle.method_laws.specs.RightMacs.{OfEach}
+use Rattle.method_laws.proofs.RightMacs.{peer_tags_right, server_tags_right}
 use Rattle.method_laws.proofs.TagsOfEnds.{in_if, skip_if}
 use Rattle.world_laws.specs.Runs.{run_of}
 use Rattle.world_laws.proofs.Told.{peer_tags, server_tags}

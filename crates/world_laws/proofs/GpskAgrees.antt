@@ -34,7 +34,7 @@ use Rattle.method_laws.specs.Records.{IsIn}
 use Rattle.method_laws.proofs.Among.{among_one, among_two}
 use Rattle.world_laws.proofs.EqualReports.{reports_agree}
 use Rattle.method_laws.proofs.Fields.{fronts, sized_fronts, suite_fronts}
-use Rattle.world_laws.proofs.Results.{own_key, own_name}
+use Rattle.method_laws.proofs.Credentials.{own_key, own_name}
 use Rattle.eap_method.specs.BothPeers.{gpsk_in, gpsk_of, gpsk_shown}
 use Rattle.eap_method.specs.Peer.{Method, by_psk, by_gpsk, by_other, View, report, PeerShown}
 use Rattle.eap_method.specs.Peer.{peer_report, reported}

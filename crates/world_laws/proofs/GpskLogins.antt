@@ -28,8 +28,8 @@ use Rattle.method_laws.proofs.Among.{among_one, among_two}
 use Rattle.world_laws.proofs.GpskAgrees as agrees
 use Rattle.method_laws.proofs.GpskPeerOwners.{not_fail, not_gpsk4}
 use Rattle.method_laws.proofs.GpskServerOwners.{not_bars}
-use Rattle.world_laws.proofs.Results.{ResultsIn, LoginOf, PeersLogin, ServersLogin, own_key}
-use Rattle.world_laws.proofs.Results.{own_name}
+use Rattle.world_laws.proofs.Results.{ResultsIn, LoginOf, PeersLogin, ServersLogin}
+use Rattle.method_laws.proofs.Credentials.{own_key, own_name}
 use Rattle.world_laws.proofs.SucceedingEnds.{FirstIn}
 use Rattle.eap_method.specs.BothPeers.{gpsk_in}
 

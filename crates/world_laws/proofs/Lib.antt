@@ -129,9 +129,6 @@ pub mod PresentUnderKey
 pub mod SessionIds
 -- A book that is honest is honest under each key.
 pub mod HonestUnder
--- Each tag that a conversation accepted or made is the right MAC of its octets, under a key that
--- the conversation derives.
-pub mod RightMacs
 -- The entries of a run's book are right MACs of its conversations, and a book that isn't honest
 -- shows one that was not computed before.
 pub mod Forgery

@@ -30,7 +30,7 @@ use Rattle.method_laws.proofs.Among.{among_one, among_two}
 use Rattle.world_laws.proofs.GpskAgrees as gpsk_agrees
 use Rattle.method_laws.proofs.OneMethod.{some_same}
 use Rattle.world_laws.proofs.PskAgrees as psk_agrees
-use Rattle.world_laws.proofs.Results.{own_key}
+use Rattle.method_laws.proofs.Credentials.{own_key}
 use Rattle.world_laws.proofs.SucceedingEnds.{PeerSucceeds, ServerSucceeds, with_psk, with_gpsk}
 use Rattle.world_laws.proofs.SucceedingEnds.{of_psk, of_gpsk}
 use Rattle.eap_method.specs.BothPeers.{psk_in}

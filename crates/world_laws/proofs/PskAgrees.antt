@@ -32,7 +32,7 @@ use Rattle.method_laws.specs.Records.{IsIn}
 use Rattle.method_laws.proofs.Among.{among_two}
 use Rattle.world_laws.proofs.EqualReports.{reports_agree}
 use Rattle.method_laws.proofs.Fields.{ends}
-use Rattle.world_laws.proofs.Results.{own_key, own_name}
+use Rattle.method_laws.proofs.Credentials.{own_key, own_name}
 use Rattle.method_laws.proofs.PskFields.{front_size}
 use Rattle.eap_method.specs.BothPeers.{psk_in, psk_of, psk_shown}
 use Rattle.eap_method.specs.Peer.{Method, by_psk, by_gpsk, by_other, View, report, PeerShown}

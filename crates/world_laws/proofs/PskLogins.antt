@@ -27,8 +27,8 @@ use Rattle.method_laws.specs.PskServerInvariant as psk_server_stands
 use Rattle.method_laws.specs.Records.{IsIn, here}
 use Rattle.method_laws.proofs.Among.{among_one, among_two, first_is, no_tag}
 use Rattle.method_laws.proofs.Fields.{ends}
-use Rattle.world_laws.proofs.Results.{ResultsIn, LoginOf, PeersLogin, ServersLogin, own_key}
-use Rattle.world_laws.proofs.Results.{own_name}
+use Rattle.world_laws.proofs.Results.{ResultsIn, LoginOf, PeersLogin, ServersLogin}
+use Rattle.method_laws.proofs.Credentials.{own_key, own_name}
 use Rattle.world_laws.proofs.PskAgrees as agrees
 use Rattle.method_laws.proofs.PskFields.{front_size}
 use Rattle.method_laws.proofs.PskHeaders.{same_sealed}

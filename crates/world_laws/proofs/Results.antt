@@ -1,27 +1,15 @@
 -- To what the login of a conversation leads, beside what the other end reports: names, user and
 -- key.
-use Rattle.std.proofs.Common.{◌≡◌, ℕ, List, Option, Some, ap, ◌∙◌}
+use Rattle.std.proofs.Common.{◌≡◌, ℕ, List, Option, Some, ◌∙◌}
 use Rattle.login_setup.specs.declared.setup.PeerSetup.{PeerSetup}
 use Rattle.login_setup.specs.Setup.{ServerSetup}
 use Rattle.login_setup.specs.Users.{user_of}
 use Rattle.login_setup.specs.declared.users.User.{User}
-use Rattle.eap_method.specs.declared.values.Credential.{Credential}
 use Rattle.eap_method.specs.declared.values.Report.{Report}
-use Rattle.eap_method.specs.Peer.{credential_for, key_for}
+use Rattle.eap_method.specs.Peer.{key_for}
 use Rattle.peer_machine.specs.PeerTable.{PeerNow, peer_reports}
 use Rattle.server_machine.specs.ServerTable.{ServerNow, server_reports}
 use Rattle.world_laws.specs.Alone.{SameKeys}
-
--- what the peer brings into a method is its setup's
-pub own_name : (setup : PeerSetup) (kind : ℕ) (cred : Credential) → cred ≡ credential_for setup kind
-    → cred.id_p ≡ setup.name
-unfolding credential_for
-own_name setup kind cred e = ap (λ (c : Credential). c.id_p) e
-
-pub own_key : (setup : PeerSetup) (kind : ℕ) (cred : Credential) → cred ≡ credential_for setup kind
-    → cred.psk ≡ key_for setup kind
-unfolding credential_for
-own_key setup kind cred e = ap (λ (c : Credential). c.psk) e
 
 -- the login of a view leads to the report, whose names and user are the server's, with this key
 pub record LoginOf (setup : ServerSetup) (login : Option Report) (report : Report)

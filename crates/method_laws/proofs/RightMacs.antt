@@ -20,19 +20,17 @@ use Rattle.eap_method.specs.declared.tags.Label.TheVariants.{Sk}
 use Rattle.eap_method.specs.GpskTags.{sk_record}
 use Rattle.login_keys.specs.Gpsk.{gpsk_tag_of}
 use Rattle.eap_method.specs.Peer.{PeerViews, key_for}
-use Rattle.eap_method.specs.PskTags.{ak_record, channel_nonce, sealed_result, tek_record}
+use Rattle.eap_method.specs.PskTags.{ak_record, channel_nonce, sealed_result, tek_record, rand_of}
 use Rattle.eap_method.specs.Server.{ServerViews, side_of}
 use Rattle.eap_method.specs.declared.values.ServerSide.{ServerSide}
 use Rattle.method_laws.proofs.PskChannel.{sealed_accepted}
-use Rattle.peer_machine.specs.PeerTable as peers
-use Rattle.server_machine.specs.ServerTable as servers
-use Rattle.eap_world.specs.Conversations.{front}
 use Rattle.method_laws.specs.ByMethod.{PeerTags, ServerTags, gpsk_current, gpsk_selected}
 use Rattle.method_laws.specs.ByMethod.{identity_current, none_current, none_selected, peer_login}
 use Rattle.method_laws.specs.ByMethod.{psk_current, psk_selected, server_login}
-use Rattle.world_laws.specs.Forgery as forgery
-use Rattle.world_laws.specs.Forgery.{IsPeersMac, IsRightMac, IsServersMac, gpsk_inputs, psk_inputs}
-use Rattle.world_laws.specs.Forgery.{under_ak, under_sk, under_tek}
+use Rattle.method_laws.specs.RightMacs as right_macs
+use Rattle.method_laws.specs.RightMacs.{IsPeersMac, IsRightMac, IsServersMac, OfEach}
+use Rattle.method_laws.specs.RightMacs.{PeerTagsAreRight, ServerTagsAreRight, gpsk_inputs}
+use Rattle.method_laws.specs.RightMacs.{psk_inputs, under_ak, under_sk, under_tek}
 use Rattle.method_laws.specs.GpskPeerInvariant.{GpskPeerTags, GpskStarted, gpsk_peer_login}
 use Rattle.method_laws.specs.GpskPeerInvariant.{gpsk_whole_rand_s}
 use Rattle.method_laws.specs.GpskPeerInvariant as gpsk_of_peer
@@ -46,14 +44,9 @@ use Rattle.method_laws.specs.PskServerInvariant.{psk_server_login}
 use Rattle.method_laws.specs.PskServerInvariant as psk_of_server
 use Rattle.method_laws.specs.Records.{IsIn}
 use Rattle.method_laws.proofs.Among.{among_one, among_two}
-use Rattle.world_laws.proofs.Results.{own_key, own_name}
+use Rattle.method_laws.proofs.Credentials.{own_key, own_name}
 use Rattle.eap_method.specs.BothPeers.{gpsk_in}
 use Rattle.eap_method.specs.BothPeers.{psk_in}
-
--- what holds of each tag of two lists
-pub record OfEach (P : TagRecord → Type 0) (accepted made : List TagRecord) : Type 0 where
-  pub accepted_so : (t : TagRecord) → IsIn t accepted → P t
-  pub made_so : (t : TagRecord) → IsIn t made → P t
 
 module _ (P : TagRecord → Type 0) where
   none_so : (t : TagRecord) → IsIn t [] → P t
@@ -162,7 +155,7 @@ module _ (login : gpsk_peer.Login) where
 
 module _ (setup : PeerSetup) (nonce : List ℕ) where
   abbrev peer_own : PeerSetup
-  peer_own = peers.setup_with_nonce setup nonce
+  peer_own = record setup { nonce = nonce }
 
   -- by EAP-PSK
   module _ (selected : Option ℕ) (views : PeerViews) where
@@ -176,10 +169,10 @@ module _ (setup : PeerSetup) (nonce : List ℕ) where
     psk_peer_right login facts leads t right = record {
       report = psk_peer.report_of login;
       leads = leads;
-      inputs = psk_inputs (key_for setup psk_kind) (front nonce);
-      derives = forgery.psk_peer refl;
+      inputs = psk_inputs (key_for setup psk_kind) (rand_of nonce);
+      derives = right_macs.psk_peer refl;
       right = psk_moved _ _ _ _ t (own_key peer_own psk_kind login.cred facts.cred)
-          (ap front facts.nonce) right;
+          (ap rand_of facts.nonce) right;
     }
 
     psk_peer_tags : (view : psk_peer.View) (accepted made : List TagRecord)
@@ -213,7 +206,7 @@ module _ (setup : PeerSetup) (nonce : List ℕ) where
       leads = leads;
       inputs = gpsk_inputs login.suite (key_for setup gpsk_kind)
           nonce setup.name login.rand_s login.id_s;
-      derives = forgery.gpsk_peer refl login.suite refl login.rand_s knows;
+      derives = right_macs.gpsk_peer refl login.suite refl login.rand_s knows;
       right = gpsk_moved login.suite _ _ _ _ _ _ _ _ _ _ t
           (own_key peer_own gpsk_kind login.cred facts.cred) facts.nonce
           (own_name peer_own gpsk_kind login.cred facts.cred) refl refl right;
@@ -343,7 +336,7 @@ side_name setup own e = ap (λ (s : ServerSide). s.id_s) e
 
 module _ (setup : ServerSetup) (nonce : List ℕ) (current : Option ℕ) (views : ServerViews) where
   abbrev server_own : ServerSetup
-  server_own = servers.setup_with_nonce setup nonce
+  server_own = record setup { nonce = nonce }
 
   abbrev server_right : TagRecord → Type 0
   server_right t = IsServersMac setup nonce current views t
@@ -360,7 +353,7 @@ module _ (setup : ServerSetup) (nonce : List ℕ) (current : Option ℕ) (views 
     user = facts.user;
     known = facts.known;
     inputs = psk_inputs facts.user.psk login.rand_p;
-    derives = forgery.psk_server refl login.rand_p knows;
+    derives = right_macs.psk_server refl login.rand_p knows;
     right = psk_moved _ _ _ _ t facts.key refl right;
   }
 
@@ -402,7 +395,7 @@ module _ (setup : ServerSetup) (nonce : List ℕ) (current : Option ℕ) (views 
     user = facts.user;
     known = facts.known;
     inputs = gpsk_inputs login.suite facts.user.psk login.rand_p login.id_p nonce setup.name;
-    derives = forgery.gpsk_server refl login.suite refl login.rand_p knows;
+    derives = right_macs.gpsk_server refl login.suite refl login.rand_p knows;
     right = gpsk_moved login.suite _ _ _ _ _ _ _ _ _ _ t facts.key refl refl facts.nonce
         (side_name server_own login.own facts.own) right;
   }
@@ -461,3 +454,11 @@ module _ (setup : ServerSetup) (nonce : List ℕ) (current : Option ℕ) (views 
   server_tags_right accepted made (gpsk_current view _ _ is in_view told) =
       gpsk_server_tags view accepted made told
       (current_is gpsk_kind is ∙ ap gpsk_server_login in_view) (ap gpsk_whole_rand_p_in in_view)
+
+pub peer_tags_are_right : PeerTagsAreRight
+peer_tags_are_right setup nonce selected views accepted made told =
+    peer_tags_right setup nonce selected views accepted made told
+
+pub server_tags_are_right : ServerTagsAreRight
+server_tags_are_right setup nonce current views accepted made told =
+    server_tags_right setup nonce current views accepted made told
