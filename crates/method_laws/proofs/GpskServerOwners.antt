@@ -97,7 +97,8 @@ module _ (p : gpsk_peer.Login) (pd : List ℕ) (p_size : length p.nonce ≡ 32) 
   pub gpsk3_created : OnlyByServer gpsk3_tag (rand_of p.nonce)
   gpsk3_created = record {
     tells = λ setup nonce held accepted made told is.
-        sym told.held_is ∙ gpsk_tags_imply (record setup { nonce = nonce }) told.current told.views accepted made told.tags is;
+        sym told.held_is ∙ gpsk_tags_imply (record setup { nonce = nonce })
+        told.current told.views accepted made told.tags is;
   }
 
 -- ---- no conversation of the server makes what a server accepts first

@@ -73,13 +73,13 @@ pub mod TagsOfEnds
 pub mod PeerHistories
 -- What the history of a peer's method tells, by one induction over all methods: by EAP-PSK and
 -- EAP-GPSK its tags, and of a decision other than FAIL a success.
-pub mod PeerTells
+pub mod PeerImplied
 -- A server's object that has made its first Request, has made one more or has ended, has a history,
 -- whatever its method.
 pub mod ServerHistories
 -- What the history of a server's method tells, by one induction over all methods: by EAP-PSK and
 -- EAP-GPSK its tags, and of a good end a success.
-pub mod ServerTells
+pub mod ServerImplied
 -- What each end asks of the other by the first tag that it accepts.
 pub mod Asks
 -- What a tag that the peer made by EAP-GPSK tells of the conversation in which it did: both nonces,

@@ -15,8 +15,8 @@ use Rattle.eap_method.specs.PeerTurn.{PeerTurn, Reply}
 use Rattle.eap_method.specs.Peer.{PeerShown, PeerViews, peer_kind, peer_step, peer_turn, turned}
 use Rattle.eap_method.specs.Peer.{views_started, peer_started_in, started_peer, credential_for}
 use Rattle.eap_method.specs.Turns.{PeerOutcome}
-use Rattle.method_laws.specs.PeerHistory.{PeerHistory, begun, responded, PeerHas, each_begun}
-use Rattle.method_laws.specs.PeerHistory.{selected_has}
+use Rattle.method_laws.specs.PeerHistory.{PeerHistory, initiated, responded, PeerHas}
+use Rattle.method_laws.specs.PeerHistory.{each_initiated, selected_has}
 
 -- each object at a Type is of a method that the peer allows
 pub record AreAllowed (setup : PeerSetup) (views : PeerViews) : Type 0 where
@@ -28,23 +28,23 @@ pub record AreAllowed (setup : PeerSetup) (views : PeerViews) : Type 0 where
 some_shown : (one other : PeerShown) → Some one ≡ Some other → one ≡ other
 some_shown one other same = cc
 
-found_begun : (setup : PeerSetup) (found : Option PeerShown)
+found_initiated : (setup : PeerSetup) (found : Option PeerShown)
     → ((s : PeerShown) → found ≡ Some s → is_among setup.methods (peer_kind s) ≡ true)
     → (s : PeerShown) → option_map (peer_started_in setup) found ≡ Some s
     → PeerHistory setup s decision.Fail [] []
 unfolding peer_started_in
-found_begun setup None allowed s e = absurd cc
-found_begun setup (Some t) allowed s e =
+found_initiated setup None allowed s e = absurd cc
+found_initiated setup (Some t) allowed s e =
     let is = allowed t refl in
     let same : started_peer (credential_for setup (peer_kind t)) setup.nonce t ≡ s =
     sym (cond-true _ _ _ is) ∙ some_shown _ s e in
-    subst (λ (o : PeerShown). PeerHistory setup o decision.Fail [] []) same (begun t is)
+    subst (λ (o : PeerShown). PeerHistory setup o decision.Fail [] []) same (initiated t is)
 
-pub begun_has : (setup : PeerSetup) (views : PeerViews) → AreAllowed setup views
+pub initiated_has : (setup : PeerSetup) (views : PeerViews) → AreAllowed setup views
     → PeerHas setup None (views_started setup views) decision.Fail [] []
 unfolding views_started
-begun_has setup views allowed = each_begun refl refl
-    (λ kind s found. found_begun setup (views kind) (allowed.each kind) s found)
+initiated_has setup views allowed = each_initiated refl refl
+    (λ kind s found. found_initiated setup (views kind) (allowed.each kind) s found)
 
 -- ---- a Response more
 
@@ -53,7 +53,7 @@ module _ (setup : PeerSetup) (selected : Option ℕ) (views : PeerViews) (last :
       → PeerHas setup selected views last accepted made
       → ((other : ℕ) → selected ≡ Some other → kind ≡ other) → views kind ≡ Some s
       → (d : Decision) × PeerHistory setup s d accepted made
-  history_called _ _ kind s (each_begun unselected fails history) alone in_view =
+  history_called _ _ kind s (each_initiated unselected fails history) alone in_view =
       (decision.Fail, history kind s in_view)
   history_called _ _ kind s (selected_has k t accepted made is_selected at_view history) alone
       in_view =

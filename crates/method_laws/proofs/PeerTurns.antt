@@ -53,14 +53,14 @@ pub data Turned (V : Type 0) (IsResult : V → List TagRecord → List TagRecord
       (record { turn = Reply packet m d tags; after = view })
 
 -- where the turn is a Response, so it is
-pub told_by : {V : Type 0} {IsResult : V → List TagRecord → List TagRecord → Type 0}
+pub after_reply : {V : Type 0} {IsResult : V → List TagRecord → List TagRecord → Type 0}
     {Succeeds : V → Type 0} (accepted made : List TagRecord) (out : PeerOutcome V)
     → Turned V IsResult Succeeds accepted made out → (packet : List ℕ) (m : MethodState)
     (d : Decision) (tags : Tags) → out.turn ≡ Reply packet m d tags
     → IsResult out.after (accepted ++ tags.accepted) (made ++ tags.made)
     × (d ≢ decision.Fail → Succeeds out.after)
-told_by accepted made _ (drops view c) packet m d tags e = absurd cc
-told_by {IsResult = IsResult} {Succeeds = Succeeds} accepted made _
+after_reply accepted made _ (drops view c) packet m d tags e = absurd cc
+after_reply {IsResult = IsResult} {Succeeds = Succeeds} accepted made _
     (replies packet' m' d' tags' view told decided) packet m d tags e =
     let same : tags' ≡ tags = cc in
     let decides : d' ≡ d = cc in (

@@ -66,7 +66,8 @@ module _ (key id_s rand_p mac : List ℕ) (p_size : length rand_p ≡ 16) where
   pub mac_s_created : OnlyByServer mac_s_tag rand_p
   mac_s_created = record {
     tells = λ setup nonce held accepted made told is.
-        sym told.held_is ∙ psk_tags_imply (record setup { nonce = nonce }) told.current told.views accepted made told.tags is;
+        sym told.held_is ∙ psk_tags_imply (record setup { nonce = nonce })
+        told.current told.views accepted made told.tags is;
   }
 
 -- ---- no conversation of the server makes what a server accepts first
@@ -103,7 +104,9 @@ module _ (setup : ServerSetup) (nonce : List ℕ) (login : psk.Login)
   abbrev psk2_tag : TagRecord
   psk2_tag = ak_record login.psk (psk.mac_p_covers login) mac
 
-  not_psk3 : (other : List ℕ) (theirs : psk.Login) (id : ℕ) → PskChecked (record setup { nonce = other }) theirs → IsIn psk2_tag (psk.psk3_records theirs id) → ⊥
+  not_psk3 : (other : List ℕ) (theirs : psk.Login) (id : ℕ)
+      → PskChecked (record setup { nonce = other }) theirs
+      → IsIn psk2_tag (psk.psk3_records theirs id) → ⊥
   unfolding psk.mac_p_covers psk.mac_s_covers
   not_psk3 other theirs id checked is =
       elim (among_two _ _ _ is) [

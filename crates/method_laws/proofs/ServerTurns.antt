@@ -62,7 +62,8 @@ pub requested_by : {V : Type 0} {IsResult : V → List TagRecord → List TagRec
     → out.turn ≡ turn.Request packet tags
     → IsResult out.after (accepted ++ tags.accepted) (made ++ tags.made)
 requested_by accepted made _ (drops view c) packet tags e = absurd cc
-requested_by {IsResult = IsResult} accepted made _ (requests packet' tags' view told) packet tags e =
+requested_by {IsResult = IsResult} accepted made _
+    (requests packet' tags' view told) packet tags e =
     let same : tags' ≡ tags = cc in
     subst (λ (t : Tags). IsResult view (accepted ++ t.accepted) (made ++ t.made)) same told
 requested_by accepted made _ (ends good tags' view told well) packet tags e = absurd cc

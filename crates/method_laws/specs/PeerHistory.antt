@@ -20,7 +20,7 @@ use Rattle.method_laws.specs.PskPeerInvariant.{PskPeerTags}
 -- it has begun, or has made one Response more
 pub data PeerHistory (setup : PeerSetup) : PeerShown → Decision → List TagRecord → List TagRecord
     → Type 0 where
-  begun : (s : PeerShown) (allowed : is_among setup.methods (peer_kind s) ≡ true)
+  initiated : (s : PeerShown) (allowed : is_among setup.methods (peer_kind s) ≡ true)
       → PeerHistory setup (started_peer (credential_for setup (peer_kind s)) setup.nonce s)
       decision.Fail [] []
   responded : (s after : PeerShown) (octets packet : List ℕ) (m : MethodState) (d last : Decision)
@@ -32,7 +32,7 @@ pub data PeerHistory (setup : PeerSetup) : PeerShown → Decision → List TagRe
 -- this
 pub data PeerHas (setup : PeerSetup) (selected : Option ℕ) (views : PeerViews) (d : Decision)
     : List TagRecord → List TagRecord → Type 0 where
-  each_begun : (unselected : selected ≡ None) (fails : d ≡ decision.Fail)
+  each_initiated : (unselected : selected ≡ None) (fails : d ≡ decision.Fail)
       (history : (kind : ℕ) (s : PeerShown) → views kind ≡ Some s
       → PeerHistory setup s decision.Fail [] []) → PeerHas setup selected views d [] []
   selected_has : (kind : ℕ) (s : PeerShown) (accepted made : List TagRecord)
@@ -42,10 +42,10 @@ pub data PeerHas (setup : PeerSetup) (selected : Option ℕ) (views : PeerViews)
 -- ---- what a history tells
 
 -- the tags, and of a decision other than FAIL a success
-pub record Tells {V : Type 0} (HasTags : V → List TagRecord → List TagRecord → Type 0)
+pub record Implied {V : Type 0} (HasTags : V → List TagRecord → List TagRecord → Type 0)
     (Succeeds : V → Type 0) (view : V) (d : Decision) (accepted made : List TagRecord)
     : Type 0 where
-  pub told : HasTags view accepted made
+  pub tags : HasTags view accepted made
   pub decided : d ≢ decision.Fail → Succeeds view
 
 abbrev pub psk_succeeds : psk_peer.View → Type 0
@@ -55,16 +55,16 @@ abbrev pub gpsk_succeeds : gpsk_peer.View → Type 0
 gpsk_succeeds view = (login : gpsk_peer.Login) × (view ≡ gpsk_peer.over login true)
 
 -- by its method; of a maker's method it tells nothing
-abbrev pub TellsOf : PeerSetup → (m : Method) → View m → Decision → List TagRecord
+abbrev pub ImpliedOf : PeerSetup → (m : Method) → View m → Decision → List TagRecord
     → List TagRecord → Type 0
-TellsOf setup by_psk view d accepted made =
-    Tells (PskPeerTags setup) psk_succeeds view d accepted made
-TellsOf setup by_gpsk view d accepted made =
-    Tells (GpskPeerTags setup) gpsk_succeeds view d accepted made
-TellsOf setup (by_other custom) view d accepted made = Unit {0}
+ImpliedOf setup by_psk view d accepted made =
+    Implied (PskPeerTags setup) psk_succeeds view d accepted made
+ImpliedOf setup by_gpsk view d accepted made =
+    Implied (GpskPeerTags setup) gpsk_succeeds view d accepted made
+ImpliedOf setup (by_other custom) view d accepted made = Unit {0}
 
 -- every history tells so
-abbrev pub PeerHistoriesTell : Type 0
-PeerHistoriesTell = (setup : PeerSetup) (s : PeerShown) (d : Decision)
+abbrev pub PeerHistoriesImply : Type 0
+PeerHistoriesImply = (setup : PeerSetup) (s : PeerShown) (d : Decision)
     (accepted made : List TagRecord) → PeerHistory setup s d accepted made
-    → TellsOf setup s.method s.view d accepted made
+    → ImpliedOf setup s.method s.view d accepted made

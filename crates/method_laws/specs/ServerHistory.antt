@@ -46,10 +46,10 @@ pub data ServerHas (setup : ServerSetup) (current : Option ℕ) (views : ServerV
 -- ---- what a history tells
 
 -- the tags, and of a good end a success
-pub record Tells {V : Type 0} (HasTags : V → List TagRecord → List TagRecord → Type 0)
+pub record Implied {V : Type 0} (HasTags : V → List TagRecord → List TagRecord → Type 0)
     (Succeeds : V → Type 0) (view : V) (good : Bool) (accepted made : List TagRecord)
     : Type 0 where
-  pub told : HasTags view accepted made
+  pub tags : HasTags view accepted made
   pub well : good ≡ true → Succeeds view
 
 abbrev pub psk_succeeds : psk_server.View → Type 0
@@ -59,16 +59,16 @@ abbrev pub gpsk_succeeds : gpsk_server.View → Type 0
 gpsk_succeeds view = (login : gpsk_server.Login) × (view ≡ gpsk_server.over login true)
 
 -- by its method; of a maker's method it tells nothing
-abbrev pub TellsOf : ServerSetup → (m : Method) → View m → Bool → List TagRecord
+abbrev pub ImpliedOf : ServerSetup → (m : Method) → View m → Bool → List TagRecord
     → List TagRecord → Type 0
-TellsOf setup by_psk view good accepted made =
-    Tells (PskServerTags setup) psk_succeeds view good accepted made
-TellsOf setup by_gpsk view good accepted made =
-    Tells (GpskServerTags setup) gpsk_succeeds view good accepted made
-TellsOf setup (by_other custom) view good accepted made = Unit {0}
+ImpliedOf setup by_psk view good accepted made =
+    Implied (PskServerTags setup) psk_succeeds view good accepted made
+ImpliedOf setup by_gpsk view good accepted made =
+    Implied (GpskServerTags setup) gpsk_succeeds view good accepted made
+ImpliedOf setup (by_other custom) view good accepted made = Unit {0}
 
 -- every history tells so
-abbrev pub ServerHistoriesTell : Type 0
-ServerHistoriesTell = (setup : ServerSetup) (s : ServerShown) (good : Bool)
+abbrev pub ServerHistoriesImply : Type 0
+ServerHistoriesImply = (setup : ServerSetup) (s : ServerShown) (good : Bool)
     (accepted made : List TagRecord) → ServerHistory setup s good accepted made
-    → TellsOf setup s.method s.view good accepted made
+    → ImpliedOf setup s.method s.view good accepted made

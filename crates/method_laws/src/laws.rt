@@ -4,12 +4,12 @@
 ghost use Rattle.method_laws.specs.GpskLogin.{GpskLoginsGoThrough};
 ghost use Rattle.method_laws.specs.GpskPeerRows.{GpskPeerStepsAreRows};
 ghost use Rattle.method_laws.specs.GpskServerRows.{GpskServerStepsAreRows};
-ghost use Rattle.method_laws.specs.PeerHistory.{PeerHistoriesTell};
+ghost use Rattle.method_laws.specs.PeerHistory.{PeerHistoriesImply};
 ghost use Rattle.method_laws.specs.PskLogin.{PskLoginsGoThrough};
 ghost use Rattle.method_laws.specs.PskPeerRows.{PskPeerStepsAreRows};
 ghost use Rattle.method_laws.specs.PskServerRows.{PskServerStepsAreRows};
 ghost use Rattle.method_laws.specs.RightMacs.{PeerTagsAreRight, ServerTagsAreRight};
-ghost use Rattle.method_laws.specs.ServerHistory.{ServerHistoriesTell};
+ghost use Rattle.method_laws.specs.ServerHistory.{ServerHistoriesImply};
 
 /// Each turn of a peer of EAP-GPSK is one of its rows.
 #[tactic(auto, using(crate::proofs::GpskPeerCases::gpsk_peer_steps_are_rows))]
@@ -48,15 +48,15 @@ pub fn psk_logins_go_through()
 /// What a peer's object has done since it began tells the tags that it has accepted and made, by EAP-PSK and by EAP-GPSK:
 /// the state of the method determines them exactly, also if the login has failed. A decision other than FAIL
 /// (RFC 4137 section 4.2) comes from a success. Of a maker's method it tells nothing.
-#[tactic(auto, using(crate::proofs::PeerTells::peer_histories_tell))]
-pub fn peer_histories_tell()
-    ensures { PeerHistoriesTell }
+#[tactic(auto, using(crate::proofs::PeerImplied::peer_histories_imply))]
+pub fn peer_histories_imply()
+    ensures { PeerHistoriesImply }
 {}
 
 /// So does what a server's object has done since it began, and a good end comes from a success.
-#[tactic(auto, using(crate::proofs::ServerTells::server_histories_tell))]
-pub fn server_histories_tell()
-    ensures { ServerHistoriesTell }
+#[tactic(auto, using(crate::proofs::ServerImplied::server_histories_imply))]
+pub fn server_histories_imply()
+    ensures { ServerHistoriesImply }
 {}
 
 /// Each tag that a conversation of the peer accepted or made, by EAP-PSK or EAP-GPSK, is the right MAC of its octets,

@@ -8,6 +8,6 @@ mod laws;
 
 pub use laws::{
     gpsk_logins_go_through, gpsk_peer_steps_are_rows, gpsk_server_steps_are_rows,
-    peer_histories_tell, peer_tags_are_right, psk_logins_go_through, psk_peer_steps_are_rows,
-    psk_server_steps_are_rows, server_histories_tell, server_tags_are_right,
+    peer_histories_imply, peer_tags_are_right, psk_logins_go_through, psk_peer_steps_are_rows,
+    psk_server_steps_are_rows, server_histories_imply, server_tags_are_right,
 };

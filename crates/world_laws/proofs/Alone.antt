@@ -24,7 +24,7 @@ use Rattle.eap_world.specs.Judgement.{is_success}
 use Rattle.eap_world.specs.World.{WorldNow}
 use Rattle.tag_book.specs.declared.book.End.TheVariants as end
 use Rattle.tag_book.specs.declared.book.Use.TheVariants.{Accepted, Made}
-use Rattle.world_laws.proofs.Told.{peer_tags, server_success, server_tags}
+use Rattle.world_laws.proofs.EndTags.{peer_tags, server_success, server_tags}
 
 module _ (setup : Setup) (last : WorldNow) (ps : List OfPeer) (ss : List OfServer)
     (all : AllKnown setup last ps ss) where
@@ -76,8 +76,8 @@ module _ (setup : Setup) (last : WorldNow) (ps : List OfPeer) (ss : List OfServe
       let asks = matching.server_asking setup s known (front (peer_nonce on)) hold.rand_p in
       let login = servers_login (peers.setup_with_nonce setup.peer (peer_nonce on))
       (servers.setup_with_nonce setup.server (server_nonce s)) on_known.size known.size
-      on.now.vars.selected on.now.views on.accepted on.made (peer_tags on_known.stands) s.now s.accepted
-      s.made (matching.server_won setup s known s_in)
+      on.now.vars.selected on.now.views on.accepted on.made (peer_tags on_known.stands)
+      s.now s.accepted s.made (matching.server_won setup s known s_in)
       (first_in s.accepted on.made rests.tag rests.more rests.first rests.is_made) in
       record {
         on = on;
@@ -142,7 +142,8 @@ knows setup whole w both theirs back s_in =
     let p = w.parties.peer in
     let s = w.parties.server in
     let stands = both.server_invariant in
-    let won = server_succeeds setup.server s _ _ (server_tags stands) (server_success stands s_in) in
+    let won = server_succeeds setup.server s _ _ (server_tags stands)
+    (server_success stands s_in) in
     let login = servers_login setup.peer setup.server whole.peer_nonce whole.server_nonce
     p.vars.selected p.views _ _ (peer_tags both.peer_invariant) s _ _ won
     (record { is = λ t rest first. theirs t (first_is_in t rest _ first) }) in

@@ -45,7 +45,7 @@ use Rattle.tag_book.specs.declared.book.RecordOwner.TheVariants.{Other}
 use Rattle.tag_book.specs.declared.book.TagsVerdict.TheVariants.{Honest}
 use Rattle.tag_book.specs.declared.book.Use.TheVariants.{Accepted, Made}
 use Rattle.world_laws.specs.Runs.{initial_world, run_of}
-use Rattle.world_laws.proofs.Told.{peer_tags}
+use Rattle.world_laws.proofs.EndTags.{peer_tags}
 
 module _ (setup : Setup) (last : WorldNow) (ps : List OfPeer) (ss : List OfServer)
     (all : AllKnown setup last ps ss) where

@@ -61,7 +61,7 @@ use Rattle.world_laws.proofs.OccursIn.{occurs_if}
 use Rattle.method_laws.proofs.TagsOfEnds.{grows, rests}
 use Rattle.method_laws.specs.TagOwners.{PeerTagOwner, ServerTagOwner}
 use Rattle.world_laws.specs.Runs.{initial_world, run_of}
-use Rattle.world_laws.proofs.Told.{peer_tags, server_tags}
+use Rattle.world_laws.proofs.EndTags.{peer_tags, server_tags}
 
 -- ---- what a delivery does to the nonces that are left
 

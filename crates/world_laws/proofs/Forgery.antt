@@ -36,7 +36,7 @@ use Rattle.method_laws.specs.RightMacs.{OfEach}
 use Rattle.method_laws.proofs.RightMacs.{peer_tags_right, server_tags_right}
 use Rattle.method_laws.proofs.TagsOfEnds.{in_if, skip_if}
 use Rattle.world_laws.specs.Runs.{run_of}
-use Rattle.world_laws.proofs.Told.{peer_tags, server_tags}
+use Rattle.world_laws.proofs.EndTags.{peer_tags, server_tags}
 
 -- ---- an entry of the book is among the tags of its end
 

@@ -36,7 +36,7 @@ use Rattle.tag_book.specs.declared.book.Use.TheVariants.{Accepted, Made}
 use Rattle.eap_world.specs.declared.verdict.Verdict.{Verdict}
 use Rattle.eap_world.specs.declared.verdict.Verdict.TheVariants.{Agree, Apart, Unfinished}
 use Rattle.world_laws.specs.Runs.{run_of}
-use Rattle.world_laws.proofs.Told.{peer_success, peer_tags, server_success, server_tags}
+use Rattle.world_laws.proofs.EndTags.{peer_success, peer_tags, server_success, server_tags}
 
 pub agree_if : (one other same : Bool) → one ≡ true → other ≡ true → same ≡ true
     → (let verdict : Verdict = if one && other then (if same then Agree else Apart)
@@ -61,7 +61,8 @@ pub server_won : (setup : Setup) (w : WorldNow) (h : BothConverse setup w)
 server_won setup w h s_in =
     let stands = h.server.now.stands in
     server_succeeds (servers.setup_with_nonce setup.server h.server_nonce)
-    w.parties.server h.server.accepted h.server.made (server_tags stands) (server_success stands s_in)
+    w.parties.server h.server.accepted h.server.made (server_tags stands)
+    (server_success stands s_in)
 
 -- both ends agree, where the server's tag that the peer asks is the server's, and those that the
 -- server's present conversation asks, and its past ones under the same key, are the peer's
@@ -104,7 +105,8 @@ agree_anew setup w h fresh p_in s_in p_asks p_made present_honest server_honest 
     let same = both_agree peer_setup server_setup p s h.peer.size h.server.size succeed in
     let are = resting.server_on setup.peer setup.server h.peer_nonce h.server_nonce h.peer.size
     h.server.size p.vars.selected p.views s.vars.current s.views
-    _ _ (server_tags s_stands) _ _ (peer_tags p_stands) s_asks.tag s_asks.rest s_asks.first one.server_tag in
+    _ _ (server_tags s_stands) _ _ (peer_tags p_stands)
+    s_asks.tag s_asks.rest s_asks.first one.server_tag in
     let are_own = subst (λ (x : PeerSetup). AreOne p.vars.selected p.views x.nonce s.vars.current
     s.views s.vars.setup.nonce) (sym p_stands.own) (subst (λ (x : ServerSetup). AreOne
     p.vars.selected p.views h.peer_nonce s.vars.current s.views x.nonce) (sym s_stands.own) are) in

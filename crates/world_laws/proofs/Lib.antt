@@ -147,8 +147,8 @@ pub mod Standard
 -- Octets that stand in others are found in them.
 pub mod OccursIn
 -- An end that goes on doesn't stand in SUCCESS.
-pub mod Going
+pub mod Unended
 -- The method that a server proposes is offered by an object of it.
 pub mod Proposing
 -- What stands of an end tells its tags and its success.
-pub mod Told
+pub mod EndTags

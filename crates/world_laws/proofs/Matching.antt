@@ -41,7 +41,7 @@ use Rattle.tag_book.specs.declared.book.End.TheVariants as end
 use Rattle.tag_book.specs.declared.book.RecordOwner.TheVariants.{Either, Other}
 use Rattle.tag_book.specs.declared.book.TagsVerdict.TheVariants.{Honest}
 use Rattle.tag_book.specs.declared.book.Use.TheVariants.{Accepted, Made}
-use Rattle.world_laws.proofs.Told.{peer_success, peer_tags, server_success, server_tags}
+use Rattle.world_laws.proofs.EndTags.{peer_success, peer_tags, server_success, server_tags}
 
 -- ---- one conversation
 
@@ -162,8 +162,8 @@ module _ (setup : Setup) where
   server_one s known p p_known r =
       let are = resting.server_on setup.peer setup.server (peer_nonce p) (server_nonce s)
       p_known.size known.size p.now.vars.selected p.now.views
-      s.now.vars.current s.now.views _ _ (server_tags known.stands) _ _ (peer_tags p_known.stands) r.tag r.more
-      r.first r.is_made in
+      s.now.vars.current s.now.views _ _ (server_tags known.stands) _ _ (peer_tags p_known.stands)
+      r.tag r.more r.first r.is_made in
       record { method = are.method; whole = are.whole }
 
   pub peer_one : (p : OfPeer) → PeerKnown setup.peer p → is_success p.now.vars.state ≡ true
@@ -458,7 +458,8 @@ module _ (setup : Setup) (last : WorldNow) (ps : List OfPeer) (ss : List OfServe
       let s_known = all.servers s s_is in
       let led = resting.servers_login (peers.setup_with_nonce setup.peer (peer_nonce p))
       (servers.setup_with_nonce setup.server (server_nonce s)) known.size s_known.size
-      p.now.vars.selected p.now.views p.accepted p.made (peer_tags known.stands) s.now s.accepted s.made
+      p.now.vars.selected p.now.views p.accepted p.made (peer_tags known.stands)
+      s.now s.accepted s.made
       (server_won setup s s_known s_in)
       (first_in s.accepted p.made rests.tag rests.more rests.first rests.is_made) in
       record {

@@ -24,7 +24,7 @@ use Rattle.world_laws.specs.SessionIds.{psk_peer_session}
 use Rattle.world_laws.proofs.Conversations.{run_known}
 use Rattle.world_laws.proofs.OneOf.{first_of, second_of}
 use Rattle.world_laws.proofs.SessionIds.{session_is}
-use Rattle.world_laws.proofs.Told.{peer_tags}
+use Rattle.world_laws.proofs.EndTags.{peer_tags}
 
 -- by EAP-PSK the keys are those of the shared key and the conversation's nonce
 record AreFrom (key nonce : List ℕ) (x : SessionOf) : Type 0 where

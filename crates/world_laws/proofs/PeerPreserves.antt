@@ -26,12 +26,12 @@ use Rattle.eap_world.specs.Judgement.{is_success}
 use Rattle.method_laws.specs.Both.{PeerHasBoth}
 use Rattle.world_laws.specs.PeerInvariant.{PeerInvariant}
 use Rattle.method_laws.specs.Records.{AreFew}
-use Rattle.world_laws.proofs.Going.{goes_on}
+use Rattle.world_laws.proofs.Unended.{goes_on}
 use Rattle.method_laws.proofs.OneMethod.{some_same}
 use Rattle.method_laws.proofs.PeerObjects.{are_allowed, both_after, both_are, both_started}
 use Rattle.method_laws.proofs.PeerByMethod.{tags_few}
-use Rattle.method_laws.proofs.PeerHistories.{begun_has, responds_has}
-use Rattle.world_laws.proofs.Told.{peer_tags}
+use Rattle.method_laws.proofs.PeerHistories.{initiated_has, responds_has}
+use Rattle.world_laws.proofs.EndTags.{peer_tags}
 use Rattle.world_laws.proofs.Accepting.{peer_accepted_tags}
 use Rattle.eap_method.specs.BothPeers.{both_of}
 use Rattle.world_laws.specs.Runs.{initial_peer}
@@ -44,7 +44,7 @@ initiates_with : (setup : PeerSetup) (views : PeerViews) → PeerHasBoth setup.m
 initiates_with setup views both = record {
   own = refl;
   both = both_started setup views both;
-  has = begun_has setup views (record { each = are_allowed both });
+  has = initiated_has setup views (record { each = are_allowed both });
   sure = λ e. absurd (false≢true e);
 }
 

@@ -26,7 +26,7 @@ use Rattle.world_laws.proofs.TypeData.{request_data}
 use Rattle.method_laws.proofs.Receiving.{Receives, as_before, receives_now, delivered_in_call}
 use Rattle.method_laws.proofs.PeerByMethod.{method_satisfies, turn_received, turn_of}
 use Rattle.method_laws.proofs.PeerByMethod.{unselected_none}
-use Rattle.world_laws.proofs.Told.{peer_tags}
+use Rattle.world_laws.proofs.EndTags.{peer_tags}
 
 -- the Type-Data of a method that comes
 abbrev peer_data : PeerInput → Option (List ℕ)
@@ -38,7 +38,8 @@ module _ (setup : PeerSetup) (now : PeerNow) (accepted made : List TagRecord)
   foreign_called : {selects : Bool} (kind : ℕ) → Calls now kind selects
       → peer_foreign_of now.views kind ≡ peer_foreign now.vars.selected now.views
   foreign_called kind (first unselected allowed) =
-      unselected_none setup now.vars.selected now.views accepted made kind (peer_tags stands) unselected
+      unselected_none setup now.vars.selected now.views accepted made kind (peer_tags stands)
+      unselected
       ∙ sym (ap (λ (o : Option ℕ). peer_foreign o now.views) unselected)
   foreign_called kind (again is_selected undone) =
       sym (ap (λ (o : Option ℕ). peer_foreign o now.views) is_selected)

@@ -48,7 +48,7 @@ use Rattle.world_laws.proofs.SucceedingEnds.{PeerSucceeds, ServerSucceeds, one_o
 use Rattle.world_laws.proofs.SucceedingEnds.{server_succeeds}
 use Rattle.world_laws.proofs.UnderKey as under_key
 use Rattle.world_laws.specs.Runs.{run_of}
-use Rattle.world_laws.proofs.Told.{peer_success, peer_tags, server_success, server_tags}
+use Rattle.world_laws.proofs.EndTags.{peer_success, peer_tags, server_success, server_tags}
 
 -- ---- with fresh nonces
 
@@ -114,7 +114,8 @@ module _ (setup : Setup) (kind : ℕ) (whole : IsWhole setup) (w : WorldNow)
   server_has : ServerSucceeds setup.server w.parties.server (tags_by end.Server Accepted w.book)
       (tags_by end.Server Made w.book)
   server_has = let stands = first.server_invariant in
-      server_succeeds setup.server w.parties.server _ _ (server_tags stands) (server_success stands both.server)
+      server_succeeds setup.server w.parties.server _ _ (server_tags stands)
+      (server_success stands both.server)
 
   its_key : (t : TagRecord) → IsIn t (tags_by end.Peer Accepted w.book) → t.psk ≡ shared
   its_key t is = keyed_peer setup.peer w.parties.peer kind _ _ peer_has both.method t is
@@ -181,8 +182,8 @@ module _ (setup : Setup) (kind : ℕ) (w : WorldNow) (ps : List OfPeer) (ss : Li
       → is_success w.parties.server.vars.state ≡ true → IsOfKey setup own_key w.parties.server
       → PeerKnows setup w
   knows_once whole first honest s_in of_key =
-      let won = server_succeeds setup.server w.parties.server _ _ (server_tags first.server_invariant)
-      (server_success first.server_invariant s_in) in
+      let won = server_succeeds setup.server w.parties.server _ _
+      (server_tags first.server_invariant) (server_success first.server_invariant s_in) in
       let keyed = keyed_server setup own_key w.parties.server setup.server _ _ refl won of_key in
       let its = server_tag setup.server w.parties.server _ _ won in
       let one = peer_one setup.peer w.parties.peer.vars.selected w.parties.peer.views _ _

@@ -44,7 +44,7 @@ use Rattle.tag_book.specs.declared.book.RecordOwner.TheVariants.{Either, Other}
 use Rattle.tag_book.specs.declared.book.TagsVerdict.TheVariants.{Honest}
 use Rattle.tag_book.specs.declared.book.Use.TheVariants.{Accepted, Made}
 use Rattle.eap_method.specs.BothPeers.{psk_in}
-use Rattle.world_laws.proofs.Told.{peer_tags, server_success, server_tags}
+use Rattle.world_laws.proofs.EndTags.{peer_tags, server_success, server_tags}
 
 module _ (setup : Setup) (last : WorldNow) (ps : List OfPeer) (ss : List OfServer)
     (all : AllKnown setup last ps ss) where
@@ -109,7 +109,8 @@ module _ (setup : Setup) (last : WorldNow) (ps : List OfPeer) (ss : List OfServe
       let known = all.peers m.by m.is_one in
       let h = has_asked is.psk is.header is.sealed is.tag (front (server_nonce s))
       is.rand_in setup.peer (peer_nonce m.by) known.size
-      m.by.now.vars.selected m.by.now.views m.by.accepted m.by.made (peer_tags known.stands) m.is_in in
+      m.by.now.vars.selected m.by.now.views m.by.accepted m.by.made (peer_tags known.stands)
+      m.is_in in
       let a = answered_by honest fresh s s_is is m.by m.is_one h in
       let s_known = all.servers s s_is in
       let asking = matching.server_in setup s s_known s_in in

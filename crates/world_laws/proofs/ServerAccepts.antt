@@ -37,8 +37,8 @@ use Rattle.method_laws.proofs.PeerByMethod.{method_satisfies}
 use Rattle.world_laws.proofs.Proposing.{proposes_own}
 use Rattle.method_laws.proofs.ServerByMethod.{turn_received, turn_of, untagged_none}
 use Rattle.method_laws.proofs.ServerHistories.{Offers, asks, lacks}
-use Rattle.method_laws.proofs.ServerTells.{has_tags}
-use Rattle.world_laws.proofs.Told.{server_tags}
+use Rattle.method_laws.proofs.ServerImplied.{has_tags}
+use Rattle.world_laws.proofs.EndTags.{server_tags}
 
 current_of : (current : Option ℕ) (views : ServerViews) (kind : ℕ) → current ≡ Some kind
     → server_foreign current views ≡ server_foreign_of views kind

@@ -40,13 +40,13 @@ use Rattle.method_laws.specs.ServerHistory.{ServerHas, identity_round, unpropose
 use Rattle.world_laws.specs.Runs.{initial_server}
 use Rattle.world_laws.specs.ServerInvariant.{IsUntouched, ServerInvariant}
 use Rattle.method_laws.specs.Both.{ServerHasBoth}
-use Rattle.world_laws.proofs.Going.{goes_on}
+use Rattle.world_laws.proofs.Unended.{goes_on}
 use Rattle.method_laws.proofs.ServerObjects.{both_after, both_are, both_started}
 use Rattle.world_laws.proofs.Proposing.{proposes_own}
 use Rattle.method_laws.proofs.ServerByMethod.{tags_few}
 use Rattle.method_laws.proofs.ServerHistories.{Offers, asks, ends_has, in_identity, in_none, lacks}
 use Rattle.method_laws.proofs.ServerHistories.{requests_has}
-use Rattle.world_laws.proofs.Told.{server_tags}
+use Rattle.world_laws.proofs.EndTags.{server_tags}
 use Rattle.world_laws.proofs.Accepting.{server_accepted_tags}
 
 -- ---- the begin

@@ -44,7 +44,7 @@ use Rattle.world_laws.proofs.SucceedingEnds.{BothSucceed, both_succeed, by_gpsk,
 use Rattle.world_laws.specs.Runs.{run_of}
 use Rattle.eap_method.specs.BothPeers.{psk_in}
 use Rattle.eap_method.specs.BothPeers.{gpsk_in}
-use Rattle.world_laws.proofs.Told.{peer_tags}
+use Rattle.world_laws.proofs.EndTags.{peer_tags}
 
 -- ---- both ends of one login
 

@@ -63,7 +63,7 @@ use Rattle.world_laws.proofs.ServerSpeaks.{ServerSpeaks, server_speaks}
 use Rattle.world_laws.specs.Runs.{initial_world, run_of}
 use Rattle.world_laws.proofs.PeerPreserves.{peer_initiates}
 use Rattle.world_laws.proofs.ServerPreserves.{server_initiates}
-use Rattle.world_laws.proofs.Told.{peer_success, peer_tags, server_success, server_tags}
+use Rattle.world_laws.proofs.EndTags.{peer_success, peer_tags, server_success, server_tags}
 
 -- ---- a step is a skip, or a call that the event is
 

@@ -40,7 +40,7 @@ use Rattle.world_laws.proofs.PskAgrees as psk
 use Rattle.method_laws.proofs.ServerByMethod as server_by_method
 use Rattle.eap_method.specs.BothPeers.{psk_in}
 use Rattle.eap_method.specs.BothPeers.{gpsk_in}
-use Rattle.world_laws.proofs.Told.{peer_success, peer_tags, server_success, server_tags}
+use Rattle.world_laws.proofs.EndTags.{peer_success, peer_tags, server_success, server_tags}
 
 -- a record of a method isn't among two of the other
 apart : psk_kind ≡ gpsk_kind → ⊥
@@ -239,7 +239,8 @@ pub ends_succeed : (peer_setup : PeerSetup) (server_setup : ServerSetup) (p : Pe
 ends_succeed peer_setup server_setup p s _ _ _ _ peer_nonce server_nonce p_in s_in of_peer of_server
     sure other_sure =
     let p_won = peer_succeeds peer_setup p _ _ (peer_tags p_in) (peer_success p_in sure) in
-    let s_won = server_succeeds server_setup s _ _ (server_tags s_in) (server_success s_in other_sure) in
+    let s_won = server_succeeds server_setup s _ _ (server_tags s_in)
+    (server_success s_in other_sure) in
     both_succeed peer_setup server_setup p s peer_nonce server_nonce _ _ _ _ p_won s_won
     (peer_first peer_setup server_setup p s peer_nonce server_nonce _ _ _ p_won of_peer)
     (server_first peer_setup server_setup p s peer_nonce server_nonce _ _ _ s_won of_server)

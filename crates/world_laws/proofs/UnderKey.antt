@@ -37,7 +37,7 @@ use Rattle.world_laws.proofs.OneOf.{accepted_in, made_in}
 use Rattle.method_laws.proofs.PskAnswered.{HasAsked, HasPsk4, has_asked}
 use Rattle.world_laws.proofs.PskMatching as psk
 use Rattle.world_laws.proofs.Resting.{same_report}
-use Rattle.world_laws.proofs.Told.{peer_tags, server_tags}
+use Rattle.world_laws.proofs.EndTags.{peer_tags, server_tags}
 
 -- ---- the conversations
 
@@ -280,7 +280,8 @@ module _ (setup : Setup) (last : WorldNow) (ps : List OfPeer) (ss : List OfServe
         let known = all.peers m.by m.is_one in
         let h = has_asked is.psk is.header is.sealed is.tag (front (server_nonce s))
         is.rand_in setup.peer (peer_nonce m.by) known.size
-        m.by.now.vars.selected m.by.now.views m.by.accepted m.by.made (peer_tags known.stands) m.is_in in
+        m.by.now.vars.selected m.by.now.views m.by.accepted m.by.made (peer_tags known.stands)
+        m.is_in in
         let a = answered_by is m.by m.is_one m.is_in h in
         let s_known = all.servers s s_is in
         let asking = matching.server_in setup s s_known s_in in

@@ -11,8 +11,8 @@ use Rattle.server_machine.specs.ServerTable.{ServerNow}
 use Rattle.eap_world.specs.Judgement.{is_success}
 use Rattle.method_laws.specs.ByMethod.{PeerHasSucceeded, PeerTags, ServerHasSucceeded}
 use Rattle.method_laws.specs.ByMethod.{ServerTags}
-use Rattle.method_laws.proofs.PeerTells as peers
-use Rattle.method_laws.proofs.ServerTells as servers
+use Rattle.method_laws.proofs.PeerImplied as peers
+use Rattle.method_laws.proofs.ServerImplied as servers
 use Rattle.world_laws.specs.PeerInvariant.{PeerInvariant}
 use Rattle.world_laws.specs.ServerInvariant.{ServerInvariant}
 

@@ -21,9 +21,9 @@ use Rattle.method_laws.specs.ByMethod.{gpsk_server_succeeded, identity_current, 
 use Rattle.method_laws.specs.ByMethod.{psk_current, psk_server_succeeded}
 use Rattle.method_laws.specs.GpskServerInvariant.{gpsk_asked}
 use Rattle.method_laws.specs.PskServerInvariant.{psk_asked}
-use Rattle.method_laws.specs.ServerHistory.{ServerHistory}
-use Rattle.method_laws.specs.ServerHistory.{ServerHistoriesTell, initiated, requested, ended, ServerHas}
-use Rattle.method_laws.specs.ServerHistory.{unproposed, identity_round, current_has, TellsOf}
+use Rattle.method_laws.specs.ServerHistory.{ServerHistory, initiated, requested, ended, ServerHas}
+use Rattle.method_laws.specs.ServerHistory.{unproposed, identity_round, current_has, ImpliedOf}
+use Rattle.method_laws.specs.ServerHistory.{ServerHistoriesImply}
 use Rattle.method_laws.proofs.GpskServerCases.{gpsk_server_steps_are_rows}
 use Rattle.method_laws.proofs.GpskServerTurns.{gpsk_turned}
 use Rattle.method_laws.proofs.PskServerCases.{psk_server_steps_are_rows}
@@ -33,65 +33,65 @@ use Rattle.method_laws.proofs.ServerTurns.{ended_by, requested_by}
 
 module _ (setup : ServerSetup) where
   at_first : (m : Method) (id : ℕ) → is_among setup.methods (kind_of m) ≡ true
-      → TellsOf setup m (first_step m (fresh m (side_of setup) setup.nonce) id).after false [] []
+      → ImpliedOf setup m (first_step m (fresh m (side_of setup) setup.nonce) id).after false [] []
   unfolding psk.first_step gpsk.first_step
   at_first by_psk id ordered =
-      record { told = psk_asked ordered; well = λ e. absurd (false≢true e) }
+      record { tags = psk_asked ordered; well = λ e. absurd (false≢true e) }
   at_first by_gpsk id ordered =
-      record { told = gpsk_asked ordered; well = λ e. absurd (false≢true e) }
+      record { tags = gpsk_asked ordered; well = λ e. absurd (false≢true e) }
   at_first (by_other custom) id ordered = tt
 
   module _ (id : ℕ) (octets : List ℕ) (last : Bool) (tags : Tags)
       (accepted made : List TagRecord) where
     at_request : (m : Method) (view : View m) (packet : List ℕ)
-        → TellsOf setup m view last accepted made
+        → ImpliedOf setup m view last accepted made
         → (step setup.users id m view octets).turn ≡ turn.Request packet tags
-        → TellsOf setup m (step setup.users id m view octets).after false
+        → ImpliedOf setup m (step setup.users id m view octets).after false
         (accepted ++ tags.accepted) (made ++ tags.made)
     at_request by_psk view packet tells turned = record {
-      told = requested_by accepted made _ (psk_turned setup id octets accepted made view _
-          tells.told (psk_server_steps_are_rows setup.users id view octets)) packet tags turned;
+      tags = requested_by accepted made _ (psk_turned setup id octets accepted made view _
+          tells.tags (psk_server_steps_are_rows setup.users id view octets)) packet tags turned;
       well = λ e. absurd (false≢true e);
     }
     at_request by_gpsk view packet tells turned = record {
-      told = requested_by accepted made _ (gpsk_turned setup id octets accepted made view _
-          tells.told (gpsk_server_steps_are_rows setup.users id view octets)) packet tags turned;
+      tags = requested_by accepted made _ (gpsk_turned setup id octets accepted made view _
+          tells.tags (gpsk_server_steps_are_rows setup.users id view octets)) packet tags turned;
       well = λ e. absurd (false≢true e);
     }
     at_request (by_other custom) view packet tells turned = tt
 
-    at_end : (m : Method) (view : View m) (good : Bool) → TellsOf setup m view last accepted made
+    at_end : (m : Method) (view : View m) (good : Bool) → ImpliedOf setup m view last accepted made
         → (step setup.users id m view octets).turn ≡ turn.Done good tags
-        → TellsOf setup m (step setup.users id m view octets).after good
+        → ImpliedOf setup m (step setup.users id m view octets).after good
         (accepted ++ tags.accepted) (made ++ tags.made)
     at_end by_psk view good tells turned =
         let both = ended_by accepted made _ (psk_turned setup id octets accepted made view _
-        tells.told (psk_server_steps_are_rows setup.users id view octets)) good tags turned in
-        record { told = both.0; well = both.1 }
+        tells.tags (psk_server_steps_are_rows setup.users id view octets)) good tags turned in
+        record { tags = both.0; well = both.1 }
     at_end by_gpsk view good tells turned =
         let both = ended_by accepted made _ (gpsk_turned setup id octets accepted made view _
-        tells.told (gpsk_server_steps_are_rows setup.users id view octets)) good tags turned in
-        record { told = both.0; well = both.1 }
+        tells.tags (gpsk_server_steps_are_rows setup.users id view octets)) good tags turned in
+        record { tags = both.0; well = both.1 }
     at_end (by_other custom) view good tells turned = tt
 
-pub server_histories_tell : ServerHistoriesTell
+pub server_histories_imply : ServerHistoriesImply
 unfolding server_first_step server_step
-server_histories_tell setup _ _ _ _ (initiated s id ordered) = at_first setup s.method id ordered
-server_histories_tell setup _ _ _ _
+server_histories_imply setup _ _ _ _ (initiated s id ordered) = at_first setup s.method id ordered
+server_histories_imply setup _ _ _ _
     (requested s after id octets packet last tags accepted made before turned) =
     subst (λ (t : ServerShown).
-    TellsOf setup t.method t.view false (accepted ++ tags.accepted) (made ++ tags.made))
+    ImpliedOf setup t.method t.view false (accepted ++ tags.accepted) (made ++ tags.made))
     (ap (λ (out : ServerOutcome ServerShown). out.after) turned)
     (at_request setup id octets last tags accepted made s.method s.view packet
-    (server_histories_tell setup s last accepted made before)
+    (server_histories_imply setup s last accepted made before)
     (ap (λ (out : ServerOutcome ServerShown). out.turn) turned))
-server_histories_tell setup _ _ _ _
+server_histories_imply setup _ _ _ _
     (ended s after id octets last good tags accepted made before turned) =
     subst (λ (t : ServerShown).
-    TellsOf setup t.method t.view good (accepted ++ tags.accepted) (made ++ tags.made))
+    ImpliedOf setup t.method t.view good (accepted ++ tags.accepted) (made ++ tags.made))
     (ap (λ (out : ServerOutcome ServerShown). out.after) turned)
     (at_end setup id octets last tags accepted made s.method s.view good
-    (server_histories_tell setup s last accepted made before)
+    (server_histories_imply setup s last accepted made before)
     (ap (λ (out : ServerOutcome ServerShown). out.turn) turned))
 
 -- ---- by the current method
@@ -103,20 +103,22 @@ module _ (setup : ServerSetup) where
         → ServerHistory setup s good accepted made → ServerTags setup current views accepted made
     current_tags _ (is_psk same view) in_view history =
         psk_current view accepted made (is_current ∙ ap (λ (k : ℕ). Some k) same)
-        (ap psk_shown (ap views (sym same) ∙ in_view)) (server_histories_tell setup _ _ _ _ history).told
+        (ap psk_shown (ap views (sym same) ∙ in_view))
+        (server_histories_imply setup _ _ _ _ history).tags
     current_tags _ (is_gpsk same view) in_view history =
         gpsk_current view accepted made (is_current ∙ ap (λ (k : ℕ). Some k) same)
-        (ap gpsk_shown (ap views (sym same) ∙ in_view)) (server_histories_tell setup _ _ _ _ history).told
+        (ap gpsk_shown (ap views (sym same) ∙ in_view))
+        (server_histories_imply setup _ _ _ _ history).tags
 
     current_succeeds : (s : ServerShown) → IsOne kind s → views kind ≡ Some s
         → ServerHistory setup s good accepted made → good ≡ true
         → ServerHasSucceeded current views
     current_succeeds _ (is_psk same view) in_view history well =
-        let won = (server_histories_tell setup _ _ _ _ history).well well in
+        let won = (server_histories_imply setup _ _ _ _ history).well well in
         psk_server_succeeded won.0 (is_current ∙ ap (λ (k : ℕ). Some k) same)
         (ap psk_shown (ap views (sym same) ∙ in_view) ∙ ap (λ (v : psk.View). Some v) won.1)
     current_succeeds _ (is_gpsk same view) in_view history well =
-        let won = (server_histories_tell setup _ _ _ _ history).well well in
+        let won = (server_histories_imply setup _ _ _ _ history).well well in
         gpsk_server_succeeded won.0 (is_current ∙ ap (λ (k : ℕ). Some k) same)
         (ap gpsk_shown (ap views (sym same) ∙ in_view) ∙ ap (λ (v : gpsk.View). Some v) won.1)
 
