@@ -27,6 +27,10 @@ RUN = r"`[^`]*`(?:, `[^`]*`)*"
 # The end of a sentence or of a cell. (`..` stands for words left out)
 END = re.compile(r"(?<=[^.][.!?])[)*\"]*\s+(?=[A-Z0-9`*\[(\"])|(?<!\\)\|")
 
+# How a source defines a name, by its ending.
+DEFINES = {".antt": r"(?m)^ *(?:(?:pub|abbrev|unfoldable|opaque|record|data) +)*NAME(?= *(?:[:({\[]|$))",
+           ".rt": r"\b(?:fn|struct|enum|trait|type|const|static|ensures) NAME\b"}
+
 Lines = List[Tuple[int, str]]
 Block = Tuple[int, str, List[str]]
 
@@ -96,6 +100,16 @@ def check_links(check: Tally, page: Path, prose: Lines) -> None:
             fault = f"{page.relative_to(ROOT)}:{number}: the link {target} leads nowhere"
             if check.holds(to.exists(), fault) and anchor:
                 check.holds(anchor in (anchors_of(to) if to.suffix == ".md" else lines_named(to)), fault)
+
+
+def check_definitions(check: Tally, page: Path, prose: Lines) -> None:
+    """A link from one name in code to a source leads to where that name is defined."""
+    for number, line in prose:
+        for name, path in re.findall(r"\[`([\w:]+)`\]\(([^)\s#]+)", line):
+            source = (page.parent / path).resolve()
+            if source.suffix in DEFINES and source.exists():
+                form = DEFINES[source.suffix].replace("NAME", name.rpartition(":")[2])
+                check.holds(re.search(form, source.read_text()), f"{page.relative_to(ROOT)}:{number}: {path} defines no {name}")
 
 
 class Tree:
@@ -270,6 +284,7 @@ def check_pages(check: Tally, with_commands: bool) -> None:
         prose, blocks[page] = parts_in(page.read_text())
         blocks[page] += commands_of_tables(prose)
         check_links(check, page, prose)
+        check_definitions(check, page, prose)
         check_names(check, tree, page, prose)
     if with_commands:
         check_commands(check, tree, blocks)
