@@ -22,6 +22,9 @@ unfolding verdict_of
 judged_in w e =
     agreed (is_success w.parties.peer.vars.state && is_success w.parties.server.vars.state) _ e
 
+-- Two ends that run alone stand as the two ends of one run, whose events are their calls in the
+-- order of the interleaving (`interleavings_are_runs`). No end begins a second conversation in it.
+-- So `honest_ends_agree` and `honest_names_are_theirs` say of that run what is promised of both.
 pub joined_ends_agree : JoinedEndsAgree
 joined_ends_agree setup list alone whole fit honest both =
     let w = world_of setup list in

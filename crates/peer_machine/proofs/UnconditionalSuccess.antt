@@ -98,6 +98,9 @@ module _ (now : PeerNow) (won : HasUnconditionalSuccess now) where
   hearing_wins bytes _ (receiving.again id kind body asks last) = of_octets _
   hearing_wins bytes _ (expresses id kind body asks new) = expanded_stays _ (of_octets _) _
 
+-- By cases over the rows of the peer's table. A method that is DONE isn't called again, and a
+-- Failure leads to no end while the decision is UNCOND_SUCC: it is discarded. What is left changes
+-- neither of them, but for altReject and a restart, which the premises exclude.
 pub unconditional_success_stays : UnconditionalSuccessStays
 unconditional_success_stays now (octets bytes) won no_reject no_restart =
     hearing_wins now won bytes _ (peer_receives_so now bytes)

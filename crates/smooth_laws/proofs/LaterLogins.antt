@@ -52,6 +52,9 @@ still_compatible setup one two fit = record {
   reads = fit.reads;
 }
 
+-- After the restarts all parties stand as if they had begun, with their next nonces
+-- (`restarts_start_anew`). So the login goes as that of a setup with these nonces, over a world
+-- with a past (`smooth_logins_succeed_again`).
 pub logins_after_restarts_succeed : LoginsAfterRestartsSucceed
 logins_after_restarts_succeed setup events restarts smooth whole names fit next order
     in_order enough =

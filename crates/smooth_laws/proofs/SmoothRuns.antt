@@ -192,6 +192,11 @@ run_parted w first (suc count) more =
     let behind : first + suc count ≡ first + 1 + count = omega arith in
     rw (one_more, behind) (run_parted (delivered w first) (first + 1) count more)
 
+-- The cases are the two modes, and whether the peer allows the server's first method. In each the
+-- run is followed packet by packet: the Identity round (`opens`), the Nak and the next proposal if
+-- there are any (`proposes_next`), the method's own packets (`talks_through`). Both ends are then
+-- in SUCCESS over an honest book, so that they agree by `honest_ends_agree`. Further deliveries
+-- change nothing (`stay_in`).
 pub smooth_logins_succeed : SmoothLoginsSucceed
 smooth_logins_succeed setup events whole names fit order enough =
     let most : ℕ = event_bound setup in

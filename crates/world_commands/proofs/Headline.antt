@@ -94,6 +94,9 @@ pub valid_setup : (octets : List ℕ) (setup : Setup) → (scenario_of octets).s
 valid_setup octets setup is = setup_valid (lines octets) 0 0
     (record { phase = phase.Unread; settings = no_settings }) setup no_settings_valid is
 
+-- Each line that the reader of scenarios takes leaves the settings valid, so that the setup has
+-- kinds, keys and nonces as the laws ask (`whole_if_valid`). Each law then holds of the run of the
+-- scenario's events.
 pub headline : (octets : List ℕ) → HonestEndsAgree octets
 headline octets setup is =
     let events = (scenario_of octets).events in

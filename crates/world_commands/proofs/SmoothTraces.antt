@@ -99,6 +99,9 @@ run_implies names setup events honest agree =
           (tags_verdict w.book) (verdict_of w) honest agree);
     }
 
+-- The input reads as the scenario of these events, whose setup is valid, so that its run is one of
+-- smooth logins: `logins_succeed` says that its book is honest, that both ends agree and whether
+-- nonces were fresh. The trace ends with the lines of just that (`run_implies`).
 pub smooth_traces_agree : SmoothTracesAgree
 smooth_traces_agree octets setup fresh events names input fit logins =
     let is = inputs_are_scenarios.taken octets setup events input in

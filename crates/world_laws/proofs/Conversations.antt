@@ -202,9 +202,16 @@ module _ (setup : Setup) (events : List Event) (whole : IsWhole setup) where
   run_matches = they_match setup last (peer_conversations setup events)
       (server_conversations setup events) run_known
 
+-- `walk` cuts a run into the conversations of each end, event by event: in each the invariant of
+-- its end holds, with its own tags, and with fresh nonces no two of an end have nonces alike. The
+-- first tag that a conversation accepted tells a nonce of the one that made it, so that with fresh
+-- nonces it rests on no other. Matching has the proof for both ends, PskMatching what EAP-PSK's
+-- PSK-4 adds.
 pub conversations_match : ConversationsMatch
 conversations_match = run_matches
 
+-- The conversations into which `walk` cuts a run begin with all nonces that were begun with, in
+-- order; their tags joined are those of the book, and the last is the present one.
 pub conversations_are_all : ConversationsAreAll
 conversations_are_all = all_are
 
@@ -237,5 +244,9 @@ module _ (setup : Setup) (events : List Event) (whole : IsWhole setup) where
             (honest_other end.Server now.book none) (honest_other end.Peer now.book none) s_in);
       }
 
+-- The present conversation is the last of its end's. So what holds of each that succeeded holds of
+-- it: `peer_tells` says so from the conversations that match, `server_tells` from those that rest
+-- on one. If no end has begun a second conversation, `knows` compares both present ones, each of
+-- whose accepted tags the other end made.
 pub one_end_implies : OneEndImplies
 one_end_implies = implied

@@ -525,6 +525,10 @@ takes_one setup events whole over =
       | inr taken ↦ taken
     ]
 
+-- As long as the server has taken no Nak in its present conversation, it is at the first method of
+-- its order or at none: each row of its table keeps this but the one that takes a Nak. If the peer
+-- allows that method, it is the first that it allows, which the premise excludes (`not_over`). So
+-- there was a Nak, and `naks_refuse` says what the peer answers by those octets.
 pub downgrades_need_naks : DowngradesNeedNaks
 unfolding run_after
 downgrades_need_naks setup events whole over =

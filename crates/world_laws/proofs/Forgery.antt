@@ -119,6 +119,9 @@ module _ (setup : Setup) (w : WorldNow) (ps : List OfPeer) (ss : List OfServer)
   each_right : (e : Entry) → IsOneOf e w.book → IsOfConversation setup ps ss e
   each_right e is = by_end e e.end refl (entry_in e w.book is)
 
+-- The tags of all conversations joined are those of the book (`conversations_are_all`), so that
+-- each entry is a tag of one of them. The state of that conversation determines the tag: RightMacs
+-- finds it right in each state, under the key that the state derives.
 pub each_tag_is_right : EachTagIsRight
 each_tag_is_right setup events whole e is =
     each_right setup (run_of setup events) (peer_conversations setup events)
@@ -267,6 +270,11 @@ in_whole key e [] is = elim is [ ]
 in_whole key e (x ∷ rest) is =
     put_if (bytes_eq x.tag.psk key) e x (under key rest) rest (in_whole key e rest) is
 
+-- A book is searched for its first accepted tag that no end which may had made before
+-- (`search_broken`). If there is none, the book is honest, and the ends agree by
+-- `honest_ends_agree` or `ends_agree_under`. Else that tag is right by `each_tag_is_right`, and no
+-- tag that such an end made before equals it, or it would have vouched. So for the whole book, and
+-- for the tags under one key.
 pub agree_or_forged : AgreeOrForged
 agree_or_forged setup events whole =
     let w : WorldNow = run_of setup events in

@@ -123,7 +123,11 @@ agree_anew setup w h fresh p_in s_in p_asks p_made present_honest server_honest 
       theirs = own_theirs setup w h.peer_nonce h.server_nonce succeed;
     }
 
--- every run of a whole setup
+-- Every run of a whole setup. The peer's first tag was made by the server and the server's by the
+-- peer, as the book is honest, and each tells a nonce of the conversation that made it. So `in_one`
+-- finds both tags in the present conversations: else a past conversation of each end would have
+-- ended after the present one of the other began, which no order of events allows. Both ends are
+-- then in one login, and report the same.
 pub fresh_ends_agree : (setup : Setup) (events : List Event) → IsWhole setup
     → (let w = run_of setup events in
     tags_verdict w.book ≡ Honest → w.conversations.fresh ≡ true

@@ -330,6 +330,10 @@ start_implies setup = record {
   fresh = start_fresh (bytes_eq (front setup.peer.nonce) (front setup.server.nonce));
 }
 
+-- A world keeps which nonces were used, which of those left were heard, and whether all were new so
+-- far. Each is a test over the history: so at the start, and after each event by the call that it
+-- is (`step_implies`). That test over the whole history is true exactly if no nonce clashes with
+-- what came before it (`good_is`, `is_good_all`).
 pub freshness_is_exact : FreshnessIsExact
 freshness_is_exact setup events =
     let w = after_implies (world_start (initial_world setup)).after events _

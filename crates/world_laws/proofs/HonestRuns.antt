@@ -100,6 +100,11 @@ module _ (setup : Setup) (events : List Event) (whole : IsWhole setup) where
   honest_agrees honest (inr fresh) =
       λ p_in s_in. (fresh_ends_agree setup events whole honest fresh p_in s_in).agree
 
+-- The proof goes by the two cases of (b). If no end has begun a second conversation, the whole book
+-- is of the present ones: the invariants of both ends hold of it, each accepted tag in it was made
+-- by either end, and `once_agree` finds both ends in one login. Else nonces are fresh, and
+-- `fresh_ends_agree` finds that login among the conversations of both. As both report the same
+-- wherever both are in SUCCESS, the verdict is never Apart.
 pub honest_ends_agree : HonestEndsAgree
 honest_ends_agree setup events whole = record {
   agrees = honest_agrees setup events whole;

@@ -38,6 +38,9 @@ module _ (key : List ℕ) where
           ap (λ (l : List Entry). first_broken makers l (under key rest)) (sym
           (none_more key earlier e its)) ∙ behind
 
+-- A tag that vouches for another equals it, and so is under the same key. What is left out of the
+-- book under a key vouches for nothing that stays. By induction over the book, none of the entries
+-- that stay is broken.
 pub honest_under_a_key : HonestUnder
 unfolding under
 honest_under_a_key key book = (

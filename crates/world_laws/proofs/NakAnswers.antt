@@ -478,6 +478,9 @@ module _ {methods : List ℕ} (setup : Setup) (w : WorldNow) (e : Event)
       (reading_refuses w.parties.peer bytes packet.octets both _ (reads_is w.parties.peer bytes)
       sent fresh nak)))
 
+-- A packet of the peer comes of a call of the peer. One that is sent anew and is a Nak comes of a
+-- delivery, and there only of the row for a Type that isn't allowed: no other row's packet is a Nak
+-- (`row_naks`). With Expanded Types that row is the one of the plain form.
 pub naks_refuse : NaksRefuse
 naks_refuse setup events e packet sends new nak =
     let stands = (every_run_so_far setup events).both.peer_invariant in

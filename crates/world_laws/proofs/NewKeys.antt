@@ -105,6 +105,10 @@ from_nonce setup now _ _ (by_method.gpsk_selected accepted made is_selected told
     of_gpsk_view setup (gpsk_in now.views) accepted made told (key_for setup psk_kind) x
     (sym (ap (peer_session_of now) is_selected) ∙ is)
 
+-- By EAP-PSK a conversation's MSK and EMSK are those of its key and its own nonce's first 16 octets
+-- (`from_nonce`). AES under one key gives different blocks for different ones: so equal MSKs or
+-- EMSKs come of equal RAND_P (`psk_keys_differ`), and with fresh nonces no two conversations have
+-- one RAND_P.
 pub keys_are_new : KeysAreNew
 keys_are_new setup events whole is_key fresh p q two one other has its =
     let all = run_known setup events whole in

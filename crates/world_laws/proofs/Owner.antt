@@ -22,6 +22,9 @@ module _ (setup : Setup) (events : List Event) (whole : IsWhole setup) where
   honest_theirs honest (inr fresh) =
       λ p_in s_in. (fresh_ends_agree setup events whole honest fresh p_in s_in).theirs
 
+-- The cases are those of `honest_ends_agree`. In each both ends are in one login, with one PSK,
+-- both names and one suite. A login has its own end's name, and the server's has the PSK of the
+-- user of ID_Peer: so both names and the key are those of the two setups.
 pub honest_names_are_theirs : HonestNamesAreTheirs
 honest_names_are_theirs setup events whole = record {
   theirs = honest_theirs setup events whole;

@@ -226,6 +226,9 @@ pass_is_alone setup events through =
 
 -- ---- two runs
 
+-- In a run the pass-through is as its table makes it of its inputs alone, from its first Identifier
+-- and MaxRetrans, and so is what it sent (`run_proceeds`). Of two runs with the same inputs both
+-- are the same.
 pub pass_learns_nothing : PassLearnsNothing
 pass_learns_nothing one other events others through too same_id same_max same_came =
     let a = run_proceeds one events in
@@ -253,6 +256,9 @@ all_passed first_id came (packet ∷ rest) all =
     (passed packet (All-head (IsCarried first_id came) packet rest all))
     (all_passed first_id came rest (All-tail (IsCarried first_id came) packet rest all))
 
+-- What the pass-through sent is what its table sends on its inputs alone (`run_proceeds`). Each
+-- packet of that is its Identity Request, or one of the inputs without its padding, as
+-- `carries_only_received` says of every list of inputs.
 pub pass_carries : PassCarries
 pass_carries setup events through =
     subst (All (IsPassedOn setup.first_id (received_by_pass setup events)))

@@ -226,6 +226,10 @@ module _ (setup : Setup) (events : List Event) (kind : ℕ) (whole : IsWhole set
       → IsOfKey setup theirs last.parties.server
   of_user honest two both = once_of_key setup kind whole last (first_of two) both honest
 
+-- All tags of a conversation are under one key: those of a peer in SUCCESS under its own for the
+-- method, those of a server in SUCCESS under its user's. So the proof of `honest_ends_agree` asks
+-- of no tag under another key. As long as no end has begun a second conversation, the server made
+-- the peer's first tag: so its user has that key.
 pub ends_agree_under : EndsAgreeUnder
 ends_agree_under setup events kind whole =
     let w = run_of setup events in
@@ -248,6 +252,8 @@ ends_agree_under setup events kind whole =
           (record { peer = p_in; method = method; server = s_in }) of_key).agree);
     }
 
+-- As for `one_end_implies`, over the conversations that match under the key. By EAP-PSK a tag that
+-- came back to the peer is none of its own, so that the server made it (`psk_matches`).
 pub one_end_implies_under : OneEndImpliesUnder
 one_end_implies_under setup events kind whole =
     let w = run_of setup events in

@@ -222,6 +222,10 @@ module _ (setup : Setup) (last : WorldNow) (ps : List OfPeer) (ss : List OfServe
             (peer_nonce q) known.size other.size x y from other_from one its suite others e);
       }
 
+-- Two conversations in SUCCESS that rest on each other are in one login (`both_succeed`), so that
+-- both make their Session-Id of the same report and nonces. Any two of the peer have nonces with
+-- different first 16 octets, if nonces are fresh. The nonce stands at a fixed place, by EAP-PSK in
+-- the Session-Id, by EAP-GPSK in what the KDF derives it from: so these differ.
 pub session_ids_match : SessionIdsMatch
 session_ids_match setup events whole =
     let all = run_known setup events whole in

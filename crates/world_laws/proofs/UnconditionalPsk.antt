@@ -149,6 +149,9 @@ started_sure : {methods : List ℕ} (w : WorldNow) → PeerHasBoth methods w.par
 unfolding world_start
 started_sure w both h = call_sure w.parties (start_call w.parties.mode) both h
 
+-- By EAP-PSK a reply whose decision isn't FAIL has UNCOND_SUCC and DONE (`reply_sure`). No other
+-- row of the peer's table changes methodState or decision but a restart, which sets FAIL. So it
+-- holds from the start on, step by step.
 pub psk_success_is_unconditional : PskSuccessIsUnconditional
 psk_success_is_unconditional setup events =
     (run_preserves (λ (w : WorldNow). InvariantSoFar setup w × IsUnconditional w.parties.peer)

@@ -324,6 +324,10 @@ module _ (setup : Setup) (last : WorldNow) (ps : List OfPeer) (ss : List OfServe
           psk.confirm_from setup last ps ss all s s_is c p p_is rests b.1 ∙ same_login p p_is rests,
         )
 
+-- A conversation that made a tag under the key has accepted no tag under another. So the one on
+-- which a conversation under the key rests is under it too, and the proof of `conversations_match`
+-- goes over those alone. By EAP-PSK the PSK-4 that a server accepted has its RAND_S in the header:
+-- the peer's conversation that made it rests on the server's (`answered_back`), and has succeeded.
 pub conversations_match_under : ConversationsMatchUnder
 conversations_match_under setup events kind whole =
     let all = run_known setup events whole in
