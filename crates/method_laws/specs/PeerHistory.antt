@@ -1,6 +1,6 @@
 -- What a peer's object has done since it began: its Responses, with the tags that it has accepted
 -- and made and its last decision (RFC 4137 section 4.2). Every method has such a history; what it
--- tells is each method's own.
+-- implies is each method's own.
 use Rattle.std.specs.Prelude.{◌≡◌, ◌≢◌, ℕ, List, [], ◌++◌, true, Option, None, Some}
 use Rattle.login_setup.specs.declared.setup.PeerSetup.{PeerSetup}
 use Rattle.octet_lists.specs.Among.{is_among}
@@ -39,7 +39,7 @@ pub data PeerHas (setup : PeerSetup) (selected : Option ℕ) (views : PeerViews)
       (is_selected : selected ≡ Some kind) (in_view : views kind ≡ Some s)
       (history : PeerHistory setup s d accepted made) → PeerHas setup selected views d accepted made
 
--- ---- what a history tells
+-- ---- what a history implies
 
 -- the tags, and of a decision other than FAIL a success
 pub record Implied {V : Type 0} (HasTags : V → List TagRecord → List TagRecord → Type 0)
@@ -54,7 +54,7 @@ psk_succeeds view = (login : psk_peer.Login) × (view ≡ psk_peer.over login tr
 abbrev pub gpsk_succeeds : gpsk_peer.View → Type 0
 gpsk_succeeds view = (login : gpsk_peer.Login) × (view ≡ gpsk_peer.over login true)
 
--- by its method; of a maker's method it tells nothing
+-- by its method; of a maker's method it implies nothing
 abbrev pub ImpliedOf : PeerSetup → (m : Method) → View m → Decision → List TagRecord
     → List TagRecord → Type 0
 ImpliedOf setup by_psk view d accepted made =
@@ -63,7 +63,7 @@ ImpliedOf setup by_gpsk view d accepted made =
     Implied (GpskPeerTags setup) gpsk_succeeds view d accepted made
 ImpliedOf setup (by_other custom) view d accepted made = Unit {0}
 
--- every history tells so
+-- every history implies so
 abbrev pub PeerHistoriesImply : Type 0
 PeerHistoriesImply = (setup : PeerSetup) (s : PeerShown) (d : Decision)
     (accepted made : List TagRecord) → PeerHistory setup s d accepted made

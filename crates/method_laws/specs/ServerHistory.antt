@@ -1,5 +1,5 @@
 -- What a server's object has done since it began: its Requests and its end, with the tags that it
--- has accepted and made. Every method has such a history; what it tells is each method's own.
+-- has accepted and made. Every method has such a history; what it implies is each method's own.
 use Rattle.std.specs.Prelude.{◌≡◌, ℕ, List, [], ◌++◌, Bool, true, false, ◌==◌, Option, None, Some}
 use Rattle.login_setup.specs.Setup.{ServerSetup}
 use Rattle.octet_lists.specs.Among.{identity_kind, is_among}
@@ -43,7 +43,7 @@ pub data ServerHas (setup : ServerSetup) (current : Option ℕ) (views : ServerV
       (in_view : views kind ≡ Some s) (history : ServerHistory setup s good accepted made)
       → ServerHas setup current views good accepted made
 
--- ---- what a history tells
+-- ---- what a history implies
 
 -- the tags, and of a good end a success
 pub record Implied {V : Type 0} (HasTags : V → List TagRecord → List TagRecord → Type 0)
@@ -58,7 +58,7 @@ psk_succeeds view = (login : psk_server.Login) × (view ≡ psk_server.over logi
 abbrev pub gpsk_succeeds : gpsk_server.View → Type 0
 gpsk_succeeds view = (login : gpsk_server.Login) × (view ≡ gpsk_server.over login true)
 
--- by its method; of a maker's method it tells nothing
+-- by its method; of a maker's method it implies nothing
 abbrev pub ImpliedOf : ServerSetup → (m : Method) → View m → Bool → List TagRecord
     → List TagRecord → Type 0
 ImpliedOf setup by_psk view good accepted made =
@@ -67,7 +67,7 @@ ImpliedOf setup by_gpsk view good accepted made =
     Implied (GpskServerTags setup) gpsk_succeeds view good accepted made
 ImpliedOf setup (by_other custom) view good accepted made = Unit {0}
 
--- every history tells so
+-- every history implies so
 abbrev pub ServerHistoriesImply : Type 0
 ServerHistoriesImply = (setup : ServerSetup) (s : ServerShown) (good : Bool)
     (accepted made : List TagRecord) → ServerHistory setup s good accepted made

@@ -208,7 +208,8 @@ pub fn pass_carries()
 /// accepted and made in its present conversation, also after a login that failed, and no other; what its method keeps
 /// is of its own settings, with the nonce of that conversation, but for the other end's name and nonce and the suite
 /// that it picked of a list; a decision other than FAIL comes from a method that has succeeded, and SUCCESS from such a
-/// decision.
+/// decision. It is said by the history of the method that is selected or current: `peer_histories_imply` and
+/// `server_histories_imply` of `method_laws` say what each implies.
 pub fn end_invariants()
     ensures { EndInvariants }
 {}
