@@ -106,3 +106,12 @@ pub mod ServerAsks
 pub mod RightMacs
 -- What the peer brings into a method is its setup's.
 pub mod Credentials
+-- Two ends that have succeeded by EAP-GPSK agree, and what they report is their own.
+pub mod GpskAgrees
+-- Two ends that have succeeded by EAP-PSK agree, and what they report is their own.
+pub mod PskAgrees
+-- Two ends of EAP-PSK or EAP-GPSK that have succeeded agree, where the first tag that each accepted
+-- is one that either end made.
+pub mod Succeeding
+-- A report whose suite is among these, if its method has one, passes the test of it.
+pub mod AllowedSuites

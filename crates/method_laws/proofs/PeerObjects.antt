@@ -5,7 +5,7 @@ use Rattle.std.specs.Prelude.{◌==◌, if◌then◌else◌, option_map}
 use Rattle.std.proofs.lemmas.Bool.{cases_Bool, cond-true, cond-false, eqb-true}
 use Rattle.login_setup.specs.declared.setup.PeerSetup.{PeerSetup}
 use Rattle.octet_lists.specs.Among.{psk_kind, gpsk_kind, is_among}
-use Rattle.eap_method.specs.BothPeers.{IsOne, both_of, is_gpsk, is_psk}
+use Rattle.eap_method.specs.BothPeers.{IsOne, both_of, is_gpsk, is_one as is_of_two, is_psk}
 use Rattle.eap_method.specs.GpskPeer as gpsk_peer
 use Rattle.eap_method.specs.Peer.{Method, PeerShown, PeerViews, View, by_gpsk, by_other, by_psk}
 use Rattle.eap_method.specs.Peer.{gpsk, method_of, peer_started_in, peer_turn, psk, put, turned}
@@ -37,6 +37,10 @@ kind_is : (kind : ℕ) (s : PeerShown) → IsOne kind s → peer_kind s ≡ kind
 kind_is kind _ (is_psk same view) = sym same
 kind_is kind _ (is_gpsk same view) = sym same
 
+two_are : (kind : ℕ) (s : PeerShown) → IsOne kind s → is_of_two s.method ≡ true
+two_are kind _ (is_psk same view) = refl
+two_are kind _ (is_gpsk same view) = refl
+
 named_by : (named : Bool) (found : Option PeerShown) (m : Method)
     → Some m ≡ option_map method_of (if named then found else None) → named ≡ true
 named_by true found m e = refl
@@ -48,6 +52,9 @@ module _ {methods : List ℕ} {views : PeerViews} (both : PeerHasBoth methods vi
       by_tests kind (is_among methods kind) (kind == psk_kind) (kind == gpsk_kind) s.method s.view
       (sym (ap (option_map method_of) is) ∙ both.same kind)
       (eqb-true kind psk_kind) (eqb-true kind gpsk_kind)
+
+  pub is_one_of_two : (kind : ℕ) (s : PeerShown) → views kind ≡ Some s → is_of_two s.method ≡ true
+  is_one_of_two kind s is = two_are kind s (is_one kind s is)
 
   pub is_named : (kind : ℕ) (s : PeerShown) → views kind ≡ Some s → is_among methods kind ≡ true
   is_named kind s is = named_by (is_among methods kind) _ s.method

@@ -7,7 +7,7 @@ use Rattle.login_setup.specs.Setup.{ServerSetup}
 use Rattle.login_setup.specs.declared.users.User.{User}
 use Rattle.octet_lists.specs.Among.{psk_kind, gpsk_kind, is_among}
 use Rattle.eap_method.specs.declared.values.ServerSide.{ServerSide}
-use Rattle.eap_method.specs.BothServers.{IsOne, both_of, is_gpsk, is_psk}
+use Rattle.eap_method.specs.BothServers.{IsOne, both_of, is_gpsk, is_one as is_of_two, is_psk}
 use Rattle.eap_method.specs.GpskServer as gpsk_server
 use Rattle.eap_method.specs.Server.{Method, ServerShown, ServerViews, View, by_gpsk, by_other}
 use Rattle.eap_method.specs.Server.{by_psk, gpsk, method_of, offered, psk, put, server_offer}
@@ -40,6 +40,10 @@ kind_is : (kind : ℕ) (s : ServerShown) → IsOne kind s → server_kind s ≡ 
 kind_is kind _ (is_psk same view) = sym same
 kind_is kind _ (is_gpsk same view) = sym same
 
+two_are : (kind : ℕ) (s : ServerShown) → IsOne kind s → is_of_two s.method ≡ true
+two_are kind _ (is_psk same view) = refl
+two_are kind _ (is_gpsk same view) = refl
+
 named_by : (named : Bool) (found : Option ServerShown) (m : Method)
     → Some m ≡ option_map method_of (if named then found else None) → named ≡ true
 named_by true found m e = refl
@@ -51,6 +55,9 @@ module _ {methods : List ℕ} {views : ServerViews} (both : ServerHasBoth method
       by_tests kind (is_among methods kind) (kind == psk_kind) (kind == gpsk_kind) s.method s.view
       (sym (ap (option_map method_of) is) ∙ both.same kind)
       (eqb-true kind psk_kind) (eqb-true kind gpsk_kind)
+
+  pub is_one_of_two : (kind : ℕ) (s : ServerShown) → views kind ≡ Some s → is_of_two s.method ≡ true
+  is_one_of_two kind s is = two_are kind s (is_one kind s is)
 
   pub is_named : (kind : ℕ) (s : ServerShown) → views kind ≡ Some s → is_among methods kind ≡ true
   is_named kind s is = named_by (is_among methods kind) _ s.method

@@ -1,9 +1,9 @@
 -- What the laws say of EAP-GPSK alone: of the whole nonces, each name, and the suite. Of another
 -- method each says nothing.
-use Rattle.std.specs.Prelude.{◌≡◌, ℕ, List, Option, Some}
+use Rattle.std.specs.Prelude.{◌≡◌, ℕ, List, true, Option, Some}
 use Rattle.login_setup.specs.declared.setup.Setup.{Setup}
 use Rattle.octet_lists.specs.declared.suite.Suite.{Suite}
-use Rattle.octet_lists.specs.Among.{gpsk_kind}
+use Rattle.octet_lists.specs.Among.{gpsk_kind, is_among}
 use Rattle.octet_lists.specs.Suite.{suite_number}
 use Rattle.login_policy.specs.Policy.{picked_suite}
 use Rattle.eap_method.specs.BothServers.{gpsk_at}
@@ -37,3 +37,7 @@ pub record PicksFirstSuite (setup : Setup) (report : Report) : Type 0 where
 
 abbrev pub HasFirstSuite : Setup → Report → Type 0
 HasFirstSuite setup report = report.method ≡ gpsk_kind → PicksFirstSuite setup report
+
+-- the reported suite is among these
+abbrev pub HasSuiteAmong : List ℕ → Report → Type 0
+HasSuiteAmong suites report = report.method ≡ gpsk_kind → is_among suites report.suite ≡ true

@@ -16,3 +16,4 @@ pub mod PeerHistory
 pub mod ServerHistory
 pub mod TagOwners
 pub mod RightMacs
+pub mod Agreeing

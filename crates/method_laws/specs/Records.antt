@@ -1,6 +1,6 @@
 -- The tags of each end, selected from the book in their order.
-use Rattle.std.specs.Prelude.{◌≤◌, ◌⊎◌, ℕ, List, [], ◌∷◌, length, filter, Bool, true, false, ◌&&◌}
-use Rattle.std.specs.Prelude.{nat_lt, if◌then◌else◌}
+use Rattle.std.specs.Prelude.{◌≡◌, ◌≤◌, ◌⊎◌, ℕ, List, [], ◌∷◌, length, filter, Bool, true, false}
+use Rattle.std.specs.Prelude.{◌&&◌, nat_lt, if◌then◌else◌}
 use Rattle.eap_method.specs.declared.tags.TagRecord.{TagRecord}
 use Rattle.tag_book.specs.Book.{same_end}
 use Rattle.tag_book.specs.declared.book.End.{End}
@@ -35,6 +35,11 @@ pub data IsIn (tag : TagRecord) : List TagRecord → Type 0 where
 -- each tag that an end accepted is among those that the other made, or among its own
 pub record AreInEither (accepted others own : List TagRecord) : Type 0 where
   pub each : (tag : TagRecord) → IsIn tag accepted → IsIn tag others ⊎ IsIn tag own
+
+-- the first tag that an end accepted is among those that the other made, or among its own
+pub record FirstInEither (accepted others own : List TagRecord) : Type 0 where
+  pub is : (tag : TagRecord) (rest : List TagRecord) → accepted ≡ tag ∷ rest
+      → IsIn tag others ⊎ IsIn tag own
 
 -- at most two accepted and two made
 pub record AreFew (accepted made : List TagRecord) : Type 0 where

@@ -1,6 +1,7 @@
 //! The rows of each end's turns, what a history of turns tells, and whole logins. Each is the contract of a function that
 //! does nothing.
 
+ghost use Rattle.method_laws.specs.Agreeing.{BothAgree};
 ghost use Rattle.method_laws.specs.GpskLogin.{GpskLoginsGoThrough};
 ghost use Rattle.method_laws.specs.GpskPeerRows.{GpskPeerStepsAreRows};
 ghost use Rattle.method_laws.specs.GpskServerRows.{GpskServerStepsAreRows};
@@ -71,4 +72,11 @@ pub fn peer_tags_are_right()
 #[tactic(auto, using(crate::proofs::RightMacs::server_tags_are_right))]
 pub fn server_tags_are_right()
     ensures { ServerTagsAreRight }
+{}
+
+/// Two ends of EAP-PSK or EAP-GPSK whose methods have both succeeded agree, where the first tag that
+/// each accepted is one that either end made.
+#[tactic(auto, using(crate::proofs::Succeeding::both_agree))]
+pub fn both_agree()
+    ensures { BothAgree }
 {}

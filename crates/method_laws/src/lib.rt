@@ -7,7 +7,7 @@
 mod laws;
 
 pub use laws::{
-    gpsk_logins_go_through, gpsk_peer_steps_are_rows, gpsk_server_steps_are_rows,
+    both_agree, gpsk_logins_go_through, gpsk_peer_steps_are_rows, gpsk_server_steps_are_rows,
     peer_histories_imply, peer_tags_are_right, psk_logins_go_through, psk_peer_steps_are_rows,
     psk_server_steps_are_rows, server_histories_imply, server_tags_are_right,
 };

@@ -18,7 +18,8 @@ use Rattle.world_laws.proofs.Matching as matching
 use Rattle.world_laws.proofs.OneLogin.{first_is_in}
 use Rattle.world_laws.proofs.OneOf.{accepted_in, of_last, produced_in}
 use Rattle.world_laws.proofs.Resting.{peers_login, servers_login, whole_login}
-use Rattle.world_laws.proofs.SucceedingEnds.{first_in, server_succeeds}
+use Rattle.method_laws.proofs.Among.{first_in}
+use Rattle.method_laws.proofs.Succeeding.{server_succeeds}
 use Rattle.eap_world.specs.Conversations.{front}
 use Rattle.eap_world.specs.Judgement.{is_success}
 use Rattle.eap_world.specs.World.{WorldNow}
@@ -76,8 +77,9 @@ module _ (setup : Setup) (last : WorldNow) (ps : List OfPeer) (ss : List OfServe
       let asks = matching.server_asking setup s known (front (peer_nonce on)) hold.rand_p in
       let login = servers_login (peers.setup_with_nonce setup.peer (peer_nonce on))
       (servers.setup_with_nonce setup.server (server_nonce s)) on_known.size known.size
-      on.now.vars.selected on.now.views on.accepted on.made (peer_tags on_known.stands)
-      s.now s.accepted s.made (matching.server_won setup s known s_in)
+      on.now.vars.selected on.now.views on.accepted on.made (peer_tags on_known.stands) s.now
+      s.accepted
+      s.made (matching.server_won setup s known s_in)
       (first_in s.accepted on.made rests.tag rests.more rests.first rests.is_made) in
       record {
         on = on;
@@ -142,7 +144,7 @@ knows setup whole w both theirs back s_in =
     let p = w.parties.peer in
     let s = w.parties.server in
     let stands = both.server_invariant in
-    let won = server_succeeds setup.server s _ _ (server_tags stands)
+    let won = server_succeeds setup.server _ _ _ _ (server_tags stands)
     (server_success stands s_in) in
     let login = servers_login setup.peer setup.server whole.peer_nonce whole.server_nonce
     p.vars.selected p.views _ _ (peer_tags both.peer_invariant) s _ _ won

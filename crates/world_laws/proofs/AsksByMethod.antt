@@ -1,5 +1,5 @@
 -- An end asks so of the other by either method; and an end in SUCCESS has accepted a tag.
-use Rattle.std.proofs.Common.{◌≡◌, ℕ, ◌≤◌, List, length, arith}
+use Rattle.std.proofs.Common.{◌≡◌, ℕ, ◌≤◌, List, length, Option, arith}
 use Rattle.login_setup.specs.declared.setup.PeerSetup.{PeerSetup}
 use Rattle.login_setup.specs.Setup.{ServerSetup}
 use Rattle.eap_method.specs.declared.tags.TagRecord.{TagRecord}
@@ -9,27 +9,46 @@ use Rattle.server_machine.specs.ServerTable.{ServerNow}
 use Rattle.method_laws.proofs.Asks.{AsksServer}
 use Rattle.method_laws.proofs.GpskServerOwners.{gpsk3_asks}
 use Rattle.method_laws.proofs.PskServerOwners.{psk3_asks}
-use Rattle.world_laws.proofs.SucceedingEnds.{PeerSucceeds, ServerSucceeds, of_gpsk, of_psk}
-use Rattle.world_laws.proofs.SucceedingEnds.{with_gpsk, with_psk}
+use Rattle.method_laws.proofs.Succeeding.{PeerSucceeds, ServerSucceeds}
+use Rattle.method_laws.proofs.Succeeding.{of_gpsk, of_psk}
+use Rattle.method_laws.proofs.Succeeding.{with_gpsk, with_psk}
+use Rattle.eap_method.specs.Peer.{PeerViews}
+use Rattle.eap_method.specs.Server.{ServerViews}
+use Rattle.server_machine.specs.ServerTable as servers
+use Rattle.method_laws.specs.ByMethod.{ServerTags, gpsk_current, identity_current, none_current}
+use Rattle.method_laws.specs.ByMethod.{psk_current, server_foreign}
+use Rattle.method_laws.specs.GpskServerInvariant.{gpsk_rand_p_in}
+use Rattle.method_laws.specs.PskServerInvariant.{psk_rand_p_in}
+use Rattle.method_laws.specs.TagOwners.{ServerTagOwner}
+use Rattle.method_laws.proofs.Asks.{AsksPeer}
+use Rattle.method_laws.proofs.GpskServerOwners.{gpsk_view_asks}
+use Rattle.method_laws.proofs.PskServerOwners.{psk_view_asks}
 
-pub peer_asks : (setup : PeerSetup) (nonce : List ℕ) (now : PeerNow)
+pub peer_asks : (setup : PeerSetup) (nonce : List ℕ) (selected : Option ℕ) (views : PeerViews)
     (accepted made : List TagRecord) → length nonce ≡ 32
-    → PeerSucceeds (peers.setup_with_nonce setup nonce) now accepted made
+    → PeerSucceeds (peers.setup_with_nonce setup nonce) selected views accepted made
     → AsksServer nonce accepted
-peer_asks setup nonce now _ _ size (with_psk login header sealed id is_selected in_view facts) =
+peer_asks setup nonce selected views _ _ size
+    (with_psk login header sealed id is_selected in_view facts) =
     psk3_asks setup nonce login header sealed size facts
-peer_asks setup nonce now _ _ size (with_gpsk login list pd is_selected in_view facts) =
+peer_asks setup nonce selected views _ _ size
+    (with_gpsk login list pd is_selected in_view facts) =
     gpsk3_asks setup nonce login list pd size facts
 
 -- an end in SUCCESS has accepted a tag
-pub peer_accepted : (setup : PeerSetup) (now : PeerNow) (accepted made : List TagRecord)
-    → PeerSucceeds setup now accepted made → 1 ≤ length accepted
-peer_accepted setup now _ _ (with_psk login header sealed id is_selected in_view facts) =
+pub peer_accepted : (setup : PeerSetup) (selected : Option ℕ) (views : PeerViews)
+    (accepted made : List TagRecord) → PeerSucceeds setup selected views accepted made
+    → 1 ≤ length accepted
+peer_accepted setup selected views _ _ (with_psk login header sealed id is_selected in_view facts) =
     omega arith
-peer_accepted setup now _ _ (with_gpsk login list pd is_selected in_view facts) = omega arith
+peer_accepted setup selected views _ _ (with_gpsk login list pd is_selected in_view facts) =
+    omega arith
 
-pub server_accepted : (setup : ServerSetup) (now : ServerNow) (accepted made : List TagRecord)
-    → ServerSucceeds setup now accepted made → 1 ≤ length accepted
-server_accepted setup now _ _ (of_psk login header sealed id is_current in_view facts r_sent) =
+pub server_accepted : (setup : ServerSetup) (current : Option ℕ) (views : ServerViews)
+    (accepted made : List TagRecord) → ServerSucceeds setup current views accepted made
+    → 1 ≤ length accepted
+server_accepted setup current views _ _
+    (of_psk login header sealed id is_current in_view facts r_sent) =
     omega arith
-server_accepted setup now _ _ (of_gpsk login pd last_pd is_current in_view facts) = omega arith
+server_accepted setup current views _ _ (of_gpsk login pd last_pd is_current in_view facts) =
+    omega arith

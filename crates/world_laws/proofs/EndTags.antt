@@ -1,16 +1,28 @@
--- What stands of an end tells its tags and its success.
-use Rattle.std.proofs.Common.{◌≡◌, ◌≢◌, List, true, false}
-use Rattle.std.proofs.lemmas.Bool.{true≢false}
+-- What stands of an end tells its tags and its success, and the history of the object that has
+-- succeeded.
+use Rattle.std.proofs.Common.{◌≡◌, ◌≢◌, List, Bool, true, false, subst, ap, ◌∙◌}
+use Rattle.std.proofs.lemmas.Bool.{false≢true, true≢false}
 use Rattle.login_setup.specs.Setup.{ServerSetup}
 use Rattle.login_setup.specs.declared.setup.PeerSetup.{PeerSetup}
 use Rattle.eap_method.specs.declared.tags.TagRecord.{TagRecord}
 use Rattle.eap_method.specs.declared.values.Decision.{Decision}
 use Rattle.eap_method.specs.declared.values.Decision.TheVariants as decision
-use Rattle.peer_machine.specs.PeerTable.{PeerNow, is_fail}
-use Rattle.server_machine.specs.ServerTable.{ServerNow}
+use Rattle.eap_method.specs.BothPeers as peer_methods
+use Rattle.eap_method.specs.BothServers as server_methods
+use Rattle.eap_method.specs.Peer.{PeerShown, peer_report, peer_report_of, reported}
+use Rattle.eap_method.specs.Server as server
+use Rattle.eap_method.specs.Server.{ServerShown, server_report, server_report_of}
+use Rattle.peer_machine.specs.PeerTable.{PeerNow, is_fail, peer_reports, selected_report}
+use Rattle.server_machine.specs.ServerTable.{ServerNow, current_report, server_reports}
 use Rattle.eap_world.specs.Judgement.{is_success}
 use Rattle.method_laws.specs.ByMethod.{PeerHasSucceeded, PeerTags, ServerHasSucceeded}
 use Rattle.method_laws.specs.ByMethod.{ServerTags}
+use Rattle.method_laws.specs.Both.{PeerHasBoth, ServerHasBoth}
+use Rattle.method_laws.specs.PeerHistory.{PeerHas, PeerHistory, each_initiated, selected_has}
+use Rattle.method_laws.specs.ServerHistory.{ServerHas, ServerHistory, current_has, identity_round}
+use Rattle.method_laws.specs.ServerHistory.{unproposed}
+use Rattle.method_laws.proofs.PeerObjects as peer_objects
+use Rattle.method_laws.proofs.ServerObjects as server_objects
 use Rattle.method_laws.proofs.PeerImplied as peers
 use Rattle.method_laws.proofs.ServerImplied as servers
 use Rattle.world_laws.specs.PeerInvariant.{PeerInvariant}
@@ -19,6 +31,53 @@ use Rattle.world_laws.specs.ServerInvariant.{ServerInvariant}
 not_failing : (d : Decision) → is_fail d ≡ false → d ≢ decision.Fail
 not_failing decision.Fail e same = true≢false e
 not_failing d e same = absurd cc
+
+-- the object of the selected method, and of the current one, that has succeeded
+pub record PeerDone (setup : PeerSetup) (now : PeerNow) (accepted made : List TagRecord)
+    : Type 0 where
+  pub shown : PeerShown
+  pub one : peer_methods.is_one shown.method ≡ true
+  pub history : PeerHistory setup shown now.vars.decision accepted made
+  pub sure : now.vars.decision ≢ decision.Fail
+  pub reports : peer_reports now ≡ peer_report shown
+
+pub record ServerDone (setup : ServerSetup) (now : ServerNow) (accepted made : List TagRecord)
+    : Type 0 where
+  pub shown : ServerShown
+  pub one : server_methods.is_one shown.method ≡ true
+  pub history : ServerHistory setup shown true accepted made
+  pub reports : server_reports now ≡ server_report shown
+
+peer_by : (setup : PeerSetup) (now : PeerNow) (accepted made : List TagRecord)
+    → PeerHasBoth setup.methods now.views → now.vars.decision ≢ decision.Fail
+    → PeerHas setup now.vars.selected now.views now.vars.decision accepted made
+    → PeerDone setup now accepted made
+unfolding peer_report_of
+peer_by setup now _ _ both sure (each_initiated unselected fails history) = absurd (sure fails)
+peer_by setup now _ _ both sure (selected_has kind s accepted made is_selected in_view history) =
+    record {
+      shown = s;
+      one = peer_objects.is_one_of_two both kind s in_view;
+      history = history;
+      sure = sure;
+      reports = ap (selected_report now.views) is_selected ∙ ap reported in_view;
+    }
+
+server_by : (setup : ServerSetup) (now : ServerNow) (good : Bool) (accepted made : List TagRecord)
+    → ServerHasBoth setup.methods now.views → good ≡ true
+    → ServerHas setup now.vars.current now.views good accepted made
+    → ServerDone setup now accepted made
+unfolding server_report_of
+server_by setup now _ _ _ both well (unproposed none) = absurd (false≢true well)
+server_by setup now _ _ _ both well (identity_round is_current) = absurd (false≢true well)
+server_by setup now _ _ _ both well
+    (current_has kind s good accepted made is_current no_identity in_view history) =
+    record {
+      shown = s;
+      one = server_objects.is_one_of_two both kind s in_view;
+      history = subst (λ (b : Bool). ServerHistory setup s b accepted made) well history;
+      reports = ap (current_report now.views) is_current ∙ ap server.reported in_view;
+    }
 
 module _ {setup : PeerSetup} {now : PeerNow} {accepted made : List TagRecord}
     (stands : PeerInvariant setup now accepted made) where
@@ -33,6 +92,10 @@ module _ {setup : PeerSetup} {now : PeerNow} {accepted made : List TagRecord}
       peers.has_succeeded setup now.vars.selected now.views now.vars.decision accepted made
       stands.both stands.has (not_failing now.vars.decision (stands.sure won))
 
+  pub peer_done : is_success now.vars.state ≡ true → PeerDone setup now accepted made
+  peer_done won = peer_by setup now accepted made stands.both
+      (not_failing now.vars.decision (stands.sure won)) stands.has
+
 module _ {setup : ServerSetup} {now : ServerNow} {accepted made : List TagRecord}
     (stands : ServerInvariant setup now accepted made) where
   pub server_tags : ServerTags setup now.vars.current now.views accepted made
@@ -45,3 +108,7 @@ module _ {setup : ServerSetup} {now : ServerNow} {accepted made : List TagRecord
   server_success won =
       servers.has_succeeded setup now.vars.current now.views stands.good accepted made
       stands.both stands.has (stands.sure won)
+
+  pub server_done : is_success now.vars.state ≡ true → ServerDone setup now accepted made
+  server_done won =
+      server_by setup now stands.good accepted made stands.both (stands.sure won) stands.has

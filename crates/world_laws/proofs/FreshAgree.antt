@@ -22,9 +22,10 @@ use Rattle.world_laws.proofs.OneLogin.{first_is_in, in_one}
 use Rattle.world_laws.proofs.PastConversations.{accepted_now}
 use Rattle.world_laws.proofs.Resting.{AreOne}
 use Rattle.world_laws.proofs.Resting as resting
-use Rattle.world_laws.proofs.SucceedingEnds.{FirstIn, PeerSucceeds, ServerSucceeds, both_agree}
-use Rattle.world_laws.proofs.SucceedingEnds.{both_succeed, first_in, own_theirs, peer_succeeds}
-use Rattle.world_laws.proofs.SucceedingEnds.{server_knows_nonce, server_succeeds}
+use Rattle.method_laws.proofs.Among.{first_in_one}
+use Rattle.method_laws.proofs.Succeeding.{PeerSucceeds, ServerSucceeds, peer_succeeds}
+use Rattle.method_laws.proofs.Succeeding.{server_knows_nonce, server_succeeds}
+use Rattle.world_laws.proofs.SucceedingEnds.{agreed, ends_agree, own_theirs, with_nonces}
 use Rattle.tag_book.specs.Book.{first_broken, tags_verdict}
 use Rattle.eap_world.specs.Conversations.{front}
 use Rattle.eap_world.specs.Judgement.{is_success, verdict_of}
@@ -47,22 +48,21 @@ agree_if one other same a b c = rw (a, b, c) refl
 pub peer_won : (setup : Setup) (w : WorldNow) (h : BothConverse setup w)
     → is_success w.parties.peer.vars.state ≡ true
     → PeerSucceeds (peers.setup_with_nonce setup.peer h.peer_nonce)
-    w.parties.peer h.peer.accepted h.peer.made
+    w.parties.peer.vars.selected w.parties.peer.views h.peer.accepted h.peer.made
 peer_won setup w h p_in =
     let stands = h.peer.now.stands in
-    peer_succeeds (peers.setup_with_nonce setup.peer h.peer_nonce)
-    w.parties.peer h.peer.accepted h.peer.made (peer_tags stands) (peer_success stands p_in)
+    peer_succeeds (peers.setup_with_nonce setup.peer h.peer_nonce) _ _ h.peer.accepted h.peer.made
+    (peer_tags stands) (peer_success stands p_in)
 
 -- a server that stands in SUCCESS has succeeded
 pub server_won : (setup : Setup) (w : WorldNow) (h : BothConverse setup w)
     → is_success w.parties.server.vars.state ≡ true
     → ServerSucceeds (servers.setup_with_nonce setup.server h.server_nonce)
-    w.parties.server h.server.accepted h.server.made
+    w.parties.server.vars.current w.parties.server.views h.server.accepted h.server.made
 server_won setup w h s_in =
     let stands = h.server.now.stands in
-    server_succeeds (servers.setup_with_nonce setup.server h.server_nonce)
-    w.parties.server h.server.accepted h.server.made (server_tags stands)
-    (server_success stands s_in)
+    server_succeeds (servers.setup_with_nonce setup.server h.server_nonce) _ _ h.server.accepted
+    h.server.made (server_tags stands) (server_success stands s_in)
 
 -- both ends agree, where the server's tag that the peer asks is the server's, and those that the
 -- server's present conversation asks, and its past ones under the same key, are the peer's
@@ -81,13 +81,10 @@ unfolding verdict_of
 agree_anew setup w h fresh p_in s_in p_asks p_made present_honest server_honest =
     let p = w.parties.peer in
     let s = w.parties.server in
-    let peer_setup = peers.setup_with_nonce setup.peer h.peer_nonce in
-    let server_setup = servers.setup_with_nonce setup.server h.server_nonce in
+    let own = with_nonces setup p s h.peer_nonce h.server_nonce in
     let p_stands = h.peer.now.stands in
     let s_stands = h.server.now.stands in
-    let p_won = peer_won setup w h p_in in
-    let s_won = server_won setup w h s_in in
-    let holds = server_knows_nonce server_setup s _ _ s_won in
+    let holds = server_knows_nonce own.server _ _ _ _ (server_won setup w h s_in) in
     let s_held : h.server.held ≡ Some holds.foreign = sym h.server.now.held_is ∙ holds.is in
     let s_asks = server_asks setup.server h.server_nonce holds.foreign h.server.size h.server.held
     h.server.accepted h.server.made h.server.told s_held in
@@ -97,16 +94,17 @@ agree_anew setup w h fresh p_in s_in p_asks p_made present_honest server_honest 
     let one =
     in_one setup.peer setup.server _ _ _ _ _ _ _ _ h.peer h.server refl refl refl refl fresh fresh
     p_asks.tag.psk server_honest holds.foreign s_held s_asks s_made p_asks refl p_made in
-    let of_peer : FirstIn h.peer.accepted h.server.made =
-    first_in h.peer.accepted h.server.made p_asks.tag p_asks.rest p_asks.first one.peer_tag in
-    let succeed = both_succeed peer_setup server_setup p s h.peer.size h.server.size _ _ _ _ p_won
-    s_won (λ _. of_peer)
-    (first_in h.server.accepted h.peer.made s_asks.tag s_asks.rest s_asks.first one.server_tag) in
-    let same = both_agree peer_setup server_setup p s h.peer.size h.server.size succeed in
+    let agree = ends_agree own p s h.peer.accepted h.peer.made h.server.accepted h.server.made
+    h.peer.size h.server.size p_stands s_stands
+    (first_in_one h.peer.accepted h.server.made h.peer.made p_asks.tag p_asks.rest p_asks.first
+    one.peer_tag)
+    (first_in_one h.server.accepted h.peer.made h.server.made s_asks.tag s_asks.rest s_asks.first
+    one.server_tag) p_in s_in in
+    let same = agreed own _ _ agree in
     let are = resting.server_on setup.peer setup.server h.peer_nonce h.server_nonce h.peer.size
     h.server.size p.vars.selected p.views s.vars.current s.views
-    _ _ (server_tags s_stands) _ _ (peer_tags p_stands)
-    s_asks.tag s_asks.rest s_asks.first one.server_tag in
+    _ _ (server_tags s_stands) _ _ (peer_tags p_stands) s_asks.tag s_asks.rest s_asks.first
+    one.server_tag in
     let are_own = subst (λ (x : PeerSetup). AreOne p.vars.selected p.views x.nonce s.vars.current
     s.views s.vars.setup.nonce) (sym p_stands.own) (subst (λ (x : ServerSetup). AreOne
     p.vars.selected p.views h.peer_nonce s.vars.current s.views x.nonce) (sym s_stands.own) are) in
@@ -120,7 +118,7 @@ agree_anew setup w h fresh p_in s_in p_asks p_made present_honest server_honest 
             ∙ ap (λ (x : PeerSetup). Some (front x.nonce)) (sym p_stands.own));
         whole = are_own.whole;
       };
-      theirs = own_theirs setup w h.peer_nonce h.server_nonce succeed;
+      theirs = own_theirs setup p s h.peer_nonce h.server_nonce agree;
     }
 
 -- Every run of a whole setup. The peer's first tag was made by the server and the server's by the
@@ -137,7 +135,7 @@ fresh_ends_agree setup events whole honest fresh p_in s_in =
     let w = run_of setup events in
     let h = run_converses setup events whole in
     let none = none_if_honest (first_broken Other [] w.book) honest in
-    let p_asks = peer_asks setup.peer h.peer_nonce w.parties.peer h.peer.accepted h.peer.made
+    let p_asks = peer_asks setup.peer h.peer_nonce _ _ h.peer.accepted h.peer.made
     h.peer.size (peer_won setup w h p_in) in
     agree_anew setup w h fresh p_in s_in p_asks
     (honest_other end.Peer w.book none p_asks.tag

@@ -25,12 +25,13 @@ use Rattle.method_laws.specs.GpskServerInvariant.{gpsk2_of_login}
 use Rattle.method_laws.specs.GpskServerInvariant as gpsk_server_stands
 use Rattle.method_laws.specs.Records.{IsIn}
 use Rattle.method_laws.proofs.Among.{among_one, among_two}
-use Rattle.world_laws.proofs.GpskAgrees as agrees
+use Rattle.method_laws.proofs.GpskAgrees as agrees
 use Rattle.method_laws.proofs.GpskPeerOwners.{not_fail, not_gpsk4}
 use Rattle.method_laws.proofs.GpskServerOwners.{not_bars}
 use Rattle.world_laws.proofs.Results.{ResultsIn, LoginOf, PeersLogin, ServersLogin}
 use Rattle.method_laws.proofs.Credentials.{own_key, own_name}
-use Rattle.world_laws.proofs.SucceedingEnds.{FirstIn}
+use Rattle.method_laws.proofs.Among.{FirstIn}
+use Rattle.world_laws.proofs.Results.{peer_holds, server_holds}
 use Rattle.eap_method.specs.BothPeers.{gpsk_in}
 
 equal_keys : (one other : Report) → one ≡ other → SameKeys one other
@@ -103,7 +104,7 @@ module _ (peer_setup : PeerSetup) (server_setup : ServerSetup) (peer_nonce : len
   unfolding peer.report_of
   peers_login now login list facts is_selected in_view theirs found = record {
     report = peer.report_of login;
-    holds = agrees.peer_reported peer_setup login list facts now is_selected in_view;
+    holds = peer_holds now gpsk_kind _ is_selected (agrees.peer_reported now.views login in_view);
     id_p = own_name peer_setup gpsk_kind login.cred facts.cred;
     login = subst (λ (k : List ℕ). LoginOf server_setup theirs (peer.report_of login) k)
         (own_key peer_setup gpsk_kind login.cred facts.cred) found;
@@ -164,7 +165,8 @@ module _ (peer_setup : PeerSetup) (server_setup : ServerSetup) (peer_nonce : len
   unfolding server.report_of side_of
   servers_login now login checked is_current in_view theirs found = record {
     report = server.report_of login;
-    holds = agrees.server_reported server_setup login checked now is_current in_view;
+    holds = server_holds now gpsk_kind _ is_current
+        (agrees.server_reported now.views login in_view);
     user = checked.user;
     id_s = ap (λ (own : ServerSide). own.id_s) checked.own;
     known = checked.known;

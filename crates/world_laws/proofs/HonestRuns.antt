@@ -20,7 +20,8 @@ use Rattle.method_laws.specs.Records.{AreInEither, tags_by}
 use Rattle.world_laws.proofs.EndInvariants.{BothInvariantFirst, every_run_so_far, invariant_first}
 use Rattle.world_laws.proofs.FreshAgree.{agree_if, fresh_ends_agree}
 use Rattle.world_laws.proofs.HonestOfEither.{honest_of_either, none_if_honest}
-use Rattle.world_laws.proofs.SucceedingEnds.{both_agree, both_theirs, ends_succeed}
+use Rattle.world_laws.proofs.SucceedingEnds.{agreed, both_theirs, ends_agree}
+use Rattle.method_laws.proofs.Among.{first_of_each}
 use Rattle.method_laws.proofs.TagsOfEnds.{honest_tags}
 use Rattle.world_laws.specs.Runs.{run_of}
 
@@ -36,16 +37,15 @@ pub once_agree : (setup : Setup) → IsWhole setup → (w : WorldNow)
     → AgreeOnTheirs setup w
 unfolding verdict_of
 once_agree setup whole w both of_peer of_server p_in s_in =
-    let succeed = ends_succeed setup.peer setup.server w.parties.peer w.parties.server _ _ _ _
-    whole.peer_nonce whole.server_nonce both.peer_invariant both.server_invariant
-    of_peer of_server p_in s_in in
-    let same = both_agree setup.peer setup.server w.parties.peer w.parties.server whole.peer_nonce
-    whole.server_nonce succeed in
+    let are = ends_agree setup w.parties.peer w.parties.server _ _ _ _ whole.peer_nonce
+    whole.server_nonce both.peer_invariant both.server_invariant
+    (first_of_each _ _ _ of_peer) (first_of_each _ _ _ of_server) p_in s_in in
+    let same = agreed setup _ _ are in
     record {
       agree = agree_if (is_success w.parties.peer.vars.state)
           (is_success w.parties.server.vars.state) _ p_in s_in
           (rw (both.peer_invariant.own, both.server_invariant.own) same);
-      theirs = both_theirs setup w succeed;
+      theirs = both_theirs setup w.parties.peer w.parties.server are;
     }
 
 -- ---- the verdict

@@ -31,8 +31,6 @@ pub mod Few
 pub mod FreshAgree
 -- The world tells whether a run is fresh.
 pub mod FreshRuns
--- Two ends that have succeeded by EAP-GPSK agree, and what they report is their own.
-pub mod GpskAgrees
 -- The login of an end that has succeeded by EAP-GPSK is that of the other end's conversation on
 -- whose tags it rests.
 pub mod GpskLogins
@@ -67,8 +65,6 @@ pub mod PeerReceives
 pub mod PeerPreserves
 -- What the peer sends: a Response to what came, new or as it was sent before.
 pub mod PeerSpeaks
--- Two ends that have succeeded by EAP-PSK agree, and what they report is their own.
-pub mod PskAgrees
 -- The login of an end that has succeeded by EAP-PSK is that of the other end's conversation on
 -- whose tags it rests.
 pub mod PskLogins
@@ -93,8 +89,8 @@ pub mod ServerSpeaks
 pub mod SingleSteps
 -- An event that is skipped changes nothing but the number of events.
 pub mod Skips
--- Two ends in SUCCESS agree, and what they report is their own, where each accepted tag is one that
--- either end made: an end in SUCCESS can't have made the tag itself that the login rests on.
+-- Two ends in SUCCESS agree, and what they report is their own, where the first tag that each
+-- accepted is one that either end made.
 pub mod SucceedingEnds
 -- What holds of each answer of a table, and of each delivery as it is heard, holds of all that an
 -- end takes.

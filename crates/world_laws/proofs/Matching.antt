@@ -31,9 +31,11 @@ use Rattle.method_laws.proofs.HonestOther.{honest_other}
 use Rattle.world_laws.proofs.OneLogin.{first_is_in, one_stored}
 use Rattle.world_laws.proofs.OneOf.{accepted_in, first_of, made_in, same_or_two, second_of}
 use Rattle.world_laws.proofs.Resting as resting
-use Rattle.world_laws.proofs.SucceedingEnds.{PeerSucceeds, ServerSucceeds, both_agree, both_succeed}
-use Rattle.world_laws.proofs.SucceedingEnds.{first_in, peer_succeeds, server_succeeds}
-use Rattle.world_laws.proofs.SucceedingEnds as success
+use Rattle.method_laws.proofs.Among.{first_in, first_in_one}
+use Rattle.method_laws.proofs.Succeeding.{peer_succeeds, PeerSucceeds}
+use Rattle.method_laws.proofs.Succeeding.{server_succeeds, ServerSucceeds}
+use Rattle.world_laws.proofs.SucceedingEnds.{agreed, ends_agree, with_nonces}
+use Rattle.method_laws.proofs.Succeeding as success
 use Rattle.method_laws.proofs.TagsOfEnds.{honest_tags}
 use Rattle.eap_world.specs.Judgement.{is_success}
 use Rattle.eap_world.specs.World.{WorldNow}
@@ -88,16 +90,17 @@ module _ (setup : Setup) where
   }
 
   pub peer_won : (p : OfPeer) → PeerKnown setup.peer p → is_success p.now.vars.state ≡ true
-      → PeerSucceeds (peers.setup_with_nonce setup.peer (peer_nonce p)) p.now p.accepted p.made
+      → PeerSucceeds (peers.setup_with_nonce setup.peer (peer_nonce p)) p.now.vars.selected
+      p.now.views p.accepted p.made
   peer_won p known p_in =
-      peer_succeeds (peers.setup_with_nonce setup.peer (peer_nonce p))
-      p.now p.accepted p.made (peer_tags known.stands) (peer_success known.stands p_in)
+      peer_succeeds (peers.setup_with_nonce setup.peer (peer_nonce p)) _ _
+      p.accepted p.made (peer_tags known.stands) (peer_success known.stands p_in)
 
   pub server_won : (s : OfServer) → ServerKnown setup.server s → is_success s.now.vars.state ≡ true
       → ServerSucceeds (servers.setup_with_nonce setup.server (server_nonce s))
-      s.now s.accepted s.made
+      s.now.vars.current s.now.views s.accepted s.made
   server_won s known s_in = server_succeeds (servers.setup_with_nonce setup.server (server_nonce s))
-      s.now s.accepted s.made (server_tags known.stands) (server_success known.stands s_in)
+      _ _ s.accepted s.made (server_tags known.stands) (server_success known.stands s_in)
 
   -- what a server asks that holds a nonce
   pub server_asking : (s : OfServer) → ServerKnown setup.server s → (foreign : List ℕ)
@@ -111,7 +114,7 @@ module _ (setup : Setup) where
       → Asking setup.server s
   server_in s known s_in =
       let held = success.server_knows_nonce (servers.setup_with_nonce setup.server (server_nonce s))
-      s.now s.accepted s.made (server_won s known s_in) in
+      _ _ s.accepted s.made (server_won s known s_in) in
       record {
         foreign = held.foreign;
         holds = held.is;
@@ -121,7 +124,7 @@ module _ (setup : Setup) where
   pub peer_in : (p : OfPeer) → PeerKnown setup.peer p → is_success p.now.vars.state ≡ true
       → AsksServer (peer_nonce p) p.accepted
   peer_in p known p_in =
-      peer_asks setup.peer (peer_nonce p) p.now p.accepted p.made known.size (peer_won p known p_in)
+      peer_asks setup.peer (peer_nonce p) _ _ p.accepted p.made known.size (peer_won p known p_in)
 
   -- a tag tells both nonces of the peer's conversation that made it, and the peer's of the server's
   pub made_by : (p : OfPeer) → PeerKnown setup.peer p → (t : TagRecord) (own foreign : List ℕ)
@@ -163,7 +166,8 @@ module _ (setup : Setup) where
       let are = resting.server_on setup.peer setup.server (peer_nonce p) (server_nonce s)
       p_known.size known.size p.now.vars.selected p.now.views
       s.now.vars.current s.now.views _ _ (server_tags known.stands) _ _ (peer_tags p_known.stands)
-      r.tag r.more r.first r.is_made in
+      r.tag r.more
+      r.first r.is_made in
       record { method = are.method; whole = are.whole }
 
   pub peer_one : (p : OfPeer) → PeerKnown setup.peer p → is_success p.now.vars.state ≡ true
@@ -181,14 +185,13 @@ module _ (setup : Setup) where
       → is_success s.now.vars.state ≡ true → RestsOn p.accepted s.made → RestsOn s.accepted p.made
       → ReportsAgree p s
   reports_agree p known p_in s s_known s_in on back =
-      let peer_setup = peers.setup_with_nonce setup.peer (peer_nonce p) in
-      let server_setup = servers.setup_with_nonce setup.server (server_nonce s) in
-      let succeed = both_succeed peer_setup server_setup p.now s.now known.size s_known.size _ _ _ _
-      (peer_won p known p_in) (server_won s s_known s_in)
-      (λ _. first_in p.accepted s.made on.tag on.more on.first on.is_made)
-      (first_in s.accepted p.made back.tag back.more back.first back.is_made) in
+      let own = with_nonces setup p.now s.now (peer_nonce p) (server_nonce s) in
       rw (known.stands.own, s_known.stands.own)
-      (both_agree peer_setup server_setup p.now s.now known.size s_known.size succeed)
+      (agreed own _ _ (ends_agree own p.now s.now p.accepted p.made s.accepted s.made known.size
+      s_known.size known.stands s_known.stands
+      (first_in_one p.accepted s.made p.made on.tag on.more on.first on.is_made)
+      (first_in_one s.accepted p.made s.made back.tag back.more back.first back.is_made)
+      p_in s_in))
 
 -- ---- all of them
 
@@ -458,8 +461,8 @@ module _ (setup : Setup) (last : WorldNow) (ps : List OfPeer) (ss : List OfServe
       let s_known = all.servers s s_is in
       let led = resting.servers_login (peers.setup_with_nonce setup.peer (peer_nonce p))
       (servers.setup_with_nonce setup.server (server_nonce s)) known.size s_known.size
-      p.now.vars.selected p.now.views p.accepted p.made (peer_tags known.stands)
-      s.now s.accepted s.made
+      p.now.vars.selected p.now.views p.accepted p.made (peer_tags known.stands) s.now
+      s.accepted s.made
       (server_won setup s s_known s_in)
       (first_in s.accepted p.made rests.tag rests.more rests.first rests.is_made) in
       record {

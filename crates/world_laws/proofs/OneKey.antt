@@ -27,12 +27,13 @@ use Rattle.method_laws.specs.PskServerInvariant as psk_server_stands
 use Rattle.method_laws.specs.Records.{IsIn, here}
 use Rattle.world_laws.specs.UnderKey.{IsOfKey}
 use Rattle.method_laws.proofs.Among.{among_one, among_two}
-use Rattle.world_laws.proofs.GpskAgrees as gpsk_agrees
+use Rattle.method_laws.proofs.GpskAgrees as gpsk_agrees
 use Rattle.method_laws.proofs.OneMethod.{some_same}
-use Rattle.world_laws.proofs.PskAgrees as psk_agrees
+use Rattle.method_laws.proofs.PskAgrees as psk_agrees
 use Rattle.method_laws.proofs.Credentials.{own_key}
-use Rattle.world_laws.proofs.SucceedingEnds.{PeerSucceeds, ServerSucceeds, with_psk, with_gpsk}
-use Rattle.world_laws.proofs.SucceedingEnds.{of_psk, of_gpsk}
+use Rattle.method_laws.proofs.Succeeding.{PeerSucceeds, ServerSucceeds, with_psk, with_gpsk}
+use Rattle.method_laws.proofs.Succeeding.{of_psk, of_gpsk}
+use Rattle.world_laws.proofs.Results.{server_holds}
 use Rattle.eap_method.specs.BothPeers.{psk_in}
 use Rattle.eap_method.specs.BothPeers.{gpsk_in}
 
@@ -177,7 +178,7 @@ peer_one setup selected views _ _ (by_method.gpsk_selected accepted made is_sele
 
 -- a peer has accepted tags of its key for the method
 pub keyed_peer : (setup : PeerSetup) (now : PeerNow) (kind : ℕ) (accepted made : List TagRecord)
-    → PeerSucceeds setup now accepted made
+    → PeerSucceeds setup now.vars.selected now.views accepted made
     → now.vars.selected ≡ Some kind → (t : TagRecord) → IsIn t accepted → t.psk ≡ key_for setup kind
 keyed_peer setup now kind _ _ (with_psk login header sealed id is_selected in_view facts)
     selected t is =
@@ -215,26 +216,26 @@ gpsk_known setup now login told report holds user known =
 
 -- a server has accepted tags of its user's key
 report_key : (setup : ServerSetup) (now : ServerNow) (accepted made : List TagRecord)
-    → ServerSucceeds setup now accepted made
+    → ServerSucceeds setup now.vars.current now.views accepted made
     → (report : Report) → server_reports now ≡ Some report → (user : User)
     → user_of setup.users report.id_p report.method ≡ Some user
     → (t : TagRecord) → IsIn t accepted → t.psk ≡ user.psk
 report_key setup now _ _ (of_psk login header sealed id is_current in_view facts r_sent)
     report holds user known t is =
-    let its = psk_known setup now login (psk_agrees.server_reported setup login facts r_sent now
-    is_current in_view) report holds user known in
+    let its = psk_known setup now login (server_holds now psk_kind _ is_current
+    (psk_agrees.server_reported now.views login in_view)) report holds user known in
     one_of_two t _ _ login.psk refl refl is ∙ facts.key
     ∙ ap (λ (u : User). u.psk) (users_same facts.user user (sym facts.known ∙ its))
 report_key setup now _ _ (of_gpsk login pd last_pd is_current in_view facts)
     report holds user known t is =
-    let its = gpsk_known setup now login (gpsk_agrees.server_reported setup login facts now
-    is_current in_view) report holds user known in
+    let its = gpsk_known setup now login (server_holds now gpsk_kind _ is_current
+    (gpsk_agrees.server_reported now.views login in_view)) report holds user known in
     one_of_two t _ _ login.psk refl refl is ∙ facts.key
     ∙ ap (λ (u : User). u.psk) (users_same facts.user user (sym facts.known ∙ its))
 
 module _ (setup : Setup) (key : List ℕ) (now : ServerNow) where
   pub keyed_server : (own : ServerSetup) (accepted made : List TagRecord)
-      → own.users ≡ setup.server.users → ServerSucceeds own now accepted made
+      → own.users ≡ setup.server.users → ServerSucceeds own now.vars.current now.views accepted made
       → IsOfKey setup key now → (t : TagRecord) → IsIn t accepted → t.psk ≡ key
   keyed_server own accepted made users won of_key t is =
       report_key own now accepted made won of_key.report of_key.holds of_key.user
@@ -243,14 +244,16 @@ module _ (setup : Setup) (key : List ℕ) (now : ServerNow) where
       ∙ of_key.is_key
 
   -- whose tags are under a key, its user is of that key
-  pub server_user : (accepted made : List TagRecord) → ServerSucceeds setup.server now accepted made
+  pub server_user : (accepted made : List TagRecord)
+      → ServerSucceeds setup.server now.vars.current now.views accepted made
       → ((t : TagRecord) → IsIn t accepted → t.psk ≡ key)
       → IsOfKey setup key now
   unfolding psk_server.report_of gpsk_server.report_of
   server_user _ _ (of_psk login header sealed id is_current in_view facts r_sent) keyed =
       record {
         report = psk_server.report_of login;
-        holds = psk_agrees.server_reported setup.server login facts r_sent now is_current in_view;
+        holds = server_holds now psk_kind _ is_current
+            (psk_agrees.server_reported now.views login in_view);
         user = facts.user;
         known = facts.known;
         is_key = sym facts.key ∙ keyed _ (here _);
@@ -258,7 +261,8 @@ module _ (setup : Setup) (key : List ℕ) (now : ServerNow) where
   server_user _ _ (of_gpsk login pd last_pd is_current in_view facts) keyed =
       record {
         report = gpsk_server.report_of login;
-        holds = gpsk_agrees.server_reported setup.server login facts now is_current in_view;
+        holds = server_holds now gpsk_kind _ is_current
+            (gpsk_agrees.server_reported now.views login in_view);
         user = facts.user;
         known = facts.known;
         is_key = sym facts.key ∙ keyed _ (here _);
@@ -270,14 +274,14 @@ pub record HasTag (accepted : List TagRecord) : Type 0 where
   pub is_in : IsIn tag accepted
 
 pub server_tag : (setup : ServerSetup) (now : ServerNow) (accepted made : List TagRecord)
-    → ServerSucceeds setup now accepted made → HasTag accepted
+    → ServerSucceeds setup now.vars.current now.views accepted made → HasTag accepted
 server_tag setup now _ _ (of_psk login header sealed id is_current in_view facts r_sent) =
     record { tag = _; is_in = here _ }
 server_tag setup now _ _ (of_gpsk login pd last_pd is_current in_view facts) =
     record { tag = _; is_in = here _ }
 
 pub peer_tag : (setup : PeerSetup) (now : PeerNow) (accepted made : List TagRecord)
-    → PeerSucceeds setup now accepted made → HasTag accepted
+    → PeerSucceeds setup now.vars.selected now.views accepted made → HasTag accepted
 peer_tag setup now _ _ (with_psk login header sealed id is_selected in_view facts) =
     record { tag = _; is_in = here _ }
 peer_tag setup now _ _ (with_gpsk login list pd is_selected in_view facts) =

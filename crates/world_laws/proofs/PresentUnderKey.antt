@@ -44,8 +44,9 @@ use Rattle.world_laws.proofs.PastConversations.{accepted_now}
 use Rattle.world_laws.proofs.PskMatching as psk
 use Rattle.world_laws.proofs.PskReflected.{asks_another, asks_listed, asks_present, not_peers}
 use Rattle.world_laws.proofs.Reflected.{not_servers}
-use Rattle.world_laws.proofs.SucceedingEnds.{PeerSucceeds, ServerSucceeds, one_of, peer_succeeds}
-use Rattle.world_laws.proofs.SucceedingEnds.{server_succeeds}
+use Rattle.method_laws.proofs.Among.{one_of}
+use Rattle.method_laws.proofs.Succeeding.{peer_succeeds, PeerSucceeds, server_succeeds}
+use Rattle.method_laws.proofs.Succeeding.{ServerSucceeds}
 use Rattle.world_laws.proofs.UnderKey as under_key
 use Rattle.world_laws.specs.Runs.{run_of}
 use Rattle.world_laws.proofs.EndTags.{peer_success, peer_tags, server_success, server_tags}
@@ -82,7 +83,7 @@ module _ (setup : Setup) (kind : ℕ) (w : WorldNow) (h : BothConverse setup w)
 
   agree_fresh : tags_verdict (under key w.book) ≡ Honest → AgreeAnew setup w
   agree_fresh honest =
-      let asks = peer_asks setup.peer h.peer_nonce w.parties.peer h.peer.accepted h.peer.made
+      let asks = peer_asks setup.peer h.peer_nonce _ _ h.peer.accepted h.peer.made
       h.peer.size (peer_won setup w h both.peer) in
       agree_from (honest_of_either (under key w.book) honest) asks
       (other_under key w.book end.Peer honest asks.tag (asked_key asks)
@@ -104,18 +105,17 @@ module _ (setup : Setup) (kind : ℕ) (whole : IsWhole setup) (w : WorldNow)
   abbrev shared : List ℕ
   shared = key_for setup.peer kind
 
-  peer_has : PeerSucceeds setup.peer w.parties.peer (tags_by end.Peer Accepted w.book)
-      (tags_by end.Peer Made w.book)
+  peer_has : PeerSucceeds setup.peer w.parties.peer.vars.selected w.parties.peer.views
+      (tags_by end.Peer Accepted w.book) (tags_by end.Peer Made w.book)
   peer_has =
       let stands = first.peer_invariant in
-      peer_succeeds setup.peer w.parties.peer _ _ (peer_tags stands)
+      peer_succeeds setup.peer _ _ _ _ (peer_tags stands)
       (peer_success stands both.peer)
 
-  server_has : ServerSucceeds setup.server w.parties.server (tags_by end.Server Accepted w.book)
-      (tags_by end.Server Made w.book)
+  server_has : ServerSucceeds setup.server w.parties.server.vars.current w.parties.server.views
+      (tags_by end.Server Accepted w.book) (tags_by end.Server Made w.book)
   server_has = let stands = first.server_invariant in
-      server_succeeds setup.server w.parties.server _ _ (server_tags stands)
-      (server_success stands both.server)
+      server_succeeds setup.server _ _ _ _ (server_tags stands) (server_success stands both.server)
 
   its_key : (t : TagRecord) → IsIn t (tags_by end.Peer Accepted w.book) → t.psk ≡ shared
   its_key t is = keyed_peer setup.peer w.parties.peer kind _ _ peer_has both.method t is
@@ -154,7 +154,7 @@ module _ (setup : Setup) (kind : ℕ) (w : WorldNow) (ps : List OfPeer) (ss : Li
       → is_success p.now.vars.state ≡ true → p.now.vars.selected ≡ Some kind → PeerMatches ps ss p
   psk_matches by_psk honest fresh p is p_in selected =
       let known = all.peers p is in
-      let asked = asks_another setup.peer (peer_nonce p) p.now p.accepted p.made known.size
+      let asked = asks_another setup.peer (peer_nonce p) _ _ p.accepted p.made known.size
       (matching.peer_won setup p known p_in) (selected ∙ ap (λ (k : ℕ). Some k) by_psk) in
       let its = under_key.its_first setup w ps ss all kind p is p_in selected in
       let made = one_of (either_under own_key w.book end.Peer honest asked.asks.tag
@@ -182,8 +182,8 @@ module _ (setup : Setup) (kind : ℕ) (w : WorldNow) (ps : List OfPeer) (ss : Li
       → is_success w.parties.server.vars.state ≡ true → IsOfKey setup own_key w.parties.server
       → PeerKnows setup w
   knows_once whole first honest s_in of_key =
-      let won = server_succeeds setup.server w.parties.server _ _
-      (server_tags first.server_invariant) (server_success first.server_invariant s_in) in
+      let won = server_succeeds setup.server _ _ _ _ (server_tags first.server_invariant)
+      (server_success first.server_invariant s_in) in
       let keyed = keyed_server setup own_key w.parties.server setup.server _ _ refl won of_key in
       let its = server_tag setup.server w.parties.server _ _ won in
       let one = peer_one setup.peer w.parties.peer.vars.selected w.parties.peer.views _ _

@@ -30,12 +30,13 @@ use Rattle.world_laws.proofs.OneLogin.{one_stored}
 use Rattle.method_laws.proofs.OneMethod.{apart}
 use Rattle.world_laws.proofs.OneOf.{accepted_in, made_in}
 use Rattle.method_laws.proofs.PeerByMethod.{created_by_psk as peer_made_by_psk}
-use Rattle.world_laws.proofs.PskAgrees.{peer_reported}
+use Rattle.method_laws.proofs.PskAgrees.{peer_reported}
 use Rattle.world_laws.proofs.PskLogins as logins
 use Rattle.method_laws.proofs.PskAnswered.{HasAsked, HasPsk4, has_asked, psk4_taken}
 use Rattle.world_laws.proofs.PskReflected.{AsksAnother, asks_another}
+use Rattle.world_laws.proofs.Results.{peer_holds}
 use Rattle.method_laws.proofs.ServerByMethod.{reported_by_psk}
-use Rattle.world_laws.proofs.SucceedingEnds.{first_in}
+use Rattle.method_laws.proofs.Among.{first_in}
 use Rattle.method_laws.proofs.TagsOfEnds.{honest_tags}
 use Rattle.eap_world.specs.Judgement.{is_success}
 use Rattle.eap_world.specs.World.{WorldNow}
@@ -188,8 +189,7 @@ module _ (setup : Setup) (last : WorldNow) (ps : List OfPeer) (ss : List OfServe
       c.login c.checked c.header c.sealed c.r_came (psk_in p.now.views) p.accepted p.made by.1
       ((first_in s.accepted p.made rests.tag rests.more rests.first rests.is_made).is _ _ c.first)
       made in
-      peer_reported (peers.setup_with_nonce setup.peer (peer_nonce p))
-      won.login won.facts p.now by.0 won.in_view
+      peer_holds p.now psk_kind _ by.0 (peer_reported p.now.views won.login won.in_view)
       ∙ sym (ap (λ (o : Option ℕ). peer_login o p.now.views) by.0 ∙ ap psk_peer_login won.in_view)
 
   pub psk_servers_confirm : tags_verdict last.book ≡ Honest → last.conversations.fresh ≡ true
@@ -229,7 +229,7 @@ module _ (setup : Setup) (last : WorldNow) (ps : List OfPeer) (ss : List OfServe
       → PeerMatches ps ss p
   psk_peers_match honest fresh p is_one p_in selected =
       let known = all.peers p is_one in
-      let asked = asks_another setup.peer (peer_nonce p) p.now p.accepted p.made known.size
+      let asked = asks_another setup.peer (peer_nonce p) _ _ p.accepted p.made known.size
       (matching.peer_won setup p known p_in) selected in
       let none = none_if_honest (first_broken Either [] last.book) honest in
       let made : IsIn asked.asks.tag (all_produced ss) =

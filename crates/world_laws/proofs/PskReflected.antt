@@ -10,7 +10,6 @@ use Rattle.eap_method.specs.Peer.{PeerViews}
 use Rattle.eap_method.specs.PskPeer as psk
 use Rattle.eap_method.specs.PskTags.{ak_record, rand_of, mac_p_octets, mac_s_octets}
 use Rattle.peer_machine.specs.PeerTable as peers
-use Rattle.peer_machine.specs.PeerTable.{PeerNow}
 use Rattle.tag_book.specs.Book.{first_broken, tags_verdict_either}
 use Rattle.eap_world.specs.Conversations.{front}
 use Rattle.eap_world.specs.Judgement.{is_success}
@@ -31,12 +30,13 @@ use Rattle.world_laws.proofs.OneLogin.{first_is_in}
 use Rattle.method_laws.proofs.OneMethod.{apart}
 use Rattle.world_laws.proofs.PastConversations.{accepted_now, where_created}
 use Rattle.method_laws.proofs.PeerByMethod.{created_by_psk}
-use Rattle.world_laws.proofs.PskAgrees as psk_agrees
+use Rattle.method_laws.proofs.PskAgrees as psk_agrees
 use Rattle.method_laws.proofs.PskFields.{front_size}
 use Rattle.method_laws.proofs.PskPeerOwners.{labels_apart}
 use Rattle.method_laws.proofs.PskServerOwners.{mac_s_created}
 use Rattle.world_laws.proofs.Reflected.{of_peer}
-use Rattle.world_laws.proofs.SucceedingEnds.{PeerSucceeds, one_of, with_psk, with_gpsk}
+use Rattle.method_laws.proofs.Among.{one_of}
+use Rattle.method_laws.proofs.Succeeding.{PeerSucceeds, with_gpsk, with_psk}
 use Rattle.method_laws.proofs.TagsOfEnds.{honest_tags}
 use Rattle.eap_world.specs.World.{WorldNow}
 use Rattle.tag_book.specs.declared.book.End.TheVariants as end
@@ -100,12 +100,12 @@ pub record AsksAnother (setup : PeerSetup) (nonce : List ℕ)
       → PeerTagOwner setup other held their_accepted their_made → IsIn asks.tag their_made
       → front other ≡ front nonce
 
-pub asks_another : (setup : PeerSetup) (nonce : List ℕ) (now : PeerNow)
+pub asks_another : (setup : PeerSetup) (nonce : List ℕ) (selected : Option ℕ) (views : PeerViews)
     (accepted made : List TagRecord) → length nonce ≡ 32
-    → PeerSucceeds (peers.setup_with_nonce setup nonce) now accepted made
-    → now.vars.selected ≡ Some psk_kind → AsksAnother setup nonce accepted made
+    → PeerSucceeds (peers.setup_with_nonce setup nonce) selected views accepted made
+    → selected ≡ Some psk_kind → AsksAnother setup nonce accepted made
 unfolding psk.mac_s_covers
-asks_another setup nonce now _ _ size
+asks_another setup nonce selected views _ _ size
     (with_psk login header sealed id is_selected in_psk facts) by_psk =
     let t = ak_record login.cred.psk (psk.mac_s_covers login) (psk.mac_s_of login) in
     let n_front : length (rand_of login.nonce) ≡ 16 =
@@ -125,8 +125,9 @@ asks_another setup nonce now _ _ size
           their_made told.tags is
           ∙ ap front facts.nonce);
     }
-asks_another setup nonce now _ _ size (with_gpsk login list pd is_selected in_gpsk facts) by_psk =
-    apart now.vars.selected gpsk_kind psk_kind refl is_selected by_psk
+asks_another setup nonce selected views _ _ size
+    (with_gpsk login list pd is_selected in_gpsk facts) by_psk =
+    apart selected gpsk_kind psk_kind refl is_selected by_psk
 
 -- ---- whose the tags are
 
@@ -154,7 +155,7 @@ module _ (setup : Setup) (w : WorldNow) (h : BothConverse setup w) where
       → w.parties.peer.vars.selected ≡ Some psk_kind
       → AsksAnother setup.peer h.peer_nonce h.peer.accepted h.peer.made
   asks_present p_in by_psk =
-      asks_another setup.peer h.peer_nonce w.parties.peer h.peer.accepted h.peer.made h.peer.size
+      asks_another setup.peer h.peer_nonce _ _ h.peer.accepted h.peer.made h.peer.size
       (peer_won setup w h p_in) by_psk
 
 -- ---- both ends

@@ -14,7 +14,7 @@ use Rattle.tag_book.specs.declared.book.Use.TheVariants.{Accepted, Made}
 use Rattle.world_laws.proofs.Conversing.{BothConverse}
 use Rattle.world_laws.proofs.HonestOfEither.{none_if_honest}
 use Rattle.world_laws.proofs.PastConversations.{where_created}
-use Rattle.world_laws.proofs.SucceedingEnds.{one_of}
+use Rattle.method_laws.proofs.Among.{one_of}
 use Rattle.method_laws.proofs.TagsOfEnds.{honest_tags}
 
 module _ (setup : Setup) (w : WorldNow) (h : BothConverse setup w) where

@@ -26,17 +26,19 @@ use Rattle.method_laws.specs.PskServerInvariant.{psk_server_login, PskChecked}
 use Rattle.method_laws.specs.PskServerInvariant as psk_server_stands
 use Rattle.method_laws.specs.Records.{IsIn, here, later}
 use Rattle.method_laws.proofs.Among.{first_is, no_tag}
-use Rattle.world_laws.proofs.GpskAgrees as gpsk_agrees
+use Rattle.method_laws.proofs.GpskAgrees as gpsk_agrees
 use Rattle.world_laws.proofs.GpskLogins as gpsk
 use Rattle.method_laws.proofs.GpskNoncesWhole as whole
 use Rattle.world_laws.proofs.Results.{ResultsIn, PeersLogin, ServersLogin, reaches_too, login_too}
+use Rattle.world_laws.proofs.Results.{server_holds}
 use Rattle.method_laws.proofs.OneMethod.{apart as one_method}
 use Rattle.method_laws.proofs.PeerByMethod as peer_by_method
-use Rattle.world_laws.proofs.PskAgrees as psk_agrees
+use Rattle.method_laws.proofs.PskAgrees as psk_agrees
 use Rattle.world_laws.proofs.PskLogins as psk
 use Rattle.method_laws.proofs.ServerByMethod as server_by_method
-use Rattle.world_laws.proofs.SucceedingEnds.{FirstIn, PeerSucceeds, ServerSucceeds, with_psk}
-use Rattle.world_laws.proofs.SucceedingEnds.{with_gpsk, of_psk, of_gpsk, first_in}
+use Rattle.method_laws.proofs.Among.{first_in, FirstIn}
+use Rattle.method_laws.proofs.Succeeding.{of_gpsk, of_psk, PeerSucceeds, ServerSucceeds, with_gpsk}
+use Rattle.method_laws.proofs.Succeeding.{with_psk}
 use Rattle.eap_method.specs.BothPeers.{psk_in}
 use Rattle.eap_method.specs.BothPeers.{gpsk_in}
 
@@ -108,7 +110,7 @@ module _ (peer_setup : PeerSetup) (server_setup : ServerSetup) (nonce server_non
   -- one of the peer in SUCCESS that rests on one of the server: the first tag that it accepted is
   -- one that the server's has made
   pub peer_on : (now : PeerNow) (current : Option ℕ) (server_views : ServerViews)
-      (accepted made : List TagRecord) → PeerSucceeds own now accepted made
+      (accepted made : List TagRecord) → PeerSucceeds own now.vars.selected now.views accepted made
       → (server_accepted initial_server : List TagRecord)
       → ServerTags servers_own current server_views server_accepted initial_server
       → (tag : TagRecord) (more : List TagRecord) → accepted ≡ tag ∷ more → IsIn tag initial_server
@@ -140,7 +142,7 @@ module _ (peer_setup : PeerSetup) (server_setup : ServerSetup) (peer_nonce : len
   -- a peer that has succeeded, and a conversation of the server that made the first tag that it
   -- accepted
   pub peers_login : (now : PeerNow) (accepted made : List TagRecord)
-      → PeerSucceeds peer_setup now accepted made
+      → PeerSucceeds peer_setup now.vars.selected now.views accepted made
       → (current : Option ℕ) (views : ServerViews) (their_accepted their_made : List TagRecord)
       → ServerTags server_setup current views their_accepted their_made
       → FirstIn accepted their_made → FirstIn their_accepted made
@@ -191,7 +193,8 @@ module _ (peer_setup : PeerSetup) (server_setup : ServerSetup) (peer_nonce : len
         (gpsk_in views) their_accepted their_made by.1 is)
 
     pub servers_login : (now : ServerNow) (accepted made : List TagRecord)
-        → ServerSucceeds server_setup now accepted made → FirstIn accepted their_made
+        → ServerSucceeds server_setup now.vars.current now.views accepted made
+        → FirstIn accepted their_made
         → ServersLogin peer_setup server_setup now (peer_login selected views)
     servers_login now _ _ (of_psk login header sealed id is_current in_view checked r_sent) asks =
         psk.servers_login peer_setup server_setup peer_nonce server_nonce now login checked r_sent
@@ -203,7 +206,8 @@ module _ (peer_setup : PeerSetup) (server_setup : ServerSetup) (peer_nonce : len
     -- the peer's leads to just what the server reports: by EAP-PSK where it rests on the server's
     -- in its turn
     pub same_report : (now : ServerNow) (accepted made : List TagRecord)
-        → ServerSucceeds server_setup now accepted made → RestsOn accepted their_made
+        → ServerSucceeds server_setup now.vars.current now.views accepted made
+        → RestsOn accepted their_made
         → (now.vars.current ≡ Some psk_kind → RestsOn their_accepted made)
         → peer_login selected views ≡ server_reports now
     same_report now _ _ (of_psk login header sealed id is_current in_view checked r_sent)
@@ -214,17 +218,19 @@ module _ (peer_setup : PeerSetup) (server_setup : ServerSetup) (peer_nonce : len
         ap (λ (o : Option ℕ). peer_login o views) by.0
         ∙ (psk.rests_reaches peer_setup server_setup peer_nonce server_nonce login checked id
         (psk_in views) their_accepted their_made by.1 is (back is_current)
-        ∙ sym (psk_agrees.server_reported server_setup login checked r_sent now is_current in_view))
+        ∙ sym (server_holds now psk_kind _ is_current
+        (psk_agrees.server_reported now.views login in_view)))
     same_report now _ _ (of_gpsk login pd last_pd is_current in_view checked) rests back =
         gpsk.reaches_whole peer_setup server_setup peer_nonce server_nonce login _
         (gpsk_reaches login pd checked
         ((first_in _ _ rests.tag rests.more rests.first rests.is_made).is _ _ refl))
-        ∙ sym (gpsk_agrees.server_reported server_setup login checked now is_current in_view)
+        ∙ sym (server_holds now gpsk_kind _ is_current
+        (gpsk_agrees.server_reported now.views login in_view))
 
     -- so it is where both tags that the server accepted are the peer's, and each that the peer
     -- accepted is the server's
     pub whole_login : (now : ServerNow) (accepted made : List TagRecord)
-        → ServerSucceeds server_setup now accepted made
+        → ServerSucceeds server_setup now.vars.current now.views accepted made
         → ((t : TagRecord) → IsIn t accepted → IsIn t their_made)
         → ((t : TagRecord) → IsIn t their_accepted → IsIn t made)
         → peer_login selected views ≡ server_reports now

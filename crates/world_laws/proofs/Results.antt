@@ -1,6 +1,6 @@
 -- To what the login of a conversation leads, beside what the other end reports: names, user and
 -- key.
-use Rattle.std.proofs.Common.{◌≡◌, ℕ, List, Option, Some, ◌∙◌}
+use Rattle.std.proofs.Common.{◌≡◌, ℕ, List, Option, Some, ap, ◌∙◌}
 use Rattle.login_setup.specs.declared.setup.PeerSetup.{PeerSetup}
 use Rattle.login_setup.specs.Setup.{ServerSetup}
 use Rattle.login_setup.specs.Users.{user_of}
@@ -10,6 +10,21 @@ use Rattle.eap_method.specs.Peer.{key_for}
 use Rattle.peer_machine.specs.PeerTable.{PeerNow, peer_reports}
 use Rattle.server_machine.specs.ServerTable.{ServerNow, server_reports}
 use Rattle.world_laws.specs.Alone.{SameKeys}
+use Rattle.eap_method.specs.Peer.{peer_report_of}
+use Rattle.eap_method.specs.Server.{server_report_of}
+use Rattle.peer_machine.specs.PeerTable.{selected_report}
+use Rattle.server_machine.specs.ServerTable.{current_report}
+
+-- an end reports what the object of its method does
+pub peer_holds : (now : PeerNow) (kind : ℕ) (report : Option Report)
+    → now.vars.selected ≡ Some kind → peer_report_of kind now.views ≡ report
+    → peer_reports now ≡ report
+peer_holds now kind report is_selected is = ap (selected_report now.views) is_selected ∙ is
+
+pub server_holds : (now : ServerNow) (kind : ℕ) (report : Option Report)
+    → now.vars.current ≡ Some kind → server_report_of kind now.views ≡ report
+    → server_reports now ≡ report
+server_holds now kind report is_current is = ap (current_report now.views) is_current ∙ is
 
 -- the login of a view leads to the report, whose names and user are the server's, with this key
 pub record LoginOf (setup : ServerSetup) (login : Option Report) (report : Report)

@@ -34,13 +34,14 @@ use Rattle.world_laws.specs.SessionIds.{psk_server_session, psk_session_id, serv
 use Rattle.world_laws.specs.SessionIds.{server_session_of, session_id}
 use Rattle.world_laws.proofs.Conversations.{run_known}
 use Rattle.method_laws.proofs.Fields.{fronts}
-use Rattle.world_laws.proofs.GpskAgrees as gpsk
+use Rattle.method_laws.proofs.GpskAgrees as gpsk
 use Rattle.world_laws.proofs.Matching.{AllKnown}
 use Rattle.world_laws.proofs.Matching as matching
 use Rattle.world_laws.proofs.OneOf.{first_of, second_of}
-use Rattle.world_laws.proofs.PskAgrees as psk
+use Rattle.method_laws.proofs.PskAgrees as psk
 use Rattle.method_laws.proofs.PskFields.{front_size}
-use Rattle.world_laws.proofs.SucceedingEnds.{BothSucceed, both_succeed, by_gpsk, by_psk, first_in}
+use Rattle.method_laws.proofs.Among.{first_in_one}
+use Rattle.method_laws.proofs.Succeeding.{both_succeed, BothSucceed, by_gpsk, by_psk}
 use Rattle.world_laws.specs.Runs.{run_of}
 use Rattle.eap_method.specs.BothPeers.{psk_in}
 use Rattle.eap_method.specs.BothPeers.{gpsk_in}
@@ -69,7 +70,8 @@ one_session p s session at_peer at_server = record {
 }
 
 of_both : (p : OfPeer) (s : OfServer) (peer_setup : PeerSetup) (server_setup : ServerSetup)
-    → BothSucceed peer_setup server_setup p.now s.now → HaveOneSession p s
+    → BothSucceed peer_setup server_setup p.now.vars.selected p.now.views s.now.vars.current
+    s.now.views → HaveOneSession p s
 of_both p s peer_setup server_setup
     (by_psk login facts other checked is_selected in_view is_current in_other r_sent same) =
     one_session p s _ (ap (peer_session_of p.now) is_selected ∙ ap psk_peer_session in_view)
@@ -199,10 +201,10 @@ module _ (setup : Setup) (last : WorldNow) (ps : List OfPeer) (ss : List OfServe
       let peer_setup = peers.setup_with_nonce setup.peer (peer_nonce p) in
       let server_setup = servers.setup_with_nonce setup.server (server_nonce s) in
       of_both p s peer_setup server_setup
-      (both_succeed peer_setup server_setup p.now s.now known.size s_known.size _ _ _ _
+      (both_succeed peer_setup server_setup _ _ _ _ known.size s_known.size _ _ _ _
       (matching.peer_won setup p known p_in) (matching.server_won setup s s_known s_in)
-      (λ _. first_in p.accepted s.made on.tag on.more on.first on.is_made)
-      (first_in s.accepted p.made back.tag back.more back.first back.is_made))
+      (first_in_one p.accepted s.made p.made on.tag on.more on.first on.is_made)
+      (first_in_one s.accepted p.made s.made back.tag back.more back.first back.is_made))
 
   apart : last.conversations.fresh ≡ true → (p q : OfPeer) → AreTwoOf p q ps → (x y : SessionOf)
       → peer_session p.now ≡ Some x → peer_session q.now ≡ Some y

@@ -51,7 +51,7 @@ use Rattle.world_laws.proofs.Acting.{counted_acted, next_is, restart_is, some_ca
 use Rattle.world_laws.proofs.AsksByMethod.{peer_accepted, server_accepted}
 use Rattle.world_laws.proofs.EndInvariants.{InvariantSoFar, start_invariant, step_invariant}
 use Rattle.method_laws.proofs.OneMethod.{some_same}
-use Rattle.world_laws.proofs.SucceedingEnds.{peer_succeeds, server_succeeds}
+use Rattle.method_laws.proofs.Succeeding.{peer_succeeds, server_succeeds}
 use Rattle.world_laws.proofs.LastSent.{IsFitting, HaveSent, call_has_sent, is_first_line}
 use Rattle.world_laws.proofs.LastSent.{starts_pass}
 use Rattle.world_laws.proofs.PassSpeaks as passing
@@ -699,13 +699,12 @@ one_at_least : (setup : Setup) (w : WorldNow) → BothInvariants setup w → (of
     → 1 ≤ length (present_tags of Accepted w)
 one_at_least setup w both end.Peer sure =
     let own = peers.setup_with_nonce setup.peer w.parties.peer.vars.setup.nonce in
-    peer_accepted own w.parties.peer _ _
-    (peer_succeeds own w.parties.peer _ _ (peer_tags both.peer_invariant)
+    peer_accepted own _ _ _ _ (peer_succeeds own _ _ _ _ (peer_tags both.peer_invariant)
     (peer_success both.peer_invariant sure))
 one_at_least setup w both end.Server sure =
     let own = servers.setup_with_nonce setup.server w.parties.server.vars.setup.nonce in
-    server_accepted own w.parties.server _ _ (server_succeeds own w.parties.server _ _
-    (server_tags both.server_invariant) (server_success both.server_invariant sure))
+    server_accepted own _ _ _ _ (server_succeeds own _ _ _ _ (server_tags both.server_invariant)
+    (server_success both.server_invariant sure))
 
 pub steps_are_lawful : StepsAreLawful
 steps_are_lawful setup events e =

@@ -28,7 +28,7 @@ use Rattle.tag_book.specs.declared.book.End.TheVariants as end
 use Rattle.tag_book.specs.declared.book.TagsVerdict.TheVariants.{Honest}
 use Rattle.tag_book.specs.declared.book.Use.TheVariants.{Accepted, Made}
 use Rattle.method_laws.proofs.Among.{among_one}
-use Rattle.world_laws.proofs.SucceedingEnds.{first_in}
+use Rattle.method_laws.proofs.Among.{first_in}
 use Rattle.world_laws.specs.Runs.{initial_world}
 
 -- alice and srv, each with three nonces

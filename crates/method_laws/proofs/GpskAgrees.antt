@@ -1,13 +1,13 @@
 -- Two ends that have succeeded by EAP-GPSK agree, and what they report is their own.
 use Rattle.std.proofs.Common.{◌≡◌, ℕ, true, false, List, [], ◌∷◌, ◌++◌, length, Some, refl, sym, ap}
-use Rattle.std.proofs.Common.{subst, ◌∙◌, length-append, arith, inl, inr, Option, None}
+use Rattle.std.proofs.Common.{◌∙◌, length-append, arith, inl, inr, Option, None}
 use Rattle.std.proofs.lemmas.Option.{same_Some}
-use Rattle.std.proofs.lemmas.Bool.{and_from, not_from_false}
 use Rattle.login_setup.specs.declared.setup.PeerSetup.{PeerSetup}
 use Rattle.login_setup.specs.Setup.{ServerSetup}
 use Rattle.login_setup.specs.declared.setup.Setup.{Setup}
-use Rattle.octet_lists.specs.Among.{gpsk_kind}
-use Rattle.octet_lists.specs.Suite.{suite_octets}
+use Rattle.octet_lists.specs.Among.{gpsk_kind, is_among}
+use Rattle.octet_lists.specs.Suite.{suite_number, suite_octets}
+use Rattle.octet_lists.specs.declared.suite.Suite.{Suite}
 use Rattle.gpsk_messages.specs.Message.{field_with_length, covered_of}
 use Rattle.login_setup.specs.Users.{user_of}
 use Rattle.login_policy.proofs.Choices.{picked_is_allowed}
@@ -21,23 +21,18 @@ use Rattle.eap_method.specs.GpskServer as server
 use Rattle.eap_method.specs.GpskTags.{sk_record, suite_list}
 use Rattle.eap_method.specs.Peer.{peer_report_of}
 use Rattle.eap_method.specs.Server as servers
-use Rattle.eap_method.specs.Server.{server_report_of, side_of}
-use Rattle.peer_machine.specs.PeerTable.{PeerNow, selected_report, peer_reports}
-use Rattle.server_machine.specs.ServerTable.{ServerNow, current_report, server_reports}
-use Rattle.eap_world.specs.Judgement.{agreement_of, peer_agrees, server_agrees, is_welcome}
-use Rattle.eap_world.specs.World.{WorldNow}
-use Rattle.world_laws.specs.Agreement.{AreTheirs}
+use Rattle.eap_method.specs.Server.{ServerViews, server_report_of, side_of}
+use Rattle.method_laws.specs.Agreeing.{Agrees}
 use Rattle.method_laws.specs.GpskLogins.{PicksFirstSuite}
 use Rattle.method_laws.specs.GpskPeerInvariant.{GpskStarted, gpsk2_record}
 use Rattle.method_laws.specs.GpskServerInvariant.{GpskChecked, gpsk2_of_login}
 use Rattle.method_laws.specs.Records.{IsIn}
 use Rattle.method_laws.proofs.Among.{among_one, among_two}
-use Rattle.world_laws.proofs.EqualReports.{reports_agree}
 use Rattle.method_laws.proofs.Fields.{fronts, sized_fronts, suite_fronts}
 use Rattle.method_laws.proofs.Credentials.{own_key, own_name}
 use Rattle.eap_method.specs.BothPeers.{gpsk_in, gpsk_of, gpsk_shown}
 use Rattle.eap_method.specs.Peer.{Method, by_psk, by_gpsk, by_other, View, report, PeerShown}
-use Rattle.eap_method.specs.Peer.{peer_report, reported}
+use Rattle.eap_method.specs.Peer.{PeerViews, peer_report, reported}
 
 -- both ends speak of the same login
 pub record IsSame (p : peer.Login) (list : List ℕ) (s : server.Login) : Type 0 where
@@ -140,18 +135,10 @@ unfolding peer_report
 gpsk_reported None login in_view = absurd cc
 gpsk_reported (Some s) login in_view = gpsk_method_reported s.method s.view login in_view
 
-module _ (setup : PeerSetup) (login : peer.Login) (list : List ℕ)
-    (facts : GpskStarted setup login list) where
-  by_peer : peer_agrees setup (peer.report_of login) ≡ true
-  unfolding peer.report_of
-  by_peer = and_from _ _ facts.allowed
-      (and_from _ _ facts.accepted (picked_is_allowed setup.suites list login.suite facts.picked))
-
-  pub peer_reported : (now : PeerNow) → now.vars.selected ≡ Some gpsk_kind
-      → gpsk_in now.views ≡ peer.over login true → peer_reports now ≡ Some (peer.report_of login)
-  unfolding peer_report_of
-  peer_reported now is_selected in_view =
-      ap (selected_report now.views) is_selected ∙ gpsk_reported (now.views gpsk_kind) login in_view
+pub peer_reported : (views : PeerViews) (login : peer.Login) → gpsk_in views ≡ peer.over login true
+    → peer_report_of gpsk_kind views ≡ Some (peer.report_of login)
+unfolding peer_report_of
+peer_reported views login in_view = gpsk_reported (views gpsk_kind) login in_view
 
 server_method_reported : (m : servers.Method) (view : servers.View m) (login : server.Login)
     → at_server.gpsk_of m view ≡ Some (server.over login true)
@@ -167,17 +154,11 @@ unfolding servers.server_report
 server_gpsk_reported None login in_view = absurd cc
 server_gpsk_reported (Some s) login in_view = server_method_reported s.method s.view login in_view
 
-module _ (setup : ServerSetup) (login : server.Login) (facts : GpskChecked setup login false) where
-  by_server : server_agrees setup (server.report_of login) ≡ true
-  unfolding server.report_of
-  by_server = and_from _ _ facts.ordered
-      (and_from _ _ facts.offered (ap is_welcome facts.known ∙ not_from_false _ facts.standing))
-
-  pub server_reported : (now : ServerNow) → now.vars.current ≡ Some gpsk_kind → gpsk_at now.views
-      ≡ Some (server.over login true) → server_reports now ≡ Some (server.report_of login)
-  unfolding server_report_of
-  server_reported now is_current in_view = ap (current_report now.views) is_current
-      ∙ server_gpsk_reported (now.views gpsk_kind) login in_view
+pub server_reported : (views : ServerViews) (login : server.Login)
+    → gpsk_at views ≡ Some (server.over login true)
+    → server_report_of gpsk_kind views ≡ Some (server.report_of login)
+unfolding server_report_of
+server_reported views login in_view = server_gpsk_reported (views gpsk_kind) login in_view
 
 module _ (peer_setup : PeerSetup) (server_setup : ServerSetup) (p : peer.Login) (list : List ℕ)
     (begun : GpskStarted peer_setup p list) (s : server.Login) (pd : List ℕ)
@@ -195,25 +176,8 @@ module _ (peer_setup : PeerSetup) (server_setup : ServerSetup) (p : peer.Login) 
         | inr second ↦ absurd (not_gpsk4 p s pd (ap (λ (tag : TagRecord). tag.octets) second))
       ]
 
-  pub gpsk_agree : (now : PeerNow) (other : ServerNow) → now.vars.selected ≡ Some gpsk_kind
-      → gpsk_in now.views ≡ peer.over p true
-      → other.vars.current ≡ Some gpsk_kind → gpsk_at other.views ≡ Some (server.over s true)
-      → IsSame p list s
-      → agreement_of peer_setup server_setup (peer_reports now) (server_reports other) ≡ true
-  gpsk_agree now other is_selected in_view is_current in_other same =
-      let reports : peer.report_of p ≡ server.report_of s = same_reports p list s same in
-      let agreed =
-      reports_agree peer_setup server_setup (peer.report_of p) (server.report_of s) reports
-      (by_peer peer_setup p list begun)
-      (subst (λ (report : Report). server_agrees server_setup report ≡ true) (sym reports)
-      (by_server server_setup s checked)) in
-      rw (
-        peer_reported peer_setup p list begun now is_selected in_view,
-        server_reported server_setup s checked other is_current in_other,
-      ) agreed
-
--- what both report is their own: names, key and suite
-module _ (setup : Setup) (w : WorldNow) (login : peer.Login) (list : List ℕ)
+-- what both report is one and the same, and their own: names, key and suite
+module _ (setup : Setup) (login : peer.Login) (list : List ℕ)
     (facts : GpskStarted setup.peer login list) (other : server.Login) (pd : List ℕ)
     (checked : GpskChecked setup.server other false) (same : IsSame login list other) where
   server_name : login.id_s ≡ setup.server.name
@@ -233,19 +197,16 @@ module _ (setup : Setup) (w : WorldNow) (login : peer.Login) (list : List ℕ)
     is_suite = refl;
   }
 
-  pub gpsk_theirs : w.parties.peer.vars.selected ≡ Some gpsk_kind
-      → gpsk_in w.parties.peer.views ≡ peer.over login true
-      → w.parties.server.vars.current ≡ Some gpsk_kind → gpsk_at w.parties.server.views
-      ≡ Some (server.over other true) → AreTheirs setup w.parties.peer w.parties.server
+  pub gpsk_agree : (one theirs : Option Report) → one ≡ Some (peer.report_of login)
+      → theirs ≡ Some (server.report_of other) → Agrees setup one theirs
   unfolding peer.report_of
-  gpsk_theirs is_selected in_view is_current in_other =
+  gpsk_agree one theirs is are =
       let name : login.cred.id_p ≡ setup.peer.name =
       own_name setup.peer gpsk_kind login.cred facts.cred in
       record {
         report = peer.report_of login;
-        holds = peer_reported setup.peer login list facts w.parties.peer is_selected in_view;
-        same = server_reported setup.server other checked w.parties.server is_current in_other
-            ∙ ap Some (sym (same_reports login list other same));
+        holds = is;
+        same = are ∙ ap Some (sym (same_reports login list other same));
         id_p = name;
         id_s = server_name;
         user = checked.user;
@@ -253,5 +214,11 @@ module _ (setup : Setup) (w : WorldNow) (login : peer.Login) (list : List ℕ)
             ∙ checked.known;
         key = sym checked.key ∙ (sym same.psk ∙ own_key setup.peer gpsk_kind login.cred facts.cred);
         welcome = checked.standing;
+        allowed = facts.allowed;
+        ordered = checked.ordered;
+        accepted = facts.accepted;
+        allowed_suite = λ e. picked_is_allowed setup.peer.suites list login.suite facts.picked;
+        ordered_suite = λ e. ap (λ (s : Suite). is_among setup.server.suites (suite_number s))
+            same.suite ∙ checked.offered;
         first_suite = λ e. gpsk_suite;
       }

@@ -1,8 +1,7 @@
 -- Two ends that have succeeded by EAP-PSK agree, and what they report is their own.
 use Rattle.std.proofs.Common.{◌≡◌, ℕ, true, false, Bool, List, ◌∷◌, ◌++◌, length, Some, refl, sym}
-use Rattle.std.proofs.Common.{ap, subst, ◌∙◌, length-append, arith, inl, inr, Option, None}
+use Rattle.std.proofs.Common.{ap, ◌∙◌, length-append, arith, inl, inr, Option, None}
 use Rattle.std.proofs.lemmas.Option.{same_Some}
-use Rattle.std.proofs.lemmas.Bool.{and_from, not_from_false}
 use Rattle.login_setup.specs.declared.setup.PeerSetup.{PeerSetup}
 use Rattle.login_setup.specs.Setup.{ServerSetup}
 use Rattle.login_setup.specs.declared.setup.Setup.{Setup}
@@ -18,25 +17,20 @@ use Rattle.eap_method.specs.PskServer as server
 use Rattle.eap_method.specs.PskTags.{ak_record, rand_of, mac_p_octets, mac_s_octets}
 use Rattle.eap_method.specs.Peer.{peer_report_of}
 use Rattle.eap_method.specs.Server as servers
-use Rattle.eap_method.specs.Server.{server_report_of, side_of}
-use Rattle.peer_machine.specs.PeerTable.{PeerNow, selected_report, peer_reports}
-use Rattle.server_machine.specs.ServerTable.{ServerNow, current_report, server_reports}
-use Rattle.eap_world.specs.Judgement.{agreement_of, peer_agrees, server_agrees, is_welcome}
-use Rattle.eap_world.specs.World.{WorldNow}
-use Rattle.world_laws.specs.Agreement.{AreTheirs}
+use Rattle.eap_method.specs.Server.{ServerViews, server_report_of, side_of}
+use Rattle.method_laws.specs.Agreeing.{Agrees}
 use Rattle.method_laws.specs.PskPeerInvariant.{PskStarted}
 use Rattle.method_laws.specs.PskPeerInvariant as psk_peer_stands
 use Rattle.method_laws.specs.PskServerInvariant.{PskChecked}
 use Rattle.method_laws.specs.PskServerInvariant as psk_server_stands
 use Rattle.method_laws.specs.Records.{IsIn}
 use Rattle.method_laws.proofs.Among.{among_two}
-use Rattle.world_laws.proofs.EqualReports.{reports_agree}
 use Rattle.method_laws.proofs.Fields.{ends}
 use Rattle.method_laws.proofs.Credentials.{own_key, own_name}
 use Rattle.method_laws.proofs.PskFields.{front_size}
 use Rattle.eap_method.specs.BothPeers.{psk_in, psk_of, psk_shown}
 use Rattle.eap_method.specs.Peer.{Method, by_psk, by_gpsk, by_other, View, report, PeerShown}
-use Rattle.eap_method.specs.Peer.{peer_report, reported}
+use Rattle.eap_method.specs.Peer.{PeerViews, peer_report, reported}
 
 -- both ends speak of the same login
 pub record IsSame (p : peer.Login) (s : server.Login) : Type 0 where
@@ -128,16 +122,10 @@ unfolding peer_report
 psk_reported None login in_view = absurd cc
 psk_reported (Some s) login in_view = psk_method_reported s.method s.view login in_view
 
-module _ (setup : PeerSetup) (login : peer.Login) (facts : PskStarted setup login) where
-  by_peer : peer_agrees setup (peer.report_of login) ≡ true
-  unfolding peer.report_of
-  by_peer = and_from _ _ facts.allowed (and_from _ _ facts.accepted refl)
-
-  pub peer_reported : (now : PeerNow) → now.vars.selected ≡ Some psk_kind
-      → psk_in now.views ≡ peer.over login true → peer_reports now ≡ Some (peer.report_of login)
-  unfolding peer_report_of
-  peer_reported now is_selected in_view =
-      ap (selected_report now.views) is_selected ∙ psk_reported (now.views psk_kind) login in_view
+pub peer_reported : (views : PeerViews) (login : peer.Login) → psk_in views ≡ peer.over login true
+    → peer_report_of psk_kind views ≡ Some (peer.report_of login)
+unfolding peer_report_of
+peer_reported views login in_view = psk_reported (views psk_kind) login in_view
 
 server_method_reported : (m : servers.Method) (view : servers.View m) (login : server.Login)
     → at_server.psk_of m view ≡ Some (server.over login true)
@@ -153,21 +141,11 @@ unfolding servers.server_report
 server_psk_reported None login in_view = absurd cc
 server_psk_reported (Some s) login in_view = server_method_reported s.method s.view login in_view
 
-module _ (setup : ServerSetup) (login : server.Login) (facts : PskChecked setup login)
-    (r_sent : login.r ≡ 2) where
-  by_server : server_agrees setup (server.report_of login) ≡ true
-  unfolding server.report_of
-  by_server =
-      let barred : facts.user.barred ≡ false =
-      not_barred facts.user.barred login.r facts.r r_sent in
-      and_from _ _ facts.ordered
-      (and_from _ _ refl (ap is_welcome facts.known ∙ not_from_false _ barred))
-
-  pub server_reported : (now : ServerNow) → now.vars.current ≡ Some psk_kind → psk_at now.views
-      ≡ Some (server.over login true) → server_reports now ≡ Some (server.report_of login)
-  unfolding server_report_of
-  server_reported now is_current in_view = ap (current_report now.views) is_current
-      ∙ server_psk_reported (now.views psk_kind) login in_view
+pub server_reported : (views : ServerViews) (login : server.Login)
+    → psk_at views ≡ Some (server.over login true)
+    → server_report_of psk_kind views ≡ Some (server.report_of login)
+unfolding server_report_of
+server_reported views login in_view = server_psk_reported (views psk_kind) login in_view
 
 module _ (peer_setup : PeerSetup) (server_setup : ServerSetup) (p : peer.Login)
     (begun : PskStarted peer_setup p) (s : server.Login) (checked : PskChecked server_setup s)
@@ -193,45 +171,24 @@ module _ (peer_setup : PeerSetup) (server_setup : ServerSetup) (p : peer.Login)
         | inr one ↦ absurd (other_label (ap (λ (tag : TagRecord). tag.label) one))
       ]
 
-  pub psk_agree : (now : PeerNow) (other : ServerNow) → now.vars.selected ≡ Some psk_kind
-      → psk_in now.views ≡ peer.over p true
-      → other.vars.current ≡ Some psk_kind → psk_at other.views ≡ Some (server.over s true)
-      → s.r ≡ 2 → IsSame p s
-      → agreement_of peer_setup server_setup (peer_reports now) (server_reports other) ≡ true
-  psk_agree now other is_selected in_view is_current in_other r_sent same =
-      let reports : peer.report_of p ≡ server.report_of s = same_reports p s same in
-      let agreed =
-      reports_agree peer_setup server_setup (peer.report_of p) (server.report_of s) reports
-      (by_peer peer_setup p begun)
-      (subst (λ (report : Report). server_agrees server_setup report ≡ true) (sym reports)
-      (by_server server_setup s checked r_sent)) in
-      rw (
-        peer_reported peer_setup p begun now is_selected in_view,
-        server_reported server_setup s checked r_sent other is_current in_other,
-      ) agreed
-
--- what both report is their own: names, key and suite
-module _ (setup : Setup) (w : WorldNow) (login : peer.Login) (facts : PskStarted setup.peer login)
-    (other : server.Login) (checked : PskChecked setup.server other)
+-- what both report is one and the same, and their own: names and key
+module _ (setup : Setup) (login : peer.Login) (facts : PskStarted setup.peer login)
+    (other : server.Login) (checked : PskChecked setup.server other) (r_sent : other.r ≡ 2)
     (same : IsSame login other) where
   server_name : login.id_s ≡ setup.server.name
   unfolding side_of
   server_name = same.id_s ∙ ap (λ own. own.id_s) checked.own
 
-  pub psk_theirs : w.parties.peer.vars.selected ≡ Some psk_kind
-      → psk_in w.parties.peer.views ≡ peer.over login true
-      → w.parties.server.vars.current ≡ Some psk_kind
-      → psk_at w.parties.server.views ≡ Some (server.over other true) → other.r ≡ 2
-      → AreTheirs setup w.parties.peer w.parties.server
+  pub psk_agree : (one theirs : Option Report) → one ≡ Some (peer.report_of login)
+      → theirs ≡ Some (server.report_of other) → Agrees setup one theirs
   unfolding peer.report_of
-  psk_theirs is_selected in_view is_current in_other r_sent =
+  psk_agree one theirs is are =
       let name : login.cred.id_p ≡ setup.peer.name =
       own_name setup.peer psk_kind login.cred facts.cred in
       record {
         report = peer.report_of login;
-        holds = peer_reported setup.peer login facts w.parties.peer is_selected in_view;
-        same = server_reported setup.server other checked r_sent w.parties.server is_current
-            in_other ∙ ap Some (sym (same_reports login other same));
+        holds = is;
+        same = are ∙ ap Some (sym (same_reports login other same));
         id_p = name;
         id_s = server_name;
         user = checked.user;
@@ -239,5 +196,10 @@ module _ (setup : Setup) (w : WorldNow) (login : peer.Login) (facts : PskStarted
             ∙ checked.known;
         key = sym checked.key ∙ (sym same.psk ∙ own_key setup.peer psk_kind login.cred facts.cred);
         welcome = not_barred checked.user.barred other.r checked.r r_sent;
+        allowed = facts.allowed;
+        ordered = checked.ordered;
+        accepted = facts.accepted;
+        allowed_suite = λ (e : psk_kind ≡ gpsk_kind). absurd (omega (arith, e));
+        ordered_suite = λ (e : psk_kind ≡ gpsk_kind). absurd (omega (arith, e));
         first_suite = λ (e : psk_kind ≡ gpsk_kind). absurd (omega (arith, e));
       }
