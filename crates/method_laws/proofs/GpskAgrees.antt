@@ -205,7 +205,7 @@ module _ (setup : Setup) (login : peer.Login) (list : List ℕ)
       own_name setup.peer gpsk_kind login.cred facts.cred in
       record {
         report = peer.report_of login;
-        holds = is;
+        reported = is;
         same = are ∙ ap Some (sym (same_reports login list other same));
         id_p = name;
         id_s = server_name;

@@ -115,3 +115,6 @@ pub mod PskAgrees
 pub mod Succeeding
 -- A report whose suite is among these, if its method has one, passes the test of it.
 pub mod AllowedSuites
+-- The tags of one conversation are under one key: those of a peer that has succeeded under its own
+-- for the method, those of a server that has succeeded under its user's.
+pub mod OneKey

@@ -187,7 +187,7 @@ module _ (setup : Setup) (login : peer.Login) (facts : PskStarted setup.peer log
       own_name setup.peer psk_kind login.cred facts.cred in
       record {
         report = peer.report_of login;
-        holds = is;
+        reported = is;
         same = are ∙ ap Some (sym (same_reports login other same));
         id_p = name;
         id_s = server_name;

@@ -26,7 +26,7 @@ use Rattle.method_laws.specs.ServerHistory.{ServerHistory}
 -- name and the suite; and the suite is the one picked of the server's own list
 pub record Agrees (setup : Setup) (one other : Option Report) : Type 0 where
   pub report : Report
-  pub holds : one ≡ Some report
+  pub reported : one ≡ Some report
   pub same : other ≡ Some report
   pub id_p : report.id_p ≡ setup.peer.name
   pub id_s : report.id_s ≡ setup.server.name

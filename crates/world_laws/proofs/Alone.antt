@@ -86,7 +86,7 @@ module _ (setup : Setup) (last : WorldNow) (ps : List OfPeer) (ss : List OfServe
         is_one = on_is;
         rand_p = hold.rand_p;
         rand_s = hold.rand_s;
-        whole = λ by_gpsk. hold.one.whole (hold.one.method ∙ by_gpsk);
+        whole = λ selected. hold.one.whole (hold.one.method ∙ selected);
         tag = asks.tag;
         made = matching.is_first s.accepted on.made asks.tag asks.rest asks.first rests;
         accepted = subst (λ (l : List TagRecord). IsIn asks.tag l) (sym all.are.server_accepted)

@@ -30,8 +30,9 @@ use Rattle.method_laws.proofs.GpskPeerOwners.{not_fail, not_gpsk4}
 use Rattle.method_laws.proofs.GpskServerOwners.{not_bars}
 use Rattle.world_laws.proofs.Results.{ResultsIn, LoginOf, PeersLogin, ServersLogin}
 use Rattle.method_laws.proofs.Credentials.{own_key, own_name}
+use Rattle.world_laws.proofs.Results.{peer_report_is}
+use Rattle.world_laws.proofs.Results.{server_report_is}
 use Rattle.method_laws.proofs.Among.{FirstIn}
-use Rattle.world_laws.proofs.Results.{peer_holds, server_holds}
 use Rattle.eap_method.specs.BothPeers.{gpsk_in}
 
 equal_keys : (one other : Report) → one ≡ other → SameKeys one other
@@ -104,7 +105,8 @@ module _ (peer_setup : PeerSetup) (server_setup : ServerSetup) (peer_nonce : len
   unfolding peer.report_of
   peers_login now login list facts is_selected in_view theirs found = record {
     report = peer.report_of login;
-    holds = peer_holds now gpsk_kind _ is_selected (agrees.peer_reported now.views login in_view);
+    holds = peer_report_is now gpsk_kind _ is_selected
+        (agrees.peer_reported now.views login in_view);
     id_p = own_name peer_setup gpsk_kind login.cred facts.cred;
     login = subst (λ (k : List ℕ). LoginOf server_setup theirs (peer.report_of login) k)
         (own_key peer_setup gpsk_kind login.cred facts.cred) found;
@@ -165,7 +167,7 @@ module _ (peer_setup : PeerSetup) (server_setup : ServerSetup) (peer_nonce : len
   unfolding server.report_of side_of
   servers_login now login checked is_current in_view theirs found = record {
     report = server.report_of login;
-    holds = server_holds now gpsk_kind _ is_current
+    holds = server_report_is now gpsk_kind _ is_current
         (agrees.server_reported now.views login in_view);
     user = checked.user;
     id_s = ap (λ (own : ServerSide). own.id_s) checked.own;

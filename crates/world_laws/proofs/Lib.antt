@@ -112,8 +112,8 @@ mod WorkedFreshness
 -- The conversations of both ends, on what they rest, and whether they are fresh, computed from the
 -- definitions alone.
 mod WorkedMatching
--- The tags of one conversation are under one key.
-pub mod OneKey
+-- A server in SUCCESS has accepted tags of its user's key.
+pub mod UserKeys
 -- What the honesty of the tags under a key says of them in the whole book.
 pub mod KeyedTags
 -- Matching conversations of one user of the server.

@@ -11,7 +11,7 @@ use Rattle.method_laws.specs.Records.{IsIn, here}
 use Rattle.eap_world.specs.Conversations.{front}
 use Rattle.method_laws.proofs.Asks.{AsksPeer, AsksServer, some_is}
 use Rattle.method_laws.proofs.ServerAsks.{server_asks}
-use Rattle.world_laws.proofs.OneKey.{server_one}
+use Rattle.method_laws.proofs.OneKey.{server_one}
 use Rattle.world_laws.proofs.PastConversations.{Moment, PastConversation, Past, Conversed, FromPast}
 use Rattle.world_laws.proofs.PastConversations.{where_created, accepted_before}
 use Rattle.method_laws.specs.TagOwners.{PeerTagOwner, OnlyByPeer, NotByServer, ServerTagOwner}

@@ -37,8 +37,8 @@ use Rattle.world_laws.proofs.HonestRuns.{not_apart, once_agree}
 use Rattle.world_laws.proofs.KeyedTags.{either_under, other_under}
 use Rattle.world_laws.proofs.Matching.{AllKnown}
 use Rattle.world_laws.proofs.Matching as matching
-use Rattle.world_laws.proofs.OneKey.{keyed_peer, keyed_server, peer_one, peer_tag, server_one}
-use Rattle.world_laws.proofs.OneKey.{server_tag, server_user}
+use Rattle.method_laws.proofs.OneKey.{keyed_peer, peer_one, peer_tag, server_one, server_tag}
+use Rattle.world_laws.proofs.UserKeys.{keyed_server, server_user}
 use Rattle.world_laws.proofs.OneLogin.{first_is_in}
 use Rattle.world_laws.proofs.PastConversations.{accepted_now}
 use Rattle.world_laws.proofs.PskMatching as psk
@@ -63,7 +63,7 @@ module _ (setup : Setup) (kind : ℕ) (w : WorldNow) (h : BothConverse setup w)
   asked_key : (asks : AsksServer h.peer_nonce h.peer.accepted) → asks.tag.psk ≡ key
   asked_key asks =
       keyed_peer (peers.setup_with_nonce setup.peer h.peer_nonce)
-      w.parties.peer kind h.peer.accepted h.peer.made (peer_won setup w h both.peer) both.method
+      _ _ kind h.peer.accepted h.peer.made (peer_won setup w h both.peer) both.method
       asks.tag (first_is_in asks.tag asks.rest h.peer.accepted asks.first)
 
   agree_from : tags_verdict_either (under key w.book) ≡ Honest
@@ -118,7 +118,7 @@ module _ (setup : Setup) (kind : ℕ) (whole : IsWhole setup) (w : WorldNow)
       server_succeeds setup.server _ _ _ _ (server_tags stands) (server_success stands both.server)
 
   its_key : (t : TagRecord) → IsIn t (tags_by end.Peer Accepted w.book) → t.psk ≡ shared
-  its_key t is = keyed_peer setup.peer w.parties.peer kind _ _ peer_has both.method t is
+  its_key t is = keyed_peer setup.peer _ _ kind _ _ peer_has both.method t is
 
   agree_once : tags_verdict_either (under shared w.book) ≡ Honest
       → IsOfKey setup shared w.parties.server → AgreeOnTheirs setup w
@@ -134,7 +134,7 @@ module _ (setup : Setup) (kind : ℕ) (whole : IsWhole setup) (w : WorldNow)
   -- the server made the peer's tag, and all that it made and accepted are under one key
   once_of_key : tags_verdict (under shared w.book) ≡ Honest → IsOfKey setup shared w.parties.server
   once_of_key honest =
-      let its = peer_tag setup.peer w.parties.peer _ _ peer_has in
+      let its = peer_tag setup.peer _ _ _ _ peer_has in
       let one = server_one setup.server w.parties.server.vars.current w.parties.server.views _ _
       (server_tags first.server_invariant) in
       let made =
@@ -185,7 +185,7 @@ module _ (setup : Setup) (kind : ℕ) (w : WorldNow) (ps : List OfPeer) (ss : Li
       let won = server_succeeds setup.server _ _ _ _ (server_tags first.server_invariant)
       (server_success first.server_invariant s_in) in
       let keyed = keyed_server setup own_key w.parties.server setup.server _ _ refl won of_key in
-      let its = server_tag setup.server w.parties.server _ _ won in
+      let its = server_tag setup.server _ _ _ _ won in
       let one = peer_one setup.peer w.parties.peer.vars.selected w.parties.peer.views _ _
       (peer_tags first.peer_invariant) in
       let made =

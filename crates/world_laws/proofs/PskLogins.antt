@@ -29,12 +29,13 @@ use Rattle.method_laws.proofs.Among.{among_one, among_two, first_is, no_tag}
 use Rattle.method_laws.proofs.Fields.{ends}
 use Rattle.world_laws.proofs.Results.{ResultsIn, LoginOf, PeersLogin, ServersLogin}
 use Rattle.method_laws.proofs.Credentials.{own_key, own_name}
+use Rattle.world_laws.proofs.Results.{peer_report_is}
+use Rattle.world_laws.proofs.Results.{server_report_is}
 use Rattle.method_laws.proofs.PskAgrees as agrees
 use Rattle.method_laws.proofs.PskFields.{front_size}
 use Rattle.method_laws.proofs.PskHeaders.{same_sealed}
 use Rattle.method_laws.proofs.PskPeerOwners.{labels_apart}
 use Rattle.method_laws.proofs.Among.{FirstIn, first_in}
-use Rattle.world_laws.proofs.Results.{peer_holds, server_holds}
 use Rattle.eap_method.specs.BothPeers.{psk_in}
 
 -- the first tag that a conversation of the server accepted is one of this method
@@ -126,7 +127,8 @@ module _ (peer_setup : PeerSetup) (server_setup : ServerSetup) (peer_nonce : len
   unfolding peer.report_of
   peers_login now login facts is_selected in_view theirs found = record {
     report = peer.report_of login;
-    holds = peer_holds now psk_kind _ is_selected (agrees.peer_reported now.views login in_view);
+    holds = peer_report_is now psk_kind _ is_selected
+        (agrees.peer_reported now.views login in_view);
     id_p = own_name peer_setup psk_kind login.cred facts.cred;
     login = subst (λ (k : List ℕ). LoginOf server_setup theirs (peer.report_of login) k)
         (own_key peer_setup psk_kind login.cred facts.cred) found;
@@ -174,7 +176,8 @@ module _ (peer_setup : PeerSetup) (server_setup : ServerSetup) (peer_nonce : len
   unfolding server.report_of side_of
   servers_login now login checked r_sent is_current in_view theirs found = record {
     report = server.report_of login;
-    holds = server_holds now psk_kind _ is_current (agrees.server_reported now.views login in_view);
+    holds = server_report_is now psk_kind _ is_current
+        (agrees.server_reported now.views login in_view);
     user = checked.user;
     id_s = ap (λ (own : ServerSide). own.id_s) checked.own;
     known = checked.known;

@@ -34,7 +34,7 @@ use Rattle.method_laws.proofs.PskAgrees.{peer_reported}
 use Rattle.world_laws.proofs.PskLogins as logins
 use Rattle.method_laws.proofs.PskAnswered.{HasAsked, HasPsk4, has_asked, psk4_taken}
 use Rattle.world_laws.proofs.PskReflected.{AsksAnother, asks_another}
-use Rattle.world_laws.proofs.Results.{peer_holds}
+use Rattle.world_laws.proofs.Results.{peer_report_is}
 use Rattle.method_laws.proofs.ServerByMethod.{reported_by_psk}
 use Rattle.method_laws.proofs.Among.{first_in}
 use Rattle.method_laws.proofs.TagsOfEnds.{honest_tags}
@@ -189,7 +189,7 @@ module _ (setup : Setup) (last : WorldNow) (ps : List OfPeer) (ss : List OfServe
       c.login c.checked c.header c.sealed c.r_came (psk_in p.now.views) p.accepted p.made by.1
       ((first_in s.accepted p.made rests.tag rests.more rests.first rests.is_made).is _ _ c.first)
       made in
-      peer_holds p.now psk_kind _ by.0 (peer_reported p.now.views won.login won.in_view)
+      peer_report_is p.now psk_kind _ by.0 (peer_reported p.now.views won.login won.in_view)
       ∙ sym (ap (λ (o : Option ℕ). peer_login o p.now.views) by.0 ∙ ap psk_peer_login won.in_view)
 
   pub psk_servers_confirm : tags_verdict last.book ≡ Honest → last.conversations.fresh ≡ true

@@ -30,7 +30,7 @@ use Rattle.method_laws.proofs.GpskAgrees as gpsk_agrees
 use Rattle.world_laws.proofs.GpskLogins as gpsk
 use Rattle.method_laws.proofs.GpskNoncesWhole as whole
 use Rattle.world_laws.proofs.Results.{ResultsIn, PeersLogin, ServersLogin, reaches_too, login_too}
-use Rattle.world_laws.proofs.Results.{server_holds}
+use Rattle.world_laws.proofs.Results.{server_report_is}
 use Rattle.method_laws.proofs.OneMethod.{apart as one_method}
 use Rattle.method_laws.proofs.PeerByMethod as peer_by_method
 use Rattle.method_laws.proofs.PskAgrees as psk_agrees
@@ -218,13 +218,13 @@ module _ (peer_setup : PeerSetup) (server_setup : ServerSetup) (peer_nonce : len
         ap (λ (o : Option ℕ). peer_login o views) by.0
         ∙ (psk.rests_reaches peer_setup server_setup peer_nonce server_nonce login checked id
         (psk_in views) their_accepted their_made by.1 is (back is_current)
-        ∙ sym (server_holds now psk_kind _ is_current
+        ∙ sym (server_report_is now psk_kind _ is_current
         (psk_agrees.server_reported now.views login in_view)))
     same_report now _ _ (of_gpsk login pd last_pd is_current in_view checked) rests back =
         gpsk.reaches_whole peer_setup server_setup peer_nonce server_nonce login _
         (gpsk_reaches login pd checked
         ((first_in _ _ rests.tag rests.more rests.first rests.is_made).is _ _ refl))
-        ∙ sym (server_holds now gpsk_kind _ is_current
+        ∙ sym (server_report_is now gpsk_kind _ is_current
         (gpsk_agrees.server_reported now.views login in_view))
 
     -- so it is where both tags that the server accepted are the peer's, and each that the peer

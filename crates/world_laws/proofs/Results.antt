@@ -16,15 +16,15 @@ use Rattle.peer_machine.specs.PeerTable.{selected_report}
 use Rattle.server_machine.specs.ServerTable.{current_report}
 
 -- an end reports what the object of its method does
-pub peer_holds : (now : PeerNow) (kind : ℕ) (report : Option Report)
+pub peer_report_is : (now : PeerNow) (kind : ℕ) (report : Option Report)
     → now.vars.selected ≡ Some kind → peer_report_of kind now.views ≡ report
     → peer_reports now ≡ report
-peer_holds now kind report is_selected is = ap (selected_report now.views) is_selected ∙ is
+peer_report_is now kind report is_selected is = ap (selected_report now.views) is_selected ∙ is
 
-pub server_holds : (now : ServerNow) (kind : ℕ) (report : Option Report)
+pub server_report_is : (now : ServerNow) (kind : ℕ) (report : Option Report)
     → now.vars.current ≡ Some kind → server_report_of kind now.views ≡ report
     → server_reports now ≡ report
-server_holds now kind report is_current is = ap (current_report now.views) is_current ∙ is
+server_report_is now kind report is_current is = ap (current_report now.views) is_current ∙ is
 
 -- the login of a view leads to the report, whose names and user are the server's, with this key
 pub record LoginOf (setup : ServerSetup) (login : Option Report) (report : Report)

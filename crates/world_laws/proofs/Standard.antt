@@ -1,4 +1,4 @@
--- A world whose ends have objects of EAP-PSK and EAP-GPSK alone, one at least of each method that
+-- A world whose ends have objects of the two methods alone, one at least of each method that
 -- they name, begins as its run.
 use Rattle.std.proofs.Common.{◌≡◌, List, true, None, ap₂, ◌∙◌}
 use Rattle.login_setup.specs.declared.setup.Setup.{Setup}

@@ -64,7 +64,7 @@ module _ (setup : Setup) (one other : Option Report) (are : Agrees setup one oth
 
   -- what both ends report is judged to agree
   pub agreed : agreement_of setup.peer setup.server one other ≡ true
-  agreed = rw (are.holds, are.same)
+  agreed = rw (are.reported, are.same)
       (reports_agree setup.peer setup.server are.report are.report refl by_peer by_server)
 
 -- what both ends report is their own
@@ -72,7 +72,7 @@ module _ (setup : Setup) (p : PeerNow) (s : ServerNow) where
   pub both_theirs : Agrees setup (peer_reports p) (server_reports s) → AreTheirs setup p s
   both_theirs are = record {
     report = are.report;
-    holds = are.holds;
+    holds = are.reported;
     same = are.same;
     id_p = are.id_p;
     id_s = are.id_s;
@@ -96,7 +96,7 @@ module _ (setup : Setup) (p : PeerNow) (s : ServerNow) where
       → AreTheirs setup p s
   own_theirs peer_nonce server_nonce are = record {
     report = are.report;
-    holds = are.holds;
+    holds = are.reported;
     same = are.same;
     id_p = are.id_p;
     id_s = are.id_s;

@@ -31,7 +31,8 @@ use Rattle.world_laws.proofs.HonestOfEither.{honest_of_either}
 use Rattle.world_laws.proofs.KeyedTags.{either_under, other_under}
 use Rattle.world_laws.proofs.Matching.{AllKnown}
 use Rattle.world_laws.proofs.Matching as matching
-use Rattle.world_laws.proofs.OneKey.{OneKey, keyed_peer, keyed_server, peer_one, server_one}
+use Rattle.method_laws.proofs.OneKey.{OneKey, keyed_peer, peer_one, server_one}
+use Rattle.world_laws.proofs.UserKeys.{keyed_server}
 use Rattle.world_laws.proofs.OneLogin.{first_is_in, one_stored}
 use Rattle.world_laws.proofs.OneOf.{accepted_in, made_in}
 use Rattle.method_laws.proofs.PskAnswered.{HasAsked, HasPsk4, has_asked}
@@ -186,7 +187,7 @@ module _ (setup : Setup) (last : WorldNow) (ps : List OfPeer) (ss : List OfServe
       → p.now.vars.selected ≡ Some kind
       → (t : TagRecord) (more : List TagRecord) → p.accepted ≡ t ∷ more → t.psk ≡ shared
   its_first p is_one p_in selected t more first =
-      keyed_peer (peers.setup_with_nonce setup.peer (peer_nonce p)) p.now kind p.accepted p.made
+      keyed_peer (peers.setup_with_nonce setup.peer (peer_nonce p)) _ _ kind p.accepted p.made
       (matching.peer_won setup p (all.peers p is_one) p_in) selected t
       (first_is_in t more p.accepted first)
 
