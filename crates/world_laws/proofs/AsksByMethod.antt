@@ -5,7 +5,6 @@ use Rattle.login_setup.specs.Setup.{ServerSetup}
 use Rattle.eap_method.specs.declared.tags.TagRecord.{TagRecord}
 use Rattle.peer_machine.specs.PeerTable as peers
 use Rattle.peer_machine.specs.PeerTable.{PeerNow}
-use Rattle.server_machine.specs.ServerTable.{ServerNow}
 use Rattle.method_laws.proofs.Asks.{AsksServer}
 use Rattle.method_laws.proofs.GpskServerOwners.{gpsk3_asks}
 use Rattle.method_laws.proofs.PskServerOwners.{psk3_asks}
@@ -14,15 +13,6 @@ use Rattle.method_laws.proofs.Succeeding.{of_gpsk, of_psk}
 use Rattle.method_laws.proofs.Succeeding.{with_gpsk, with_psk}
 use Rattle.eap_method.specs.Peer.{PeerViews}
 use Rattle.eap_method.specs.Server.{ServerViews}
-use Rattle.server_machine.specs.ServerTable as servers
-use Rattle.method_laws.specs.ByMethod.{ServerTags, gpsk_current, identity_current, none_current}
-use Rattle.method_laws.specs.ByMethod.{psk_current, server_foreign}
-use Rattle.method_laws.specs.GpskServerInvariant.{gpsk_rand_p_in}
-use Rattle.method_laws.specs.PskServerInvariant.{psk_rand_p_in}
-use Rattle.method_laws.specs.TagOwners.{ServerTagOwner}
-use Rattle.method_laws.proofs.Asks.{AsksPeer}
-use Rattle.method_laws.proofs.GpskServerOwners.{gpsk_view_asks}
-use Rattle.method_laws.proofs.PskServerOwners.{psk_view_asks}
 
 pub peer_asks : (setup : PeerSetup) (nonce : List ℕ) (selected : Option ℕ) (views : PeerViews)
     (accepted made : List TagRecord) → length nonce ≡ 32

@@ -17,15 +17,6 @@ use Rattle.method_laws.specs.Agreeing.{Agrees}
 use Rattle.world_laws.specs.PeerInvariant.{PeerInvariant}
 use Rattle.method_laws.specs.Records.{FirstInEither}
 use Rattle.world_laws.specs.ServerInvariant.{ServerInvariant}
-use Rattle.method_laws.proofs.Among.{among_two, first_is}
-use Rattle.method_laws.proofs.GpskAgrees as gpsk
-use Rattle.method_laws.proofs.OneMethod.{apart as one_method}
-use Rattle.method_laws.proofs.PeerByMethod as peer_by_method
-use Rattle.method_laws.proofs.PskAgrees as psk
-use Rattle.method_laws.proofs.ServerByMethod as server_by_method
-use Rattle.eap_method.specs.BothPeers.{psk_in}
-use Rattle.eap_method.specs.BothPeers.{gpsk_in}
-use Rattle.world_laws.proofs.EndTags.{peer_success, peer_tags, server_success, server_tags}
 use Rattle.method_laws.proofs.AllowedSuites.{passes}
 use Rattle.method_laws.proofs.Succeeding.{both_agree}
 use Rattle.world_laws.proofs.EqualReports.{reports_agree}
