@@ -4,3 +4,5 @@ pub mod Requests
 pub mod Logins
 -- What a discard leaves, of a call that is one step of the server's table.
 pub mod Discarded
+-- Worked values of the Type-Data, and of a login.
+mod Worked

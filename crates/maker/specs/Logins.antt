@@ -18,11 +18,11 @@ use Rattle.maker.specs.Md5Peer.{md5_peer}
 use Rattle.maker.specs.Md5Server.{md5_server}
 
 -- an end that has begun, whatever its state before
-abbrev pub peer_begun : List ℕ → Credential → List ℕ → List ℕ → PeerShown
-peer_begun secret cred nonce before = started_peer cred nonce (peer.other (md5_peer secret) before)
+abbrev pub fresh_peer : List ℕ → Credential → List ℕ → List ℕ → PeerShown
+fresh_peer secret cred nonce before = started_peer cred nonce (peer.other (md5_peer secret) before)
 
-abbrev pub server_begun : List ℕ → ServerSide → List ℕ → List ℕ → ServerShown
-server_begun secret own nonce before =
+abbrev pub fresh_server : List ℕ → ServerSide → List ℕ → List ℕ → ServerShown
+fresh_server secret own nonce before =
     started_server own nonce (server.other (md5_server secret) before)
 
 -- the Value of its Challenge: the first 16 octets of its nonce
@@ -32,7 +32,7 @@ challenge_of nonce = take 16 nonce
 -- the server after its Challenge
 abbrev pub server_asked : List ℕ → ServerSide → List ℕ → List ℕ → ℕ → ServerShown
 server_asked secret own nonce before id =
-    (server_first_step (server_begun secret own nonce before) id).after
+    (server_first_step (fresh_server secret own nonce before) id).after
 
 -- the Response with this Value, of 1 to 255 octets, and no Name
 abbrev pub response_with : ℕ → List ℕ → List ℕ
@@ -45,12 +45,12 @@ HasResult now users next_id octets success =
 
 -- a server makes its Challenge; a peer that has the same secret answers it, and is accepted; every
 -- other Value is refused
-pub record GoesThrough (secret : List ℕ) (cred : Credential) (own : ServerSide)
+pub record IsSuccessful (secret : List ℕ) (cred : Credential) (own : ServerSide)
     (peer_nonce nonce peer_before server_before : List ℕ) (users : List User)
     (id next_id : ℕ) : Type 0 where
-  pub asks : (server_first_step (server_begun secret own nonce server_before) id).packet
+  pub asks : (server_first_step (fresh_server secret own nonce server_before) id).packet
       ≡ challenge_packet id (challenge_of nonce)
-  pub answers : (peer_step (peer_begun secret cred peer_nonce peer_before)
+  pub answers : (peer_step (fresh_peer secret cred peer_nonce peer_before)
       (challenge_packet id (challenge_of nonce))).turn
       ≡ Reply (response_packet secret id (challenge_of nonce)) Done CondSucc no_tags
   pub accepts : HasResult (server_asked secret own nonce server_before id) users next_id
@@ -66,4 +66,4 @@ Md5LoginsGoThrough =
     (secret : List ℕ) (cred : Credential) (own : ServerSide)
     (peer_nonce nonce peer_before server_before : List ℕ) (users : List User) (id next_id : ℕ)
     → 16 ≤ length nonce
-    → GoesThrough secret cred own peer_nonce nonce peer_before server_before users id next_id
+    → IsSuccessful secret cred own peer_nonce nonce peer_before server_before users id next_id

@@ -40,18 +40,18 @@ step secret (x ∷ rest) octets = answers secret (x ∷ rest) (id_of octets) (va
 
 -- ---- a discard keeps the state
 
-pub answers_keep : (secret state : List ℕ) (id : ℕ) (value : Option (List ℕ)) (cause : Cause)
+pub answers_preserve : (secret state : List ℕ) (id : ℕ) (value : Option (List ℕ)) (cause : Cause)
     → (answers secret state id value).turn ≡ Discard cause
     → (answers secret state id value).after ≡ state
-answers_keep secret state id None cause is_discard = refl
-answers_keep secret state id (Some challenge) cause is_discard = cc is_discard
+answers_preserve secret state id None cause is_discard = refl
+answers_preserve secret state id (Some challenge) cause is_discard = cc is_discard
 
 pub discards : (secret state octets : List ℕ) (cause : Cause)
     → (step secret state octets).turn ≡ Discard cause → (step secret state octets).after ≡ state
 unfolding step
 discards secret [] octets cause is_discard = refl
 discards secret (x ∷ rest) octets cause is_discard =
-    answers_keep secret (x ∷ rest) (id_of octets) (value_of (body_of octets)) cause is_discard
+    answers_preserve secret (x ∷ rest) (id_of octets) (value_of (body_of octets)) cause is_discard
 
 -- ---- a Response answers the Request
 

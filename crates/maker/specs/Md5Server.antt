@@ -20,22 +20,22 @@ pub record ServerValue : Type 0 where
 
 -- the states: it has begun, and makes the Challenge of these 16 octets; it has made it, and awaits
 -- the Response; or it awaits nothing
-abbrev pub begun : List ℕ → List ℕ
-begun challenge = 0 ∷ challenge
+abbrev pub unasked : List ℕ → List ℕ
+unasked challenge = 0 ∷ challenge
 
 abbrev pub asked : List ℕ → List ℕ
 asked challenge = 1 ∷ challenge
 
 abbrev pub state_of : Phase → List ℕ → List ℕ
-state_of phase.Begun challenge = begun challenge
+state_of phase.Unasked challenge = unasked challenge
 state_of phase.Asked challenge = asked challenge
 state_of phase.Over challenge = []
 
 -- whether it has begun and made no Challenge yet
-unfoldable pub is_initiated : List ℕ → Bool
-is_initiated [] = false
-is_initiated (zero ∷ challenge) = true
-is_initiated (suc n ∷ challenge) = false
+unfoldable pub is_unasked : List ℕ → Bool
+is_unasked [] = false
+is_unasked (zero ∷ challenge) = true
+is_unasked (suc n ∷ challenge) = false
 
 -- its first Request is the Challenge
 unfoldable pub first_step : List ℕ → ℕ → FirstOutcome (List ℕ)
@@ -58,11 +58,11 @@ step secret (suc n ∷ challenge) octets =
 
 -- ---- a discard keeps the state
 
-pub checks_keep : (secret state challenge : List ℕ) (id : ℕ) (value : Option (List ℕ)) (cause : Cause)
+pub checks_preserve : (secret state challenge : List ℕ) (id : ℕ) (value : Option (List ℕ)) (cause : Cause)
     → (checks secret state challenge id value).turn ≡ Discard cause
     → (checks secret state challenge id value).after ≡ state
-checks_keep secret state challenge id None cause is_discard = refl
-checks_keep secret state challenge id (Some value) cause is_discard = cc is_discard
+checks_preserve secret state challenge id None cause is_discard = refl
+checks_preserve secret state challenge id (Some value) cause is_discard = cc is_discard
 
 pub discards : (secret state octets : List ℕ) (cause : Cause)
     → (step secret state octets).turn ≡ Discard cause → (step secret state octets).after ≡ state
@@ -70,12 +70,12 @@ unfolding step
 discards secret [] octets cause is_discard = refl
 discards secret (zero ∷ challenge) octets cause is_discard = refl
 discards secret (suc n ∷ challenge) octets cause is_discard =
-    checks_keep secret (suc n ∷ challenge) challenge (id_of octets) (value_of (body_of octets))
+    checks_preserve secret (suc n ∷ challenge) challenge (id_of octets) (value_of (body_of octets))
     cause is_discard
 
-pub begun_is_initiated : (challenge : List ℕ) → is_initiated (begun challenge) ≡ true
-unfolding is_initiated
-begun_is_initiated challenge = refl
+pub fresh_is_unasked : (challenge : List ℕ) → is_unasked (unasked challenge) ≡ true
+unfolding is_unasked
+fresh_is_unasked challenge = refl
 
 -- ---- the method
 
@@ -83,9 +83,9 @@ abbrev pub md5_server : List ℕ → Custom
 md5_server secret = record {
   kind = md5_kind;
   no_identity = refl;
-  fresh = λ own nonce. begun (take 16 nonce);
-  is_initiated = is_initiated;
-  initiates = λ own nonce. begun_is_initiated (take 16 nonce);
+  fresh = λ own nonce. unasked (take 16 nonce);
+  is_initiated = is_unasked;
+  initiates = λ own nonce. fresh_is_unasked (take 16 nonce);
   first_step = first_step;
   step = λ users next_id. step secret;
   report = λ state. None;

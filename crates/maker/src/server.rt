@@ -16,7 +16,7 @@ use std::marker::Model;
 #[derive(Clone, Copy, PartialEq, Eq, Debug)]
 pub enum Phase {
     /// It has begun, and makes its Challenge.
-    Begun,
+    Unasked,
     /// It has made its Challenge, and awaits the Response.
     Asked,
     /// It awaits nothing.
@@ -63,7 +63,7 @@ impl Md5Server {
         ensures capacity { ServerTurnHasCapacity result }
     {
         match self.phase {
-            Phase::Begun | Phase::Over => ServerTurn::Discard(Cause::WrongOp),
+            Phase::Unasked | Phase::Over => ServerTurn::Discard(Cause::WrongOp),
             Phase::Asked => match value_of(&response[5..]) {
                 None => ServerTurn::Discard(Cause::WrongOp),
                 Some(value) => {
@@ -89,11 +89,11 @@ impl ServerMethod for Md5Server {
     }
 
     fn begin(&mut self, own: &ServerSide, nonce: &Nonce) {
-        self.phase = Phase::Begun;
+        self.phase = Phase::Unasked;
         self.challenge = array_of(&nonce[..16]);
     }
 
-    #[tactic(auto, unfolding(eap_method::specs::Server::server_first_step, crate::specs::Md5Server::first_step, crate::specs::Md5Server::is_initiated))]
+    #[tactic(auto, unfolding(eap_method::specs::Server::server_first_step, crate::specs::Md5Server::first_step, crate::specs::Md5Server::is_unasked))]
     fn first(&mut self, id: u8) -> Packet {
         self.phase = Phase::Asked;
         packet_with(Code::Request, id, &self.challenge)
