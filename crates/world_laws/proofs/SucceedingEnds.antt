@@ -31,7 +31,6 @@ pub ends_agree : (setup : Setup) (p : PeerNow) (s : ServerNow)
     → FirstInEither peer_accepted initial_server initial_peer
     → FirstInEither server_accepted initial_peer initial_server
     → is_success p.vars.state ≡ true → is_success s.vars.state ≡ true
-
     → Agrees setup (peer_reports p) (server_reports s)
 ends_agree setup p s peer_accepted initial_peer server_accepted initial_server peer_nonce
     server_nonce p_in s_in of_peer of_server sure other_sure =
