@@ -377,7 +377,7 @@ fn through_pass<P: PeerMethod, S: ServerMethod>(
 }
 
 /// The octets of a packet, as an input of an end.
-fn input_of(packet: &Packet) -> EndInput {
+pub(crate) fn input_of(packet: &Packet) -> EndInput {
     let mut octets = Octets::new();
     octets.append(packet.as_slice());
     EndInput::Octets(octets)
