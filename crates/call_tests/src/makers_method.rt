@@ -220,19 +220,21 @@ fn in_world<P: PeerMethod, S: ServerMethod>(
     }
     let mut told = world.start().ok()?;
     let mut number = 1;
-    let mut names = 0;
+    let mut one_names = false;
+    let mut both_name = false;
     while number < 16 && told.sent.is_some() {
         if !world.started() || !world.has_objects() || world.counts().events >= 16 {
             return None;
         }
         told = world.step(&Event::Deliver { number }).ok()?;
-        names += told.named.is_some() as u8;
+        both_name |= one_names & told.named.is_some();
+        one_names |= told.named.is_some();
         number += 1;
     }
     let end = End {
         peer: world.state(Party::Peer)?,
         server: world.state(Party::Server)?,
-        with_keys: keys_of(names != 0, names == 2),
+        with_keys: keys_of(one_names, both_name),
     };
     Some((end, world.result()))
 }
