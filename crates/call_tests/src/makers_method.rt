@@ -219,17 +219,18 @@ fn in_world<P: PeerMethod, S: ServerMethod>(
         return None;
     }
     let mut told = world.start().ok()?;
-    let mut number = 1;
     let mut one_names = false;
     let mut both_name = false;
-    while number < 16 && told.sent.is_some() {
+    for number in 1..16 {
+        if told.sent.is_none() {
+            break;
+        }
         if !world.started() || !world.has_objects() || world.counts().events >= 16 {
             return None;
         }
         told = world.step(&Event::Deliver { number }).ok()?;
         both_name |= one_names & told.named.is_some();
         one_names |= told.named.is_some();
-        number += 1;
     }
     let end = End {
         peer: world.state(Party::Peer)?,
@@ -316,6 +317,12 @@ fn malformed(code: u8) -> [[u8; 8]; 3] {
     ]
 }
 
+/// True if the peer discards the Request as one that its method doesn't await, and selects nothing.
+fn peer_discards(peer: &mut PeerMachine<Md5Peer>, request: &[u8]) -> bool {
+    let step = receive_request(peer, request);
+    step.cause == Some(Cause::WrongOp) && step.sent.is_none() && peer.selected().is_none()
+}
+
 /// True if the peer discards what is malformed and stays as it was, then answers the Challenge, to which a Name may be added, and no
 /// other one; None if something else was discarded.
 fn peer_takes_one(
@@ -324,17 +331,27 @@ fn peer_takes_one(
     response: &[u8],
 ) -> Option<bool> {
     peer.deliver(b"\x01\x01\x00\x05\x01").sent?;
-    for packet in malformed(1) {
-        let step = receive_request(&mut peer, &packet);
-        if step.cause != Some(Cause::WrongOp) || step.sent.is_some() || peer.selected().is_some() {
-            return Some(false);
-        }
+    let [none, zero, short] = malformed(1);
+    if !peer_discards(&mut peer, &none)
+        || !peer_discards(&mut peer, &zero)
+        || !peer_discards(&mut peer, &short)
+    {
+        return Some(false);
     }
     let sent = receive_request(&mut peer, challenge).sent?;
     let again = receive_request(&mut peer, b"\x01\x03\x00\x07\x04\x01\x09");
     let is_over = (again.cause == Some(Cause::MethodDone)) & again.sent.is_none();
     let end = receive_request(&mut peer, b"\x03\x02\x00\x04");
     Some(sent.as_slice() == response && is_over && end.cause.is_none() && peer.ended())
+}
+
+/// True if the server is ready, and discards the Response as one that its method doesn't await.
+fn server_discards(server: &mut ServerMachine<Md5Server>, response: &[u8]) -> bool {
+    if !server.ready() {
+        return false;
+    }
+    let step = receive_response(server, response);
+    step.cause == Some(Cause::WrongOp) && step.sent.is_none()
 }
 
 /// True if the server discards what is malformed and stays as it was, then takes the Response; None if something else was discarded.
@@ -350,14 +367,12 @@ fn server_takes_one(mut server: ServerMachine<Md5Server>) -> Option<bool> {
     if sent.as_slice() != CHALLENGE {
         return Some(false);
     }
-    for packet in malformed(2) {
-        if !server.ready() {
-            return None;
-        }
-        let step = receive_response(&mut server, &packet);
-        if step.cause != Some(Cause::WrongOp) || step.sent.is_some() {
-            return Some(false);
-        }
+    let [none, zero, short] = malformed(2);
+    if !server_discards(&mut server, &none)
+        || !server_discards(&mut server, &zero)
+        || !server_discards(&mut server, &short)
+    {
+        return Some(false);
     }
     if !server.ready() {
         return None;
