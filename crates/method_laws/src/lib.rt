@@ -1,7 +1,6 @@
-//! Laws of the methods' turns (RFC 5433 section 3, RFC 4764 section 4): each turn of an end is one of a
-//! few rows, with all that is then known; its turns since it began tell the tags that it has accepted and
-//! made, each the right MAC of its octets; and a login between ends that fit goes through. Each is the
-//! contract of a function that does nothing.
+//! Laws of the methods' turns (RFC 5433 section 3, RFC 4764 section 4): each turn is one of a few rows, those of an end
+//! tell its tags, each the right MAC of its octets, two ends that have succeeded agree, and a login between ends that fit
+//! goes through. Each is the contract of a function that does nothing.
 #![tactic(auto)]
 
 mod laws;
