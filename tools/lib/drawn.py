@@ -10,6 +10,7 @@ from typing import Sequence
 
 from lib import replays
 from lib.common import Refused, ask
+from lib.words import EVENTS
 
 ENDS = ("peer", "server")
 KINDS = ("47", "51")
@@ -115,7 +116,7 @@ class Draw(random.Random):
         near, timer = self.randint(max(1, number - 2), number + 1), "pass" if is_through else "server"
         kinds = [f"deliver {near}", f"cut {near} {self.randrange(60)}", "deliver 1000000", "restart peer", "restart server"]
         kinds += [f"alter {near} {self.choice((0, 2, 3, 4))} {1 << self.randrange(8)}", *[f"timeout {timer}"] * 2]
-        kinds.append(self.choice(("restart pass", "timeout pass", "aaa-timeout", "aaa-noreq", "idle", "alt-accept", "alt-reject")))
+        kinds.append(self.choice(("restart pass", "timeout pass", *(it.keyword for it in EVENTS if not it.fields))))
         if is_wild:
             port = self.choice(("peer", "server", "pass-peer", "pass-server") if is_through else ENDS)
             kinds += [f"alter {near} {self.randrange(70)} {self.randint(1, 255)}"] * 4 + [f"inject {port} {self.packet().hex()}"] * 4
