@@ -8,13 +8,13 @@ from typing import Iterator, Optional
 
 from cases.lib.small import Run, holds
 
-HEADLINE = ("world_laws/specs/Agreement", "gpsk_messages/specs/Message", "psk_messages/specs/Message", "eap_packet/specs/Packet",
+HEADLINE = ("login_laws/specs/Agreement", "gpsk_messages/specs/Message", "psk_messages/specs/Message", "eap_packet/specs/Packet",
             "peer_machine/specs/PeerTable", "server_machine/specs/ServerTable", "aes_block/specs/Cipher", "hmac_mac/specs/Hmac")
 
 
 def case_here(run: Run) -> Iterator[Optional[str]]:
     """Each file of the headline has as many lines as are told, and the definitions that it rests on are among them."""
-    out = run(["reading", "eap_login::eap_login", "world_laws::honest_ends_agree"])[1]
+    out = run(["reading", "eap_login::eap_login", "login_laws::honest_ends_agree"])[1]
     files = {f"crates/{it[0]}": int(it[1]) for it in re.findall(r"^\| `([^`]*)` .* of (\d+) \|", out, re.M)}
     wrong = [it for it, lines in files.items() if Path(it).read_text().count("\n") != lines]
     yield holds(files and not wrong, f"reading of the headline has other lines of {wrong}")

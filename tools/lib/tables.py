@@ -11,7 +11,7 @@ from lib.sources import Item, Repository, Source
 STANDARDS = ("RFC 3748", "RFC 4137", "RFC 4764", "RFC 5433")
 
 # docs/ASSURANCE.md: which promise takes how much reading.
-PROMISES = ("world_laws::honest_ends_agree", "world_laws::one_end_implies", "smooth_laws::smooth_logins_succeed",
+PROMISES = ("login_laws::honest_ends_agree", "login_laws::one_end_implies", "smooth_laws::smooth_logins_succeed",
             "eap_login::eap_login", "login_keys::gpsk_keys", "eax_mode::eax_seal", "aes_block::Aes128::encrypt")
 
 Section = Tuple[str, str]

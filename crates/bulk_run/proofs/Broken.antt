@@ -3,7 +3,8 @@
 use Rattle.std.proofs.Common.{◌≡◌, ◌≤◌, ℕ, zero, suc, ◌+◌, ◌*◌, List, length, refl, arith, rules}
 use Rattle.std.proofs.Common.{inl}
 use Rattle.std.proofs.lemmas.List.Elements.{All-nil}
-use Rattle.world_laws.specs.Agreement.{IsWhole, AgreesWhereHonest}
+use Rattle.world_laws.specs.Whole.{IsWhole}
+use Rattle.login_laws.specs.Agreement.{AgreesWhereHonest}
 use Rattle.tag_book.specs.Book.{tags_verdict}
 use Rattle.eap_world.specs.Judgement.{verdict_of}
 use Rattle.eap_world.specs.World.{WorldNow, one_if}
@@ -12,7 +13,7 @@ use Rattle.tag_book.specs.declared.book.TagsVerdict.TheVariants as tags
 use Rattle.eap_world.specs.declared.verdict.Verdict.{Verdict}
 use Rattle.eap_world.specs.declared.verdict.Verdict.TheVariants as verdict
 use Rattle.world_laws.proofs.StartsOnce.{starts_once}
-use Rattle.world_laws.proofs.HonestRuns.{honest_ends_agree}
+use Rattle.login_laws.proofs.HonestRuns.{honest_ends_agree}
 use Rattle.bulk_run.specs.Conversation.{setup_at, setup_with}
 use Rattle.bulk_run.specs.Summing.{BrokenWhereApart, CountsWell, counts_of, drawn_each, ended_at}
 use Rattle.bulk_run.specs.Summing.{events_of}

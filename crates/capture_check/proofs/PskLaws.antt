@@ -8,7 +8,7 @@ use Rattle.std.specs.Result.{result_ok}
 use Rattle.std.specs.Str.{bytes_eq}
 use Rattle.std.proofs.lemmas.Bool.{and_parts, eqb-true}
 use Rattle.octet_lists.specs.Among.{psk_kind}
-use Rattle.login_setup.specs.Setup.{is_valid_for}
+use Rattle.login_setup.specs.Setup.{has_valid_key, is_valid_for}
 use Rattle.login_setup.specs.Users.{user_of, is_named}
 use Rattle.login_setup.specs.declared.users.User.{User}
 use Rattle.eap_packet.specs.declared.cause.Cause.{Cause}
@@ -36,11 +36,11 @@ short_key kind key e fits =
 
 -- a user of EAP-PSK has a key of 16 octets
 pub key_is_short : (users : List User) (name : List ℕ) (user : User)
-    → All (λ user. IsTrue (is_valid_for user.kind user.psk)) users →
+    → All (λ user. IsTrue (has_valid_key user)) users →
     user_of users name psk_kind ≡ Some user → length user.psk ≡ 16
 key_is_short users name user keys e =
     let h = found_satisfies (is_named name psk_kind)
-    (λ (u : User). IsTrue (is_valid_for u.kind u.psk)) users user keys e in
+    (λ (u : User). IsTrue (has_valid_key u)) users user keys e in
     short_key user.kind user.psk (eqb-true user.kind 47 (and_parts _ _ h.1).0) h.0
 
 pub psk1_of_more : (packets : List Captured) (to_peer : Bool) (octets : List ℕ) →

@@ -1,7 +1,7 @@
 //! A checker, which judges the packets of a capture in their order.
 
 ghost use Rattle.std.specs.Prelude.{◌≡◌, ◌≤◌, List, [], ◌∷◌, ◌++◌, length, All, IsTrue};
-ghost use Rattle.login_setup.specs.Setup.{is_valid_for};
+ghost use Rattle.login_setup.specs.Setup.{has_valid_key};
 ghost use Rattle.login_setup.specs.declared.users.User.{User};
 ghost use Rattle.eap_packet.specs.Packet.{IsPlain, value_of, max_type_data};
 ghost use Rattle.capture_check.specs.Captured.{Captured};
@@ -69,7 +69,7 @@ impl Judge {
     /// all packets, and have keys of 16 octets for EAP-PSK, of 32 to 64 for EAP-GPSK.
     #[tactic(auto, unfolding(crate::specs::Finding::IsStateAfter, crate::specs::Finding::finding_of, crate::specs::Finding::finding_in, crate::specs::Finding::kept_next), using(crate::proofs::Preserving::preserved_of_next))]
     pub fn packet(&mut self, users: &Users, to_peer: bool, octets: &[u8]) -> Finding
-        requires { All (λ user. IsTrue (is_valid_for user.kind user.psk)) users.now }
+        requires { All (λ user. IsTrue (has_valid_key user)) users.now }
 
         // If it has seen a list of packets, the answer is the finding of the packet after these, and then
         // it has seen the list with the packet.
@@ -96,20 +96,20 @@ pub struct Checker {
 
 impl Model for Checker {
     ghost use Rattle.std.specs.Prelude.{All, IsTrue};
-    ghost use Rattle.login_setup.specs.Setup.{is_valid_for};
+    ghost use Rattle.login_setup.specs.Setup.{has_valid_key};
     ghost use Rattle.capture_check.specs.Finding.{Checking};
 
     ghost Value = { Checking };
 
     ghost view = { λ c. record { users = c.users; kept = c.judge } };
 
-    ghost invariant = { λ c. All (λ user. IsTrue (is_valid_for user.kind user.psk)) c.users };
+    ghost invariant = { λ c. All (λ user. IsTrue (has_valid_key user)) c.users };
 }
 
 impl Checker {
     /// A checker that has seen no packet. The users have keys of 16 octets for EAP-PSK, of 32 to 64 for EAP-GPSK.
     pub fn new(users: Users) -> Checker
-        requires { All (λ user. IsTrue (is_valid_for user.kind user.psk)) users }
+        requires { All (λ user. IsTrue (has_valid_key user)) users }
         ensures users { result.users ≡ users }
         ensures state { IsStateAfter result.kept users [] }
     {
@@ -139,7 +139,7 @@ impl Checker {
 /// The finding of a packet, and what is kept after it.
 #[tactic(auto, unfolding(crate::specs::Classified::classified_of))]
 fn judge_octets(kept: &mut CaptureContext, users: &Users, to_peer: bool, octets: &[u8]) -> Finding
-    requires keys { All (λ user. IsTrue (is_valid_for user.kind user.psk)) users.now }
+    requires keys { All (λ user. IsTrue (has_valid_key user)) users.now }
     requires key { HasKey kept.old.gpsk }
     ensures finding { result
         ≡ classified_finding users.now kept.old octets.now (classified_of to_peer octets.now) }
@@ -161,7 +161,7 @@ fn judge_packet(
     octets: &[u8],
     packet: &PacketView,
 ) -> Finding
-    requires keys { All (λ user. IsTrue (is_valid_for user.kind user.psk)) users.now }
+    requires keys { All (λ user. IsTrue (has_valid_key user)) users.now }
     requires key { HasKey kept.old.gpsk }
     requires plain { IsPlain packet.now.code packet.now.kind packet.now.body.now }
     requires size { length packet.now.body.now ≤ max_type_data }

@@ -3,7 +3,7 @@
 ghost use Rattle.std.specs.Prelude.{◌≡◌, ◌≤◌, length, All, IsTrue, None, Some, Ok};
 ghost use Rattle.std.specs.Option.{option_or};
 ghost use Rattle.std.specs.Result.{result_ok};
-ghost use Rattle.login_setup.specs.Setup.{is_valid_for};
+ghost use Rattle.login_setup.specs.Setup.{has_valid_key};
 ghost use Rattle.octet_lists.specs.Suite.{ks_of};
 ghost use Rattle.octet_lists.specs.Sizes.{max_name};
 ghost use Rattle.gpsk_messages.specs.Message.{message_of, spelled, IsGpsk};
@@ -55,7 +55,7 @@ fn is_tagged(login: &GpskLogin, view: &GpskMessage, body: &[u8]) -> bool
 /// The login of the user whom GPSK-2 names, or None if there is no such user.
 #[tactic(auto, unfolding(crate::specs::Gpsk::gpsk_login_in, crate::specs::Gpsk::gpsk_login_of), using(crate::proofs::GpskLaws::key_is_long))]
 fn login_in(users: &Users, gpsk2: &Gpsk2) -> Option<GpskLogin>
-    requires keys { All (λ user. IsTrue (is_valid_for user.kind user.psk)) users.now }
+    requires keys { All (λ user. IsTrue (has_valid_key user)) users.now }
     requires peer_name { length gpsk2.now.id_p.now ≤ max_name }
     requires server_name { length gpsk2.now.id_s.now ≤ max_name }
     ensures login { result ≡ gpsk_login_in users.now gpsk2.now.id_p.now gpsk2.now.id_s.now
@@ -114,7 +114,7 @@ fn follow(login: &Option<GpskLogin>, view: &GpskMessage, body: &[u8]) -> Finding
 /// The finding of a message, which the Type-Data encodes. A login that it begins is kept.
 #[tactic(auto, unfolding(crate::specs::Gpsk::gpsk_starts))]
 fn judge(login: &mut Option<GpskLogin>, users: &Users, view: &GpskMessage, body: &[u8]) -> Finding
-    requires keys { All (λ user. IsTrue (is_valid_for user.kind user.psk)) users.now }
+    requires keys { All (λ user. IsTrue (has_valid_key user)) users.now }
     requires key { HasKey login.old }
     requires read { IsGpsk None (message_of view.now) body.now }
     ensures finding { result ≡ gpsk_tag_finding users.now login.old (message_of view.now) }
@@ -142,7 +142,7 @@ pub fn judge_body(
     to_peer: bool,
     body: &[u8],
 ) -> Finding
-    requires keys { All (λ user. IsTrue (is_valid_for user.kind user.psk)) users.now }
+    requires keys { All (λ user. IsTrue (has_valid_key user)) users.now }
     requires key { HasKey login.old }
     ensures finding { result ≡ gpsk_finding users.now login.old (gpsk_read to_peer body.now) }
     ensures stored { login.new

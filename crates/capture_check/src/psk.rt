@@ -2,7 +2,7 @@
 
 ghost use Rattle.std.specs.Prelude.{◌≡◌, length, All, IsTrue, Some, Ok};
 ghost use Rattle.std.specs.Option.{option_or};
-ghost use Rattle.login_setup.specs.Setup.{is_valid_for};
+ghost use Rattle.login_setup.specs.Setup.{has_valid_key};
 ghost use Rattle.login_keys.specs.Psk.{psk_long_of};
 ghost use Rattle.psk_messages.specs.Message.{message_of, AreFields};
 ghost use Rattle.eap_method.specs.PskTags.{header_of, is_sealed};
@@ -101,7 +101,7 @@ fn start_psk_login(user: &User, psk1: &StoredPsk1, psk2: &Psk2) -> Result<PskLog
 /// wrong.
 #[tactic(auto, unfolding(crate::specs::Psk::psk_starts), using(crate::proofs::PskLaws::key_is_short))]
 fn begin(users: &Users, psk1: &Option<StoredPsk1>, psk2: &Psk2) -> Result<PskLogin, Finding>
-    requires keys { All (λ user. IsTrue (is_valid_for user.kind user.psk)) users.now }
+    requires keys { All (λ user. IsTrue (has_valid_key user)) users.now }
     ensures { result ≡ psk_starts users.now psk1.now
         psk2.now.rand_s psk2.now.rand_p psk2.now.mac psk2.now.id_p.now }
 {
@@ -174,7 +174,7 @@ fn follow4(login: &Option<PskLogin>, header: &[u8], psk4: &Psk4) -> Finding
 /// The finding of a message in a packet with this header. A PSK-1, and a login that PSK-2 begins, are
 /// kept.
 fn judge(kept: &mut PskContext, users: &Users, header: &[u8], view: &PskMessage) -> Finding
-    requires keys { All (λ user. IsTrue (is_valid_for user.kind user.psk)) users.now }
+    requires keys { All (λ user. IsTrue (has_valid_key user)) users.now }
     requires fields { AreFields (message_of view.now) }
     ensures finding { result ≡ psk_tag_finding users.now kept.old header.now (message_of view.now) }
     ensures first { kept.new.psk1 ≡ option_or (psk1_of (Ok (message_of view.now))) kept.old.psk1 }
@@ -218,7 +218,7 @@ pub fn judge_body(
     octets: &[u8],
     body: &[u8],
 ) -> Finding
-    requires keys { All (λ user. IsTrue (is_valid_for user.kind user.psk)) users.now }
+    requires keys { All (λ user. IsTrue (has_valid_key user)) users.now }
     ensures finding { result
         ≡ psk_finding users.now kept.old octets.now (psk_read to_peer body.now) }
     ensures first { kept.new.psk1 ≡ option_or (psk1_of (psk_read to_peer body.now)) kept.old.psk1 }

@@ -5,7 +5,7 @@ use Rattle.std.proofs.Common.{codes, Some, None, All, IsTrue, refl, sym, arith, 
 use Rattle.std.proofs.lemmas.Bool.{and_parts, leb-true, ne_eqb}
 use Rattle.std.specs.Prelude.{nat_le}
 use Rattle.std.specs.Str.{bytes_eq}
-use Rattle.login_setup.specs.Setup.{is_valid_for}
+use Rattle.login_setup.specs.Setup.{has_valid_key}
 use Rattle.login_setup.specs.declared.users.User.{User}
 use Rattle.text_tables.specs.UserWords.{is_visible, users_named, read_as}
 use Rattle.text_tables.proofs.NamedUsers.{IsNamed, all_named}
@@ -42,5 +42,5 @@ pcap_names words users e = record {
 }
 
 pub pcap_keys : (words : List (List ℕ)) (users : List User) → read_as true users ≡ pcap_users words
-    → All (λ user. IsTrue (is_valid_for user.kind user.psk)) users
+    → All (λ user. IsTrue (has_valid_key user)) users
 pcap_keys words users e = λ k d below. (pcap_named words users (sym e) k d below).key

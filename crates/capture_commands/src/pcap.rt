@@ -2,7 +2,7 @@
 
 ghost use Rattle.std.specs.Prelude.{◌≡◌, ◌<◌, ◌^◌, ℕ, List, Option, [], map, string_bytes, All};
 ghost use Rattle.std.specs.Prelude.{IsTrue};
-ghost use Rattle.login_setup.specs.Setup.{is_valid_for};
+ghost use Rattle.login_setup.specs.Setup.{has_valid_key};
 ghost use Rattle.eapol_capture.specs.Frames.{contents_of};
 ghost use Rattle.eapol_capture.specs.Reading.{Exhausts};
 ghost use Rattle.text_tables.specs.UserWords.{read_as};
@@ -80,7 +80,7 @@ impl PcapTotals {
         number: u32,
         frame: &[u8],
     ) -> Result<(), Failed>
-        requires keys { All (λ user. IsTrue (is_valid_for user.kind user.psk)) users.now }
+        requires keys { All (λ user. IsTrue (has_valid_key user)) users.now }
         requires packets { self.old.packets < 2 ^ 31 }
         requires findings { self.old.findings < 2 ^ 31 }
         ensures appends { Appends W.shown result sink.old sink.new
@@ -221,7 +221,7 @@ fn write_refused_record<W: Sink>(sink: &mut W, number: u32, word: &str) -> Resul
 /// The status is `Findings` if the file was read to its end and a packet is malformed, has a bad tag or is
 /// cut.
 pub fn judge_file<S: Source, W: Sink>(users: &Users, source: &mut S, sink: &mut W) -> Status
-    requires { All (λ user. IsTrue (is_valid_for user.kind user.psk)) users.now }
+    requires { All (λ user. IsTrue (has_valid_key user)) users.now }
     ensures { Responds S.shown W.shown
         (reading (pcap_answer users.now) never) result source.old source.new sink.old sink.new }
 {

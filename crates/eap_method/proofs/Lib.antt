@@ -26,6 +26,8 @@ pub mod ServerObjects
 -- The views of a server by method: each is put and found by its Type, and decides the offer, the
 -- turn and the report.
 pub mod ServerViews
+-- A tag's record is the same as itself, and records that are the same are under the same keys.
+pub mod TagRecords
 -- The objects of the methods that an end doesn't name stay, whichever of the others begins or has a
 -- turn.
 pub mod Unnamed

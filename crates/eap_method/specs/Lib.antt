@@ -12,6 +12,7 @@ pub mod PskPeer
 pub mod PskServer
 pub mod PskTags
 pub mod Capacity
+pub mod Reports
 pub mod Server
 pub mod ServerTurn
 pub mod Steps

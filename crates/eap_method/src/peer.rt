@@ -1,4 +1,4 @@
-//! A peer's method: the trait that an object of EAP-PSK or EAP-GPSK meets.
+//! A peer's method: the trait that an object of EAP-PSK, of EAP-GPSK or of a maker's method meets.
 
 ghost use Rattle.std.specs.Prelude.{◌≡◌, true, IsTrue};
 ghost use Rattle.login_setup.specs.Setup.{is_valid_for};

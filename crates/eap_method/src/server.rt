@@ -1,7 +1,7 @@
-//! A server's method: the trait that an object of EAP-PSK or EAP-GPSK meets.
+//! A server's method: the trait that an object of EAP-PSK, of EAP-GPSK or of a maker's method meets.
 
 ghost use Rattle.std.specs.Prelude.{◌≡◌, ◌≤◌, length, true, IsTrue, All};
-ghost use Rattle.login_setup.specs.Setup.{is_valid_for, are_suites};
+ghost use Rattle.login_setup.specs.Setup.{has_valid_key, are_suites};
 ghost use Rattle.login_setup.specs.Users.{AreDistinct, max_users};
 ghost use Rattle.eap_method.specs.Server.{server_kind, started_server, has_initiated};
 ghost use Rattle.eap_method.specs.Server.{server_first_step, server_step, server_report};
@@ -58,7 +58,7 @@ pub trait ServerMethod: Drop {
     /// octets for EAP-PSK, 32 to 64 for EAP-GPSK.
     fn handle(&mut self, response: &[u8], next_id: u8, users: &Users) -> ServerTurn
         requires response { IsResponse (server_kind (server_shown self.old)) response.now }
-        requires keys { All (λ user. IsTrue (is_valid_for user.kind user.psk)) users.now }
+        requires keys { All (λ user. IsTrue (has_valid_key user)) users.now }
         ensures turn { server_step users.now next_id (server_shown self.old) response.now
             ≡ record { turn = server_turn_of result; after = server_shown self.new } }
         ensures capacity { ServerTurnHasCapacity result };
@@ -75,7 +75,7 @@ pub trait ServerMethod: Drop {
         tags: &mut Tags,
     ) -> ServerAnswer
         requires response { IsResponse (server_kind (server_shown self.old)) response.now }
-        requires keys { All (λ user. IsTrue (is_valid_for user.kind user.psk)) users.now }
+        requires keys { All (λ user. IsTrue (has_valid_key user)) users.now }
         requires distinct { AreDistinct users.now }
         requires few { length users.now ≤ max_users }
         ensures turn { server_step users.now next_id (server_shown self.old) response.now
@@ -100,7 +100,7 @@ pub trait ServerMethod: Drop {
         tags: &mut Tags<NoRecords>,
     ) -> ServerAnswer
         requires response { IsResponse (server_kind (server_shown self.old)) response.now }
-        requires keys { All (λ user. IsTrue (is_valid_for user.kind user.psk)) users.now }
+        requires keys { All (λ user. IsTrue (has_valid_key user)) users.now }
         requires distinct { AreDistinct users.now }
         requires few { length users.now ≤ max_users }
         ensures turn { server_step users.now next_id (server_shown self.old) response.now

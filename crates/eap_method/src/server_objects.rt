@@ -4,7 +4,7 @@ ghost use Rattle.std.specs.Prelude.{◌≡◌, ◌≤◌, ◌==◌, length, ℕ,
 ghost use Rattle.std.specs.Prelude.{option_copied, option_map, IsTrue, All, Some, None};
 ghost use Rattle.std.specs.Prelude.{if◌then◌else◌};
 ghost use Rattle.octet_lists.specs.Among.{is_among};
-ghost use Rattle.login_setup.specs.Setup.{is_valid_for, are_suites};
+ghost use Rattle.login_setup.specs.Setup.{has_valid_key, are_suites};
 ghost use Rattle.login_setup.specs.Users.{AreDistinct, max_users};
 ghost use Rattle.eap_method.specs.Capacity.{HasCapacity, requests};
 ghost use Rattle.eap_method.specs.ServerTurn.{server_turn_with, server_tags};
@@ -95,7 +95,7 @@ pub fn call_server_method<M: ServerMethod, R: Turns>(
     tags: &mut Tags<R>,
 ) -> ServerAnswer
     requires response { IsResponse kind response.now }
-    requires keys { All (λ user. IsTrue (is_valid_for user.kind user.psk)) users.now }
+    requires keys { All (λ user. IsTrue (has_valid_key user)) users.now }
     requires distinct { AreDistinct users.now }
     requires few { length users.now ≤ max_users }
     ensures turn { (order : List ℕ) → is_among order kind ≡ true

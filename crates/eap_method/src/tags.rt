@@ -3,14 +3,14 @@
 ghost use Rattle.std.specs.Prelude.{◌≡◌, ◌≤◌, ◌<◌, ◌+◌, ◌↔◌, [], ◌∷◌, ◌++◌, length, map, IsTrue};
 ghost use Rattle.std.specs.List.{concat};
 ghost use Rattle.octet_lists.specs.Sizes.{max_packet};
-ghost use Rattle.eap_method.specs.Tags.{no_tags};
+ghost use Rattle.eap_method.specs.Tags.{no_tags, same_tag, is_under};
 
 use crate::note::Note;
 use crate::records::{Records, TwoRecords};
 use octet_lists::{Octets, Packet, Secret};
 use std::marker::Model;
 
-/// Under which of a method's keys a tag is made.
+/// Under which of a method's keys a tag is made. A maker's method takes those that it needs.
 #[derive(Clone, Copy, PartialEq, Eq, Debug, Default)]
 pub enum Label {
     /// AK: MAC_P and MAC_S of EAP-PSK (RFC 4764 section 3.2).
@@ -25,7 +25,7 @@ pub enum Label {
 /// A tag, with the octets that it covers and the shared key from which its key comes.
 #[derive(Drop, Default)]
 pub struct TagRecord {
-    /// The method: 47 (EAP-PSK) or 51 (EAP-GPSK).
+    /// The method's Type: 47 (EAP-PSK), 51 (EAP-GPSK), or that of a maker's method.
     pub method: u8,
     pub label: Label,
     /// The end's shared key.
@@ -48,6 +48,35 @@ impl TagRecord {
             octets: self.octets.copy(),
             tag: self.tag.copy(),
         }
+    }
+
+    /// Writes an equal record in place of what was there.
+    pub fn set(&mut self, other: &TagRecord)
+        ensures { self.new ≡ other.now }
+    {
+        self.method = other.method;
+        self.label = other.label;
+        self.psk.set(other.psk.as_slice());
+        self.octets.set(other.octets.as_slice());
+        self.tag.set(other.tag.as_slice());
+    }
+
+    /// Whether both records are equal.
+    pub fn is_same(&self, other: &TagRecord) -> bool
+        ensures { result ≡ same_tag self.now other.now }
+    {
+        self.method == other.method
+            && self.label == other.label
+            && self.psk.as_slice() == other.psk.as_slice()
+            && self.octets.as_slice() == other.octets.as_slice()
+            && self.tag.as_slice() == other.tag.as_slice()
+    }
+
+    /// Whether the tag is under this shared key.
+    pub fn is_under(&self, key: &[u8]) -> bool
+        ensures { result ≡ is_under key.now self.now }
+    {
+        self.psk.as_slice() == key
     }
 
     /// Writes this record in place of what was there.

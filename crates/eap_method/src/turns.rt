@@ -1,7 +1,7 @@
 //! The call of an object of a method, with room for the records of its tags or none.
 
 ghost use Rattle.std.specs.Prelude.{◌≡◌, ◌≤◌, length, true, IsTrue, All};
-ghost use Rattle.login_setup.specs.Setup.{is_valid_for};
+ghost use Rattle.login_setup.specs.Setup.{has_valid_key};
 ghost use Rattle.login_setup.specs.Users.{AreDistinct, max_users};
 ghost use Rattle.eap_method.specs.Capacity.{HasCapacity, replies, requests};
 ghost use Rattle.eap_method.specs.Peer.{peer_kind, peer_step, IsRequest};
@@ -50,7 +50,7 @@ pub trait Turns: Records {
     where
         Self: Sized,
         requires response { IsResponse (server_kind (M.server_shown method.old)) response.now }
-        requires keys { All (λ user. IsTrue (is_valid_for user.kind user.psk)) users.now }
+        requires keys { All (λ user. IsTrue (has_valid_key user)) users.now }
         requires distinct { AreDistinct users.now }
         requires few { length users.now ≤ max_users }
         ensures turn { server_step users.now next_id (M.server_shown method.old) response.now

@@ -1,11 +1,12 @@
 //! What an end brings into a method, and what it has after the method.
 
 ghost use Rattle.std.specs.Prelude.{◌≡◌};
+ghost use Rattle.eap_method.specs.Reports.{allows_suite};
 
 use crate::peer::PeerMethod;
 use crate::server::ServerMethod;
 use login_setup::Accepts;
-use octet_lists::{Identity, Secret, Suites};
+use octet_lists::{GPSK_KIND, Identity, Secret, Suites, is_among};
 
 /// methodState of the peer (RFC 4137 section 4.2); `NotSet` is NONE.
 #[derive(Clone, Copy, PartialEq, Eq, Debug)]
@@ -107,6 +108,14 @@ impl Report {
             msk: self.msk,
             emsk: self.emsk,
         }
+    }
+
+    /// Whether the suite is among these, which are 1 or 2 (RFC 5433 section 6); true for a method
+    /// other than EAP-GPSK, which has none.
+    pub fn has_allowed_suite(&self, suites: &[u8]) -> bool
+        ensures { result ≡ allows_suite suites.now self.now }
+    {
+        self.method != GPSK_KIND || is_among(suites, self.suite)
     }
 }
 

@@ -12,7 +12,8 @@ use Rattle.tag_book.specs.declared.book.End.TheVariants as end
 use Rattle.eap_world.specs.declared.conversations.ConversationStart.{ConversationStart}
 use Rattle.eap_world.specs.declared.conversations.Waiting.{Waiting}
 
--- the first sixteen octets of a nonce, of which EAP-PSK takes its own (RFC 4764 section 3.2)
+-- the first sixteen octets of a nonce: all that a method takes of it whose random numbers have
+-- sixteen octets (RFC 4764 section 3.2)
 abbrev pub front : List ℕ → List ℕ
 front nonce = take 16 nonce
 

@@ -1,15 +1,16 @@
 -- Whether both ends agree: in method, identities, suite and keys, which both policies allow.
-use Rattle.std.specs.Prelude.{ℕ, List, Bool, true, false, ◌==◌, ◌&&◌, ◌||◌, not, if◌then◌else◌}
+use Rattle.std.specs.Prelude.{Bool, true, false, ◌==◌, ◌&&◌, not, if◌then◌else◌}
 use Rattle.std.specs.Prelude.{Option, Some, None}
 use Rattle.std.specs.Str.{bytes_eq}
 use Rattle.login_setup.specs.declared.setup.PeerSetup.{PeerSetup}
 use Rattle.login_setup.specs.Setup.{ServerSetup}
 use Rattle.login_setup.specs.declared.users.User.{User}
-use Rattle.octet_lists.specs.Among.{gpsk_kind, is_among}
+use Rattle.octet_lists.specs.Among.{is_among}
 use Rattle.login_setup.specs.Setup.{accepts_name}
 use Rattle.login_setup.specs.Users.{user_of}
 use Rattle.eap_packet.specs.declared.state.State.{State}
 use Rattle.eap_packet.specs.declared.state.State.TheVariants as state
+use Rattle.eap_method.specs.Reports.{allows_suite}
 use Rattle.eap_method.specs.declared.values.Report.{Report}
 use Rattle.peer_machine.specs.PeerTable.{peer_reports}
 use Rattle.server_machine.specs.ServerTable.{server_reports}
@@ -24,10 +25,6 @@ same_report one other =
     && (bytes_eq one.id_p other.id_p && (bytes_eq one.id_s other.id_s
     && ((one.suite
     == other.suite) && (bytes_eq one.msk other.msk && bytes_eq one.emsk other.emsk))))
-
--- for EAP-GPSK the suite is among those allowed
-abbrev pub allows_suite : List ℕ → Report → Bool
-allows_suite suites report = not (report.method == gpsk_kind) || is_among suites report.suite
 
 -- the peer's policy allows the method, the server's name and the suite
 abbrev pub peer_agrees : PeerSetup → Report → Bool

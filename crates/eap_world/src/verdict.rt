@@ -2,12 +2,12 @@
 
 ghost use Rattle.std.specs.Prelude.{◌≡◌};
 ghost use Rattle.login_setup.specs.Users.{user_of};
-ghost use Rattle.eap_world.specs.Judgement.{same_report, allows_suite, peer_agrees, server_agrees};
+ghost use Rattle.eap_world.specs.Judgement.{same_report, peer_agrees, server_agrees};
 ghost use Rattle.eap_world.specs.Judgement.{agree, agreement_of, is_welcome};
 
 use eap_method::Report;
 use login_setup::{PeerSetup, ServerSetup};
-use octet_lists::{GPSK_KIND, is_among};
+use octet_lists::is_among;
 
 /// The verdict on a login.
 #[derive(Clone, Copy, PartialEq, Eq, Debug)]
@@ -64,7 +64,7 @@ fn peer_agrees(setup: &PeerSetup, report: &Report) -> bool
 {
     is_among(setup.methods.as_slice(), report.method)
         && setup.accepts.allows(report.id_s.as_slice())
-        && allows_suite(setup.suites.as_slice(), report)
+        && report.has_allowed_suite(setup.suites.as_slice())
 }
 
 /// Whether the server's policy allows the method, the suite and the user.
@@ -72,7 +72,7 @@ fn server_agrees(setup: &ServerSetup, report: &Report) -> bool
     ensures { result ≡ server_agrees setup.now report.now }
 {
     is_among(setup.methods.as_slice(), report.method)
-        && allows_suite(setup.suites.as_slice(), report)
+        && report.has_allowed_suite(setup.suites.as_slice())
         && welcomes(setup, report)
 }
 
@@ -84,11 +84,4 @@ fn welcomes(setup: &ServerSetup, report: &Report) -> bool
         None => false,
         Some(user) => !user.barred,
     }
-}
-
-/// Whether the suite is allowed; EAP-PSK has none.
-fn allows_suite(suites: &[u8], report: &Report) -> bool
-    ensures { result ≡ allows_suite suites.now report.now }
-{
-    report.method != GPSK_KIND || is_among(suites, report.suite)
 }

@@ -460,7 +460,7 @@ impl<P: PeerMethod, S: ServerMethod> World<P, S> {
     }
 
     /// [`World::tags`] of the tags under the peer's key for a method alone, whatever other users of the server do: what the laws of
-    /// one user ask (`ends_agree_under_a_key` of the crate `world_laws`). It is Honest whenever [`World::tags`] is
+    /// one user ask (`ends_agree_under_a_key` of the crate `login_laws`). It is Honest whenever [`World::tags`] is
     /// (`honest_under_a_key`).
     pub fn tags_under(&self, kind: u8) -> TagsVerdict
         ensures { result ≡ tags_verdict (under (key_for self.now.peer.vars.setup kind) self.now.book) }
@@ -472,14 +472,15 @@ impl<P: PeerMethod, S: ServerMethod> World<P, S> {
         judge_tags_under(self.book.as_slice(), key, RecordOwner::Other)
     }
 
-    /// Whether both ends agree in their present conversations. The crate `world_laws` says what this is in every run of a setup
+    /// Whether both ends agree in their present conversations. The crate `login_laws` says what this is in every run of a setup
     /// whose ends are sound, with a key of the peer for each of its methods and nonces of 32 octets: never Apart if
     /// [`World::tags`] is Honest and no end has begun a second conversation or [`World::fresh`] is true, nor, if no end
     /// has begun a second one, if [`World::tags_either`] is Honest (`honest_ends_agree`, which says too that each then
     /// has the nonce of the other's present conversation if tags are Honest and nonces fresh). If both ends agree under
     /// these premises, what they report is their own: the names of their setups, a user of the server with the peer's
-    /// key, by EAP-GPSK the first suite of the server's that the peer allows (`honest_names_are_theirs`). Whatever it
-    /// is, the conversations of the run, past and present, match as `conversations_match` says.
+    /// key, and by a method with suites the first of the server's that the peer allows (`honest_names_are_theirs`).
+    /// Whatever it is, the conversations of the run, past and present, match as `conversations_match` says.
+    /// Of a maker's methods `methods_agree` of the crate `world_laws` speaks.
     #[tactic(auto, unfolding(crate::specs::Judgement::verdict_of))]
     pub fn result(&self) -> Verdict
         ensures value { result ≡ verdict_of (now_of P.peer_shown S.server_shown self.now) }

@@ -9,8 +9,8 @@ use Rattle.std.proofs.lemmas.List.Folds.{list_all-map}
 use Rattle.std.proofs.lemmas.List.Sums.{AllPass-from_list_all, list_all-from_AllPass}
 use Rattle.octet_lists.specs.Among.{psk_kind, gpsk_kind, is_kind, is_among, are_distinct, is_filled}
 use Rattle.octet_lists.specs.Sizes.{max_name}
-use Rattle.login_setup.specs.Setup.{are_kinds, are_suites, has_key, is_method_kind, is_valid_for}
-use Rattle.login_setup.specs.Setup.{HasKeys, IsSoundPeer, IsSoundServer}
+use Rattle.login_setup.specs.Setup.{are_kinds, are_suites, has_key, has_valid_key, is_method_kind}
+use Rattle.login_setup.specs.Setup.{is_valid_for, HasKeys, IsSoundPeer, IsSoundServer}
 use Rattle.login_setup.specs.declared.setup.PeerSetup.{PeerSetup}
 use Rattle.login_setup.specs.declared.users.User.{User}
 use Rattle.end_objects.specs.Settings.{SettingsValue, or_else, kind_if, keyed_kinds, named_kinds}
@@ -294,11 +294,10 @@ users_pass passes told each =
     (list_all-map passes (user_with told) (keyed_kinds told) ∙ each)
 
 pub users_have_keys : (told : SettingsValue) → IsSoundOther told
-    → All (λ user. IsTrue (is_valid_for user.kind user.psk)) (users_of told)
+    → All (λ user. IsTrue (has_valid_key user)) (users_of told)
 users_have_keys told other =
-    let has_key : User → Bool = λ user. is_valid_for user.kind user.psk in
-    AllPass-from_list_all has_key (users_of told)
-    (users_pass has_key told (keys_are_valid [] told other.keys))
+    AllPass-from_list_all has_valid_key (users_of told)
+    (users_pass has_valid_key told (keys_are_valid [] told other.keys))
 
 pub users_have_kinds : (told : SettingsValue)
     → All (λ user. IsTrue (is_kind user.kind)) (users_of told)
@@ -313,5 +312,5 @@ alone_is_sound told nonce none = let p = server_passes told none in record {
   methods = kinds_are_of_methods (kinds_of told) p.kinds;
   suites = p.suites;
   kinds = All-nil (λ (user : User). IsTrue (is_method_kind user.kind));
-  keys = All-nil (λ (user : User). IsTrue (is_valid_for user.kind user.psk));
+  keys = All-nil (λ (user : User). IsTrue (has_valid_key user));
 }

@@ -3,8 +3,8 @@
 ghost use Rattle.std.specs.Prelude.{◌≡◌, ◌≤◌, [], length, map, true, None, All, IsTrue};
 ghost use Rattle.octet_lists.specs.Among.{is_among, is_kind};
 ghost use Rattle.octet_lists.specs.Sizes.{max_name};
-ghost use Rattle.login_setup.specs.Setup.{are_kinds, is_valid_for, IsSoundPeer, HasKeys};
-ghost use Rattle.login_setup.specs.Setup.{IsSoundServer};
+ghost use Rattle.login_setup.specs.Setup.{are_kinds, has_valid_key, is_valid_for};
+ghost use Rattle.login_setup.specs.Setup.{IsSoundPeer, HasKeys, IsSoundServer};
 ghost use Rattle.end_objects.specs.Settings.{settings_of, or_else, numbers_of, keyed_kinds};
 ghost use Rattle.end_objects.specs.Settings.{named_kinds, kinds_of, first_kind, suites_of, key_for};
 ghost use Rattle.end_objects.specs.Settings.{key_or_none, accepts_of, peer_setup_of, user_with};
@@ -256,7 +256,7 @@ pub fn add_users(users: &mut OtherUsers, settings: &Settings)
     requires other { IsSoundOther (settings_of settings.now) }
     ensures computed { users.new ≡ users_of (settings_of settings.now) }
     ensures kinds { All (λ user. IsTrue (is_kind user.kind)) users.new }
-    ensures keys { All (λ user. IsTrue (is_valid_for user.kind user.psk)) users.new }
+    ensures keys { All (λ user. IsTrue (has_valid_key user)) users.new }
 {
     add_other(users, settings);
 }

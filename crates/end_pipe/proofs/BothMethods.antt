@@ -1,5 +1,5 @@
--- An end whose objects are of EAP-PSK and EAP-GPSK alone, one at least of each method that it
--- names, begins as over lines.
+-- An end whose objects are of the two methods alone that its text can name, one at least of each
+-- that it names, begins as over lines.
 use Rattle.std.proofs.Common.{◌≡◌, ℕ, List, true, false, ap, ◌∙◌}
 use Rattle.login_setup.specs.declared.setup.PeerSetup.{PeerSetup}
 use Rattle.login_setup.specs.Setup.{ServerSetup}

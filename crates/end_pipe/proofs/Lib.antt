@@ -7,6 +7,6 @@ pub mod EndValid
 mod Folding
 -- A stand-alone server that has started stays one, whatever comes to it.
 mod Serving
--- An end whose objects are of EAP-PSK and EAP-GPSK alone, one at least of each method that it
--- names, begins as over lines.
+-- An end whose objects are of the two methods alone that its text can name, one at least of each
+-- that it names, begins as over lines.
 pub mod BothMethods

@@ -8,7 +8,7 @@ use Rattle.std.proofs.lemmas.List.Elements.{All-head, All-tail}
 use Rattle.std.proofs.lemmas.Option.{same_Some}
 use Rattle.login_setup.specs.declared.users.User.{User}
 use Rattle.octet_lists.specs.Among.{gpsk_kind}
-use Rattle.login_setup.specs.Setup.{is_valid_for}
+use Rattle.login_setup.specs.Setup.{has_valid_key, is_valid_for}
 use Rattle.login_setup.specs.Users.{user_of, is_named}
 
 -- what is found stands here, or behind
@@ -35,9 +35,9 @@ long_key kind key e fits =
 
 -- a user of EAP-GPSK has a key of 32 octets or more
 pub key_is_long : (users : List User) (name : List ℕ) (user : User)
-    → All (λ user. IsTrue (is_valid_for user.kind user.psk)) users →
+    → All (λ user. IsTrue (has_valid_key user)) users →
     user_of users name gpsk_kind ≡ Some user → 32 ≤ length user.psk
 key_is_long users name user keys e =
     let h = found_satisfies (is_named name gpsk_kind)
-    (λ (u : User). IsTrue (is_valid_for u.kind u.psk)) users user keys e in
+    (λ (u : User). IsTrue (has_valid_key u)) users user keys e in
     long_key user.kind user.psk (eqb-true user.kind 51 (and_parts _ _ h.1).0) h.0

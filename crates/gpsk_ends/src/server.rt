@@ -82,7 +82,7 @@ impl GpskServer {
 impl GpskServer {
     ghost use Rattle.std.specs.Prelude.{true, IsTrue, All};
     ghost use Rattle.octet_lists.specs.Among.{gpsk_kind};
-    ghost use Rattle.login_setup.specs.Setup.{is_valid_for};
+    ghost use Rattle.login_setup.specs.Setup.{has_valid_key};
     ghost use Rattle.eap_method.specs.Capacity.{HasCapacity, requests};
     ghost use Rattle.eap_method.specs.Server.{gpsk, server_step, IsResponse};
     ghost use Rattle.eap_method.specs.ServerTurn.{server_turn_with, server_tags};
@@ -99,7 +99,7 @@ impl GpskServer {
         tags: &mut Tags<R>,
     ) -> ServerAnswer
         requires response { IsResponse gpsk_kind response.now }
-        requires keys { All (λ user. IsTrue (is_valid_for user.kind user.psk)) users.now }
+        requires keys { All (λ user. IsTrue (has_valid_key user)) users.now }
         ensures turn { server_step users.now next_id (gpsk self.old) response.now
             ≡ record { turn = server_turn_with result packet.new tags.new; after = gpsk self.new } }
         ensures tags { tags.new ≡ server_tags (server_turn_with result packet.new tags.new) }

@@ -2,9 +2,9 @@
 use Rattle.std.proofs.Common.{◌≡◌, Bool, true, false, ◌&&◌, cond, refl, sym, subst}
 use Rattle.peer_machine.specs.PeerTable.{PeerNow}
 use Rattle.server_machine.specs.ServerTable.{ServerNow}
-use Rattle.world_laws.proofs.HonestRuns.{honest_ends_agree}
-use Rattle.world_laws.proofs.Owner.{honest_names_are_theirs}
-use Rattle.world_laws.specs.Agreement.{AreTheirs}
+use Rattle.login_laws.proofs.HonestRuns.{honest_ends_agree}
+use Rattle.login_laws.proofs.Owner.{honest_names_are_theirs}
+use Rattle.login_laws.specs.Agreement.{AreTheirs}
 use Rattle.eap_world.specs.Judgement.{is_success, verdict_of}
 use Rattle.eap_world.specs.World.{WorldNow}
 use Rattle.eap_world.specs.declared.verdict.Verdict.TheVariants.{Agree, Apart, Unfinished}

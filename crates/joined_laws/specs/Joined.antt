@@ -12,7 +12,8 @@ use Rattle.login_setup.specs.declared.setup.Port.TheVariants as port
 use Rattle.login_setup.specs.declared.setup.Setup.{Setup}
 use Rattle.peer_machine.specs.PeerTable.{PeerNow, peer_reports}
 use Rattle.server_machine.specs.ServerTable.{ServerNow, server_reports}
-use Rattle.world_laws.specs.Agreement.{AreTheirs, IsWhole}
+use Rattle.login_laws.specs.Agreement.{AreTheirs}
+use Rattle.world_laws.specs.Whole.{IsWhole}
 use Rattle.tag_book.specs.Book.{entries_of, tags_verdict_either}
 use Rattle.eap_world.specs.Judgement.{is_success, agreement_of}
 use Rattle.tag_book.specs.declared.book.End.TheVariants as end

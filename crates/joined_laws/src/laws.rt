@@ -20,7 +20,7 @@ pub fn book_is_determined()
 /// them accepted was made earlier by either, as the world over the interleaving books them, and both are in SUCCESS,
 /// both report the same method, identities, suite, MSK and EMSK, which both policies allow. These are their own: ID_P
 /// is the peer's name and ID_S the server's, the server has a user of that name and method who isn't barred, with the
-/// peer's own PSK, and by EAP-GPSK the suite is the first of the server's list that the peer allows.
+/// peer's own key, and the suite, if the method has one, is the first of the server's list that the peer allows.
 pub fn joined_ends_agree()
     ensures { JoinedEndsAgree }
 {}

@@ -3,7 +3,7 @@ use Rattle.std.proofs.Common.{◌≡◌, ℕ, Bool, false, List, [], ◌∷◌, 
 use Rattle.std.proofs.Common.{refl, sym, ◌∙◌, arith, IsTrue}
 use Rattle.std.proofs.lemmas.Bool.{true≢false}
 use Rattle.std.proofs.lemmas.List.Elements.{All-from_recursion}
-use Rattle.login_setup.specs.Setup.{IsSoundPeer, HasKeys, IsSoundServer, is_valid_for}
+use Rattle.login_setup.specs.Setup.{IsSoundPeer, HasKeys, IsSoundServer, has_valid_key}
 use Rattle.login_setup.specs.Setup.{is_method_kind}
 use Rattle.login_setup.specs.declared.setup.Accepts.TheVariants.{Any}
 use Rattle.login_setup.specs.declared.setup.PeerSetup.{PeerSetup}
@@ -124,7 +124,7 @@ psk_and_gpsk = record {
   suites = refl;
   kinds = All-from_recursion (λ (it : User). IsTrue (is_method_kind it.kind)) (users 47 16 51 64)
       (refl, (refl, tt));
-  keys = All-from_recursion (λ (it : User). IsTrue (is_valid_for it.kind it.psk))
+  keys = All-from_recursion (λ (it : User). IsTrue (has_valid_key it))
       (users 47 16 51 64) (refl, (refl, tt));
 }
 
@@ -135,7 +135,7 @@ no_methods = record {
   suites = refl;
   kinds = All-from_recursion (λ (it : User). IsTrue (is_method_kind it.kind)) (users 51 32 51 33)
       (refl, (refl, tt));
-  keys = All-from_recursion (λ (it : User). IsTrue (is_valid_for it.kind it.psk))
+  keys = All-from_recursion (λ (it : User). IsTrue (has_valid_key it))
       (users 51 32 51 33) (refl, (refl, tt));
 }
 
@@ -146,7 +146,7 @@ other_methods = record {
   suites = refl;
   kinds = All-from_recursion (λ (it : User). IsTrue (is_method_kind it.kind)) (users 4 0 255 64)
       (refl, (refl, tt));
-  keys = All-from_recursion (λ (it : User). IsTrue (is_valid_for it.kind it.psk))
+  keys = All-from_recursion (λ (it : User). IsTrue (has_valid_key it))
       (users 4 0 255 64) (refl, (refl, tt));
 }
 

@@ -42,6 +42,10 @@ is_valid_for kind key =
     else if kind == gpsk_kind then nat_le 32 (length key) && nat_le (length key) 64
     else nat_le (length key) 64
 
+-- whether a user's key has the octets that its method requires
+abbrev pub has_valid_key : User → Bool
+has_valid_key user = is_valid_for user.kind user.psk
+
 -- whether the peer accepts a server of this name
 abbrev pub accepts_name : Accepts → List ℕ → Bool
 accepts_name Any name = true
@@ -70,7 +74,7 @@ pub record IsSoundServer (setup : ServerSetup) : Type 0 where
   pub methods : IsTrue (are_method_kinds setup.methods)
   pub suites : IsTrue (are_suites setup.suites)
   pub kinds : All (λ user. IsTrue (is_method_kind user.kind)) setup.users
-  pub keys : All (λ user. IsTrue (is_valid_for user.kind user.psk)) setup.users
+  pub keys : All (λ user. IsTrue (has_valid_key user)) setup.users
 
 -- whether a peer has the key that a method takes of its settings; one of a maker brings its own
 abbrev pub has_key : PeerSetup → ℕ → Bool

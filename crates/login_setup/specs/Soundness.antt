@@ -1,6 +1,6 @@
 -- Tests of a suite, a key and a user among the settings of an end.
 use Rattle.std.specs.Prelude.{ℕ, List, Bool, true, ◌==◌, ◌&&◌, ◌||◌, Option, Some, None}
-use Rattle.login_setup.specs.Setup.{is_method_kind, is_valid_for}
+use Rattle.login_setup.specs.Setup.{has_valid_key, is_method_kind, is_valid_for}
 use Rattle.login_setup.specs.declared.users.User.{User}
 
 -- whether a number is that of one of the two suites
@@ -14,4 +14,4 @@ is_sound_key kind (Some key) = is_valid_for kind key
 
 -- whether a user is of a method, and its key fits it
 abbrev pub is_sound_user : User → Bool
-is_sound_user user = is_method_kind user.kind && is_valid_for user.kind user.psk
+is_sound_user user = is_method_kind user.kind && has_valid_key user

@@ -39,7 +39,7 @@ pub mod OneMethod
 -- The peer by the method of a Type: what holds of the turns, the nonce and the tags of each method
 -- holds of a Type's.
 pub mod PeerByMethod
--- A peer's objects stay of EAP-PSK and EAP-GPSK, one of each method that it allows.
+-- A peer's objects stay of their methods; those of the two stay so.
 pub mod PeerObjects
 -- What is asked of a turn of a peer's method: each Response has the Identifier of the Request, and
 -- the view after it tells the tags.
@@ -59,7 +59,7 @@ pub mod PskServerTurns
 -- The server by the method of a Type: what holds of the turns, the offer, the nonce and the tags of
 -- each method holds of a Type's.
 pub mod ServerByMethod
--- A server's objects stay of EAP-PSK and EAP-GPSK, one of each method that it proposes.
+-- A server's objects stay of their methods; those of the two stay so.
 pub mod ServerObjects
 -- What is asked of a turn of a server's method: each Request has the next Identifier, and the view
 -- after it tells the tags.
@@ -118,3 +118,7 @@ pub mod AllowedSuites
 -- The tags of one conversation are under one key: those of a peer that has succeeded under its own
 -- for the method, those of a server that has succeeded under its user's.
 pub mod OneKey
+-- An end asks so of the other by either method; and an end in SUCCESS has accepted a tag.
+pub mod AsksByMethod
+-- Each Response of a peer's method is of the method's Type, which is neither Nak nor Expanded.
+pub mod PeerKinds

@@ -254,3 +254,10 @@ module _ (own : ServerSide) (nonce : List ℕ) (kind id : ℕ) (views : ServerVi
   offer_asks _ (by_gpsk same) packet e = let is : gpsk.first own nonce id ≡ packet = cc in
       subst (IsRequest id) is (gpsk_first own nonce id)
   offer_asks _ by_none packet e = cc e
+
+  -- it is of no Identity
+  pub offers_no_identity : (offer : Offer) → OfferOf own nonce kind id views offer
+      → (packet : List ℕ) → offer.packet ≡ Some packet → kind ≡ identity_kind → ⊥
+  offers_no_identity _ (by_psk same) packet e is = omega (arith, same, is)
+  offers_no_identity _ (by_gpsk same) packet e is = omega (arith, same, is)
+  offers_no_identity _ by_none packet e is = cc e

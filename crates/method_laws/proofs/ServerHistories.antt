@@ -15,7 +15,7 @@ use Rattle.eap_method.specs.ServerTurn as turn
 use Rattle.eap_method.specs.Tags.{Tags}
 use Rattle.eap_method.specs.Turns.{ServerOutcome}
 use Rattle.eap_method.proofs.ServerViews.{not_identity}
-use Rattle.method_laws.specs.Both.{ServerHasBoth}
+use Rattle.method_laws.specs.Objects.{ServerHasMethods}
 use Rattle.method_laws.specs.Records.{AreNone, untagged}
 use Rattle.method_laws.specs.ServerHistory.{ServerHistory, initiated, requested, ended, ServerHas}
 use Rattle.method_laws.specs.ServerHistory.{unproposed, identity_round, current_has}
@@ -26,25 +26,28 @@ use Rattle.method_laws.proofs.ServerObjects.{are_ordered, is_of_kind, offered_fo
 
 -- the offer of a method: its object then has begun and made its first Request, and the objects are
 -- as they were; without an object of it all views stay
-pub data Offers (setup : ServerSetup) (kind : ℕ) (views : ServerViews) : Offer → Type 0 where
-  asks : (packet : List ℕ) (after : ServerViews) (both : ServerHasBoth setup.methods after)
+pub data Offers (setup : ServerSetup) (first : ServerViews) (kind : ℕ) (views : ServerViews)
+    : Offer → Type 0 where
+  asks : (packet : List ℕ) (after : ServerViews)
+      (objects : ServerHasMethods setup.methods first after)
       (has : ServerHas setup (Some kind) after false [] [])
-      → Offers setup kind views (record { packet = Some packet; after = after })
-  lacks : Offers setup kind views (record { packet = None; after = views })
+      → Offers setup first kind views (record { packet = Some packet; after = after })
+  lacks : Offers setup first kind views (record { packet = None; after = views })
 
-module _ (setup : ServerSetup) (kind id : ℕ) (views : ServerViews)
-    (both : ServerHasBoth setup.methods views) where
+module _ (setup : ServerSetup) (kind id : ℕ) (first views : ServerViews)
+    (objects : ServerHasMethods setup.methods first views) where
   found_offers : (found : Option ServerShown) → views kind ≡ found
-      → Offers setup kind views (offered (side_of setup) setup.nonce kind id views found)
+      → Offers setup first kind views (offered (side_of setup) setup.nonce kind id views found)
   found_offers None is = lacks
   found_offers (Some s) is =
-      asks _ _ (offered_found both (side_of setup) setup.nonce kind id (Some s) is)
+      asks _ _ (offered_found objects (side_of setup) setup.nonce kind id (Some s) is)
       (current_has kind _ false [] [] refl
-      (ap (λ (k : ℕ). k == identity_kind) (sym (is_of_kind both kind s is)) ∙ not_identity s)
+      (ap (λ (k : ℕ). k == identity_kind) (sym (is_of_kind objects kind s is)) ∙ not_identity s)
       (cond-true _ _ _ (eq-eqb kind kind refl))
-      (initiated s id (are_ordered both kind s is)))
+      (initiated s id (are_ordered objects kind s is)))
 
-  pub offers_so : Offers setup kind views (server_offer (side_of setup) setup.nonce kind id views)
+  pub offers_so : Offers setup first kind views (server_offer
+      (side_of setup) setup.nonce kind id views)
   unfolding server_offer
   offers_so = found_offers (views kind) refl
 

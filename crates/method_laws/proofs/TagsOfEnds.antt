@@ -9,8 +9,8 @@ use Rattle.std.proofs.lemmas.Slice.Eq.{bytes_eq-Decides}
 use Rattle.eap_method.specs.declared.tags.Label.{Label}
 use Rattle.eap_method.specs.declared.tags.Label.TheVariants.{Ak, Tek, Sk}
 use Rattle.eap_method.specs.declared.tags.TagRecord.{TagRecord}
-use Rattle.eap_method.specs.Tags.{Tags}
-use Rattle.tag_book.specs.Book.{entry, entries_of, same_end, same_label, label_number, same_tag}
+use Rattle.eap_method.specs.Tags.{Tags, label_number, same_label, same_tag}
+use Rattle.tag_book.specs.Book.{entry, entries_of, same_end}
 use Rattle.tag_book.specs.Book.{is_accepted, vouches, is_honest, first_broken}
 use Rattle.tag_book.specs.declared.book.End.{End}
 use Rattle.tag_book.specs.declared.book.End.TheVariants.{Peer, Server}

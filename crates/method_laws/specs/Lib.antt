@@ -4,6 +4,7 @@ pub mod PskPeerRows
 pub mod PskServerRows
 pub mod GpskLogin
 pub mod PskLogin
+pub mod Objects
 pub mod Both
 pub mod PskPeerInvariant
 pub mod PskServerInvariant

@@ -12,7 +12,7 @@ use Rattle.peer_machine.specs.Expanded.{peer_receives}
 use Rattle.peer_machine.specs.PeerTable.{PeerNow, PeerAnswer, initial_peer, peer_deliver}
 use Rattle.peer_machine.specs.PeerTable.{peer_discard, peer_respond, peer_retransmit}
 
--- a peer that allows EAP-GPSK and EAP-PSK and is named "a"
+-- a peer that allows the methods of Types 51 and 47 and is named "a"
 abbrev peer : PeerSetup → PeerNow
 peer setup = initial_peer (record setup { name = 97 ∷ []; methods = 51 ∷ 47 ∷ [] }) (λ kind. None)
 

@@ -93,7 +93,7 @@ impl PskServer {
 impl PskServer {
     ghost use Rattle.std.specs.Prelude.{true, IsTrue, All};
     ghost use Rattle.octet_lists.specs.Among.{psk_kind};
-    ghost use Rattle.login_setup.specs.Setup.{is_valid_for};
+    ghost use Rattle.login_setup.specs.Setup.{has_valid_key};
     ghost use Rattle.eap_method.specs.Capacity.{HasCapacity, requests};
     ghost use Rattle.eap_method.specs.Server.{psk, server_step, IsResponse};
     ghost use Rattle.eap_method.specs.ServerTurn.{server_turn_with, server_tags};
@@ -110,7 +110,7 @@ impl PskServer {
         tags: &mut Tags<R>,
     ) -> ServerAnswer
         requires response { IsResponse psk_kind response.now }
-        requires keys { All (λ user. IsTrue (is_valid_for user.kind user.psk)) users.now }
+        requires keys { All (λ user. IsTrue (has_valid_key user)) users.now }
         ensures turn { server_step users.now next_id (psk self.old) response.now
             ≡ record { turn = server_turn_with result packet.new tags.new; after = psk self.new } }
         ensures tags { tags.new ≡ server_tags (server_turn_with result packet.new tags.new) }

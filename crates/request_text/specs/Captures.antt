@@ -2,7 +2,7 @@
 use Rattle.std.specs.Prelude.{◌≡◌, ℕ, List, [], ◌∷◌, length, nat_le, Bool, true, false}
 use Rattle.std.specs.Prelude.{if◌then◌else◌, codes, Option, Some, None, Result, is_some, IsTrue}
 use Rattle.std.specs.Str.{bytes_eq}
-use Rattle.login_setup.specs.Setup.{is_valid_for}
+use Rattle.login_setup.specs.Setup.{has_valid_key}
 use Rattle.login_setup.specs.Users.{user_of}
 use Rattle.login_setup.specs.declared.users.User.{User}
 use Rattle.text_tables.specs.Fields.{word_in, octets_of, kind_of}
@@ -116,7 +116,7 @@ finish_of c = phases.finish_of c.phase
 
 -- a user has a key of its method's size
 abbrev pub HasKey : CaptureEntry → Type 0
-HasKey (entry.User user) = IsTrue (is_valid_for user.kind user.psk)
+HasKey (entry.User user) = IsTrue (has_valid_key user)
 HasKey other = Unit {0}
 
 -- what a line says, but for the users

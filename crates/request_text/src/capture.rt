@@ -2,7 +2,7 @@
 //! `end`. After the header an empty line and one that begins with `#` are ignored.
 
 ghost use Rattle.std.specs.Prelude.{◌≡◌, [], All, IsTrue, IfOk, OnErr};
-ghost use Rattle.login_setup.specs.Setup.{is_valid_for};
+ghost use Rattle.login_setup.specs.Setup.{has_valid_key};
 ghost use Rattle.request_text.specs.Captures.{finish_of, item_kind, HasUsers};
 ghost use Rattle.request_text.specs.Captures as captures;
 ghost use Rattle.text_tables.specs.Texts.{line_result};
@@ -49,14 +49,14 @@ pub struct CaptureReader {
 
 impl Model for CaptureReader {
     ghost use Rattle.std.specs.Prelude.{All, IsTrue};
-    ghost use Rattle.login_setup.specs.Setup.{is_valid_for};
+    ghost use Rattle.login_setup.specs.Setup.{has_valid_key};
     ghost use Rattle.request_text.specs.Captures.{Capture};
 
     ghost Value = { Capture };
 
     ghost view = { λ r. record { phase = r.phase; users = r.users } };
 
-    ghost invariant = { λ r. All (λ user. IsTrue (is_valid_for user.kind user.psk)) r.users };
+    ghost invariant = { λ r. All (λ user. IsTrue (has_valid_key user)) r.users };
 }
 
 impl CaptureReader {
@@ -88,7 +88,7 @@ impl CaptureReader {
             ≡ line_result (λ item after none. item_kind item) result self.new (tt {0}) }
         ensures users { IfOk result (λ item. HasUsers item self.new.users) }
         ensures keys { IfOk result
-            (λ item. All (λ user. IsTrue (is_valid_for user.kind user.psk)) self.new.users) }
+            (λ item. All (λ user. IsTrue (has_valid_key user)) self.new.users) }
         ensures unchanged { OnErr result (self.new ≡ self.old) }
     {
         match self.line_into(line)? {
@@ -106,7 +106,7 @@ impl CaptureReader {
     /// to 64 for EAP-GPSK.
     pub fn users(&self) -> &Users
         ensures same { result.now ≡ self.now.users }
-        ensures keys { All (λ user. IsTrue (is_valid_for user.kind user.psk)) result.now }
+        ensures keys { All (λ user. IsTrue (has_valid_key user)) result.now }
     {
         &self.users
     }

@@ -11,7 +11,8 @@ use Rattle.std.proofs.lemmas.Slice.Eq.{bytes_eq-Decides}
 use Rattle.std.specs.Str.{bytes_eq}
 use Rattle.octet_lists.specs.Among.{psk_kind, gpsk_kind, is_kind}
 use Rattle.login_setup.proofs.Sound.{kind_is_of_method, kinds_are_of_methods}
-use Rattle.login_setup.specs.Setup.{are_kinds, are_suites, is_method_kind, is_valid_for, no_later}
+use Rattle.login_setup.specs.Setup.{are_kinds, are_suites, has_valid_key, is_method_kind}
+use Rattle.login_setup.specs.Setup.{is_valid_for, no_later}
 use Rattle.login_setup.specs.declared.event.Event.{Event}
 use Rattle.login_setup.specs.declared.setup.Accepts.TheVariants.{Any, One}
 use Rattle.login_setup.specs.declared.setup.PeerSetup.{PeerSetup}
@@ -302,7 +303,7 @@ valid_server version s later server h m =
             s.server_suites both_suites server.suites h.server_suites refl m.suites;
         kinds = All-weaker IsValidUser (λ user. IsTrue (is_method_kind user.kind))
             (λ user v. kind_is_of_method user.kind v.kind) server.users users;
-        keys = All-weaker IsValidUser (λ user. IsTrue (is_valid_for user.kind user.psk))
+        keys = All-weaker IsValidUser (λ user. IsTrue (has_valid_key user))
             (λ user v. v.psk) server.users users;
       };
       name = held IsName s.server_name server.name h.server_name m.name;

@@ -2,8 +2,8 @@
 use Rattle.std.specs.Prelude.{◌≡◌, ◌==◌, false, ◌≤◌, ◌<◌, length, IfSome, IsTrue, All, Option, ℕ}
 use Rattle.std.specs.Prelude.{List}
 use Rattle.octet_lists.specs.Among.{psk_kind, gpsk_kind, is_kind}
-use Rattle.login_setup.specs.Setup.{are_kinds, are_suites, is_valid_for, no_later, IsSoundPeer}
-use Rattle.login_setup.specs.Setup.{IsSoundServer, HasKeys}
+use Rattle.login_setup.specs.Setup.{are_kinds, are_suites, has_valid_key, is_valid_for, no_later}
+use Rattle.login_setup.specs.Setup.{IsSoundPeer, IsSoundServer, HasKeys}
 use Rattle.login_setup.specs.Users.{AreDistinct, max_users}
 use Rattle.login_setup.specs.declared.users.User.{User}
 use Rattle.login_setup.specs.declared.setup.Accepts.{Accepts}
@@ -35,7 +35,7 @@ AcceptsName (One name) = IsName name
 pub record IsValidUser (user : User) : Type 0 where
   pub name : IsName user.name
   pub kind : IsTrue (is_kind user.kind)
-  pub psk : IsTrue (is_valid_for user.kind user.psk)
+  pub psk : IsTrue (has_valid_key user)
 
 abbrev pub IsNonce : List ℕ → Type 0
 IsNonce nonce = length nonce ≡ 32

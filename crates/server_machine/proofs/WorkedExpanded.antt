@@ -27,7 +27,7 @@ nak_with list = 0 ∷ 0 ∷ 0 ∷ 0 ∷ 0 ∷ 0 ∷ 3 ∷ list
 abbrev entry : ℕ → List ℕ
 entry kind = 254 ∷ 0 ∷ 0 ∷ 0 ∷ 0 ∷ 0 ∷ 0 ∷ kind ∷ []
 
--- the Nak of a list that names EAP-PSK
+-- the Nak of a list that names the method of Type 47
 nak_of_one : (id : ℕ) → nak_octets id (nak_with (entry 47)) ≡ 2 ∷ id ∷ 0 ∷ 6 ∷ 3 ∷ 47 ∷ []
 unfolding spelled nak_of kinds_in
 nak_of_one id = refl

@@ -12,7 +12,7 @@
 //! timer.
 
 ghost use Rattle.std.specs.Prelude.{◌≡◌, ◌↔◌, [], ◌∷◌, ◌++◌, map, true, option_map, All, IsTrue};
-ghost use Rattle.login_setup.specs.Setup.{IsSoundServer, is_method_kind, is_valid_for};
+ghost use Rattle.login_setup.specs.Setup.{IsSoundServer, is_method_kind, has_valid_key};
 ghost use Rattle.login_setup.specs.Users as users;
 ghost use Rattle.eap_method.specs.Peer.{have_each};
 ghost use Rattle.eap_method.specs.Server.{server_kinds, server_views};
@@ -190,7 +190,7 @@ impl<M: ServerMethod, const N: usize> SizedBackend<M, N> {
     /// (RFC 3748 section 5: Type 4 to 253, or 255), and has a key of the size that it requires.
     pub fn set_users(&mut self, users: UserList<N>)
         requires kinds { All (λ user. IsTrue (is_method_kind user.kind)) users }
-        requires keys { All (λ user. IsTrue (is_valid_for user.kind user.psk)) users }
+        requires keys { All (λ user. IsTrue (has_valid_key user)) users }
         ensures { self.new ≡ with_users self.old users.entry }
     {
         self.machine.set_users(users)
@@ -200,7 +200,7 @@ impl<M: ServerMethod, const N: usize> SizedBackend<M, N> {
     pub fn add_user(&mut self, user: User)
         requires capacity { users.HasCapacity N self.old.vars.setup.users user }
         requires kind { is_method_kind user.kind ≡ true }
-        requires key { is_valid_for user.kind user.psk ≡ true }
+        requires key { has_valid_key user ≡ true }
         ensures { self.new ≡ with_users self.old (self.old.vars.setup.users ++ user ∷ []) }
     {
         self.machine.add_user(user)

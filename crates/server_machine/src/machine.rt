@@ -22,7 +22,7 @@ ghost use Rattle.std.specs.Prelude.{◌≡◌, ◌≤◌, ◌↔◌, [], ◌∷�
 ghost use Rattle.std.specs.Prelude.{None, Ok, option_copied, option_map, All, IsTrue};
 ghost use Rattle.std.specs.Prelude.{if◌then◌else◌};
 ghost use Rattle.octet_lists.specs.Among.{is_among};
-ghost use Rattle.login_setup.specs.Setup.{IsSoundServer, are_suites, is_method_kind, is_valid_for};
+ghost use Rattle.login_setup.specs.Setup.{IsSoundServer, are_suites, is_method_kind, has_valid_key};
 ghost use Rattle.login_setup.specs.Users as users;
 ghost use Rattle.eap_packet.specs.Packet.{spelled, value_of, IsPacket, max_type_data};
 ghost use Rattle.eap_packet.specs.Packet as packets;
@@ -481,7 +481,7 @@ impl<M: ServerMethod, const N: usize> SizedServer<M, N> {
     #[tactic(auto, using(crate::proofs::Restarting::sound_with_users))]
     pub fn set_users(&mut self, users: UserList<N>)
         requires kinds { All (λ user. IsTrue (is_method_kind user.kind)) users }
-        requires keys { All (λ user. IsTrue (is_valid_for user.kind user.psk)) users }
+        requires keys { All (λ user. IsTrue (has_valid_key user)) users }
         ensures { self.new ≡ with_users self.old users.entry }
     {
         self.vars.setup.users = users;
@@ -493,7 +493,7 @@ impl<M: ServerMethod, const N: usize> SizedServer<M, N> {
     pub fn add_user(&mut self, user: User)
         requires capacity { users.HasCapacity N self.old.vars.setup.users user }
         requires kind { is_method_kind user.kind ≡ true }
-        requires key { is_valid_for user.kind user.psk ≡ true }
+        requires key { has_valid_key user ≡ true }
         ensures { self.new ≡ with_users self.old (self.old.vars.setup.users ++ user ∷ []) }
     {
         self.vars.setup.users.add(user);
@@ -713,7 +713,7 @@ fn turn_of<M: ServerMethod, R: Turns, const N: usize>(
 ) -> ServerAnswer
     requires response { IsResponse kind response.now }
     requires ordered { is_among vars.now.setup.methods kind ≡ true }
-    requires keys { All (λ user. IsTrue (is_valid_for user.kind user.psk)) vars.now.setup.users }
+    requires keys { All (λ user. IsTrue (has_valid_key user)) vars.now.setup.users }
     ensures turn { server_turn vars.now.setup.users (next_id vars.now) kind
         (server_views vars.now.setup.methods (map M.server_shown methods.old.items)) response.now
         ≡ record {

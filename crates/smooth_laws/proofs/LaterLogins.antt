@@ -5,7 +5,7 @@ use Rattle.login_setup.specs.declared.event.Event.{Event}
 use Rattle.login_setup.specs.declared.setup.Setup.{Setup}
 use Rattle.peer_machine.proofs.Restarting as peers
 use Rattle.server_machine.proofs.Restarting as servers
-use Rattle.world_laws.specs.Agreement.{IsWhole}
+use Rattle.world_laws.specs.Whole.{IsWhole}
 use Rattle.tag_book.specs.Book.{tags_verdict}
 use Rattle.eap_world.specs.World.{WorldNow, run_after, world_start, world_step}
 use Rattle.eap_world.specs.declared.conversations.Waiting.{Waiting}

@@ -24,7 +24,7 @@ use Rattle.eap_method.specs.Server as servers
 use Rattle.eap_method.specs.Server.{ServerShown, ServerViews, put, server_kind, server_started_in}
 use Rattle.eap_method.specs.Server.{side_of, started_server}
 use Rattle.eap_method.proofs.ServerViews.{begins}
-use Rattle.world_laws.specs.Agreement.{IsWhole}
+use Rattle.world_laws.specs.Whole.{IsWhole}
 use Rattle.world_laws.specs.Runs.{server_views_started}
 use Rattle.smooth_laws.specs.Smooth.{HasShortNames}
 use Rattle.smooth_laws.proofs.Carried.{IsMethod}

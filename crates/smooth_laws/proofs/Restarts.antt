@@ -746,8 +746,8 @@ restarts_start_anew setup events restarts whole next order =
     w.parties.peer.views) p.own
     ∙ ap (λ (views : PeerViews). (let made : PeerNow = record (initial_peer own) {
       views = views;
-    } in made)) (peer_starts_again own w.parties.peer.views p.both))
+    } in made)) (peer_starts_again own w.parties.peer.views p.objects))
     (ap (λ (s : ServerSetup). servers.setup_with_nonce s next.server.nonce) s.own)
     (server_starts_again (servers.setup_with_nonce setup.server next.server.nonce)
-    w.parties.server.views s.both) (run_is_set setup events) (run_is_idle setup events)
+    w.parties.server.views s.objects) (run_is_set setup events) (run_is_idle setup events)
     next.peer_left next.server_left order

@@ -13,12 +13,12 @@ use Rattle.login_setup.specs.declared.setup.Setup.{Setup}
 use Rattle.octet_lists.specs.Among.{is_among, is_kind, are_distinct}
 use Rattle.login_policy.specs.Policy.{next_kind, nak_of}
 use Rattle.eap_method.specs.Server.{ServerViews}
-use Rattle.world_laws.specs.Agreement.{IsWhole}
+use Rattle.world_laws.specs.Whole.{IsWhole}
 use Rattle.tag_book.specs.Book.{verdict_on, tags_verdict}
 use Rattle.tag_book.specs.declared.book.TagsVerdict.TheVariants.{Honest}
 use Rattle.eap_world.specs.Judgement.{is_success}
 use Rattle.eap_world.specs.World.{WorldNow, run_after, world_start}
-use Rattle.world_laws.proofs.HonestRuns.{honest_ends_agree}
+use Rattle.login_laws.proofs.HonestRuns.{honest_ends_agree}
 use Rattle.smooth_laws.specs.Smooth.{EndsCompatible, HasShortNames, IsLoggedIn, SmoothLoginsSucceed}
 use Rattle.smooth_laws.specs.Smooth.{event_bound, bound_in, deliveries, takes_first}
 use Rattle.smooth_laws.proofs.Choosing.{found_passes, found_among, found_as_all, first_is_next}

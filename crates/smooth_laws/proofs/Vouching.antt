@@ -2,11 +2,10 @@
 use Rattle.std.proofs.Common.{◌≡◌, ℕ, List, [], ◌∷◌, ◌++◌, Bool, true, map, None, refl, sym, ap}
 use Rattle.std.proofs.Common.{◌∙◌, append_assoc, append-nil, inl, inr}
 use Rattle.std.specs.List.{list_any, list_all}
-use Rattle.std.specs.Str.{bytes_eq}
-use Rattle.std.proofs.lemmas.Slice.Eq.{bytes_eq-Decides}
-use Rattle.std.proofs.lemmas.Bool.{and_parts, and_from, or_cases, or_left, or_right, eq-eqb}
+use Rattle.std.proofs.lemmas.Bool.{and_parts, and_from, or_cases, or_left, or_right}
 use Rattle.eap_method.specs.declared.tags.TagRecord.{TagRecord}
-use Rattle.tag_book.specs.Book.{entry, entries_of, same_tag, label_number, vouches, first_broken}
+use Rattle.eap_method.proofs.TagRecords.{same_as_itself}
+use Rattle.tag_book.specs.Book.{entry, entries_of, vouches, first_broken}
 use Rattle.tag_book.specs.declared.book.End.{End}
 use Rattle.tag_book.specs.declared.book.End.TheVariants.{Peer, Server}
 use Rattle.tag_book.specs.declared.book.Use.TheVariants.{Accepted, Made}
@@ -50,19 +49,10 @@ vouched_more book other end (tag ∷ rest) h =
     and_from _ _ (any_more (vouches Other (entry 0 end Accepted tag)) book other both.0)
     (vouched_more book other end rest both.1)
 
-bytes_same : (octets : List ℕ) → bytes_eq octets octets ≡ true
-bytes_same octets = (bytes_eq-Decides octets octets).1 refl
-
-same_tag_same : (tag : TagRecord) → same_tag tag tag ≡ true
-same_tag_same tag =
-    and_from _ _ (eq-eqb tag.method tag.method refl)
-    (and_from _ _ (eq-eqb (label_number tag.label) (label_number tag.label) refl)
-    (and_from _ _ (bytes_same tag.psk) (and_from _ _ (bytes_same tag.octets) (bytes_same tag.tag))))
-
 makes : (event : ℕ) (end : End) (tag : TagRecord)
     → vouches Other (entry 0 (other_end end) Accepted tag) (entry event end Made tag) ≡ true
-makes event Peer tag = same_tag_same tag
-makes event Server tag = same_tag_same tag
+makes event Peer tag = same_as_itself tag
+makes event Server tag = same_as_itself tag
 
 -- what an end makes is vouched for at the other
 created_vouched : (event : ℕ) (end : End) (book : List Entry) (tags : List TagRecord)

@@ -7,9 +7,9 @@ use Rattle.login_setup.specs.declared.setup.Mode.{Mode}
 use Rattle.login_setup.specs.declared.setup.Mode.TheVariants.{Alone, Through}
 use Rattle.login_setup.specs.declared.setup.Setup.{Setup}
 use Rattle.login_setup.specs.declared.users.User.{User}
-use Rattle.login_setup.specs.Setup.{is_method_kind, is_valid_for}
+use Rattle.login_setup.specs.Setup.{is_method_kind, has_valid_key}
 use Rattle.login_setup.specs.Plain.{plain_peer, plain_server, plain_setup}
-use Rattle.world_laws.specs.Agreement.{IsWhole}
+use Rattle.world_laws.specs.Whole.{IsWhole}
 use Rattle.smooth_laws.specs.Smooth.{EndsCompatible, HasShortNames, event_bound, common_kind}
 use Rattle.smooth_laws.specs.Smooth.{deliveries}
 
@@ -110,7 +110,7 @@ whole_at_once = record {
     suites = refl;
     kinds = All-from_recursion (λ (user : User). IsTrue (is_method_kind user.kind))
         (example_setup Alone both both).server.users (refl, (refl, tt));
-    keys = All-from_recursion (λ (user : User). IsTrue (is_valid_for user.kind user.psk))
+    keys = All-from_recursion (λ (user : User). IsTrue (has_valid_key user))
         (example_setup Alone both both).server.users (refl, (refl, tt));
   };
   peer_kinds = refl;

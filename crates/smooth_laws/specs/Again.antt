@@ -4,7 +4,7 @@
 use Rattle.std.specs.Prelude.{◌≡◌, ◌-◌, ◌≤◌, List, [], ◌++◌, length, take, true, false}
 use Rattle.login_setup.specs.declared.event.Event.{Event}
 use Rattle.login_setup.specs.declared.setup.Setup.{Setup}
-use Rattle.world_laws.specs.Agreement.{IsWhole}
+use Rattle.world_laws.specs.Whole.{IsWhole}
 use Rattle.tag_book.specs.Book.{tags_verdict}
 use Rattle.eap_world.specs.declared.verdict.Verdict.TheVariants.{Agree}
 use Rattle.eap_world.specs.Judgement.{is_success, verdict_of}

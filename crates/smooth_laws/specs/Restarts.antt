@@ -8,7 +8,7 @@ use Rattle.login_setup.specs.declared.setup.Mode.{Mode}
 use Rattle.login_setup.specs.declared.setup.Mode.TheVariants.{Alone, Through}
 use Rattle.login_setup.specs.declared.setup.Party.TheVariants.{Peer, Pass, Server}
 use Rattle.login_setup.specs.declared.setup.Setup.{Setup}
-use Rattle.world_laws.specs.Agreement.{IsWhole}
+use Rattle.world_laws.specs.Whole.{IsWhole}
 use Rattle.eap_world.specs.World.{WorldNow, run_after}
 use Rattle.eap_world.specs.Conversations.{front, is_new}
 use Rattle.eap_world.specs.declared.conversations.ConversationStart.{ConversationStart}

@@ -2,14 +2,13 @@
 use Rattle.std.proofs.Common.{◌≡◌, ℕ, ◌+◌, ◌<◌, ◌≤◌, List, [], ◌∷◌, ◌++◌, Bool, true, false, length}
 use Rattle.std.proofs.Common.{take, drop, get_or, None, Some, refl, sym, ap, ◌∙◌, true≢false}
 use Rattle.std.proofs.Common.{append-nil}
-use Rattle.std.specs.Prelude.{not, ◌==◌, ◌&&◌, ◌||◌, if◌then◌else◌}
+use Rattle.std.specs.Prelude.{not, ◌&&◌, ◌||◌, if◌then◌else◌}
 use Rattle.std.specs.List.{list_any}
-use Rattle.std.specs.Str.{bytes_eq}
 use Rattle.std.proofs.lemmas.Bool.{and_parts}
 use Rattle.std.proofs.lemmas.List.{drop_more, take_more, drop_all}
-use Rattle.std.proofs.lemmas.Slice.Eq.{bytes_eq-Decides}
-use Rattle.tag_book.specs.Book.{first_broken, is_accepted, is_honest, may_make, same_label, under}
-use Rattle.tag_book.specs.Book.{vouches}
+use Rattle.eap_method.specs.Tags.{is_under}
+use Rattle.eap_method.proofs.TagRecords.{same_keys}
+use Rattle.tag_book.specs.Book.{first_broken, is_accepted, is_honest, may_make, under, vouches}
 use Rattle.tag_book.specs.declared.book.Entry.{Entry}
 use Rattle.tag_book.specs.declared.book.RecordOwner.{RecordOwner}
 use Rattle.tag_book.proofs.FirstBroken.{found, passed}
@@ -17,32 +16,28 @@ use Rattle.tag_book.proofs.FirstBroken.{found, passed}
 module _ (key : List ℕ) where
   -- a tag that vouches is under the same key
   same_key : (makers : RecordOwner) (e x : Entry) → vouches makers e x ≡ true
-      → x.tag.psk ≡ e.tag.psk
+      → is_under key x.tag ≡ is_under key e.tag
   same_key makers e x v =
       let a = and_parts (not (is_accepted x)) _ v in
-      let b = and_parts (may_make makers x.end e.end) _ a.1 in
-      let c = and_parts (x.tag.method == e.tag.method) _ b.1 in
-      let d = and_parts (same_label x.tag.label e.tag.label) _ c.1 in
-      (bytes_eq-Decides x.tag.psk e.tag.psk).0 (and_parts (bytes_eq x.tag.psk e.tag.psk) _ d.1).0
+      same_keys key x.tag e.tag (and_parts (may_make makers x.end e.end) _ a.1).1
 
   -- so one under another key vouches for none
-  no_voucher : (makers : RecordOwner) (e x : Entry) → bytes_eq e.tag.psk key ≡ true
-      → bytes_eq x.tag.psk key ≡ false → vouches makers e x ≡ false
+  no_voucher : (makers : RecordOwner) (e x : Entry) → is_under key e.tag ≡ true
+      → is_under key x.tag ≡ false → vouches makers e x ≡ false
   no_voucher makers e x its other = by (vouches makers e x) refl
     where
       by : (b : Bool) → vouches makers e x ≡ b → b ≡ false
       by false v = refl
-      by true v = absurd (true≢false (sym ((bytes_eq-Decides x.tag.psk key).1
-          (same_key makers e x v ∙ (bytes_eq-Decides e.tag.psk key).0 its)) ∙ other))
+      by true v = absurd (true≢false (sym (same_key makers e x v ∙ its) ∙ other))
 
-  any_under : (makers : RecordOwner) (e : Entry) → bytes_eq e.tag.psk key ≡ true
+  any_under : (makers : RecordOwner) (e : Entry) → is_under key e.tag ≡ true
       → (earlier : List Entry)
       → list_any (vouches makers e) (under key earlier) ≡ list_any (vouches makers e) earlier
   unfolding under
   any_under makers e its [] = refl
-  any_under makers e its (x ∷ rest) = by (bytes_eq x.tag.psk key) refl (any_under makers e its rest)
+  any_under makers e its (x ∷ rest) = by (is_under key x.tag) refl (any_under makers e its rest)
     where
-      by : (b : Bool) → bytes_eq x.tag.psk key ≡ b → list_any (vouches makers e) (under key rest)
+      by : (b : Bool) → is_under key x.tag ≡ b → list_any (vouches makers e) (under key rest)
           ≡ list_any (vouches makers e) rest
           → list_any (vouches makers e) (if b then x ∷ under key rest else under key rest)
           ≡ (vouches makers e x || list_any (vouches makers e) rest)
@@ -51,7 +46,7 @@ module _ (key : List ℕ) where
           (no_voucher makers e x its other))
 
   -- what is honest among all is so among those of its key
-  pub honest_under : (makers : RecordOwner) (e : Entry) → bytes_eq e.tag.psk key ≡ true
+  pub honest_under : (makers : RecordOwner) (e : Entry) → is_under key e.tag ≡ true
       → (earlier : List Entry)
       → is_honest makers (under key earlier) e ≡ is_honest makers earlier e
   honest_under makers e its earlier =
@@ -67,17 +62,17 @@ module _ (key : List ℕ) where
   unfolding under
   under_both [] other = refl
   under_both (x ∷ rest) other =
-      ap (λ (l : List Entry). if bytes_eq x.tag.psk key then x ∷ l else l) (under_both rest other)
-      ∙ put (bytes_eq x.tag.psk key) x (under key rest) (under key other)
+      ap (λ (l : List Entry). if is_under key x.tag then x ∷ l else l) (under_both rest other)
+      ∙ put (is_under key x.tag) x (under key rest) (under key other)
 
   -- one more entry of this key, or of another
-  pub one_more : (earlier : List Entry) (e : Entry) → bytes_eq e.tag.psk key ≡ true
+  pub one_more : (earlier : List Entry) (e : Entry) → is_under key e.tag ≡ true
       → under key (earlier ++ e ∷ []) ≡ under key earlier ++ e ∷ []
   unfolding under
   one_more earlier e its = under_both earlier (e ∷ [])
       ∙ ap (λ (b : Bool). under key earlier ++ (if b then e ∷ [] else [])) its
 
-  pub none_more : (earlier : List Entry) (e : Entry) → bytes_eq e.tag.psk key ≡ false
+  pub none_more : (earlier : List Entry) (e : Entry) → is_under key e.tag ≡ false
       → under key (earlier ++ e ∷ []) ≡ under key earlier
   unfolding under
   none_more earlier e other =
@@ -88,7 +83,7 @@ module _ (key : List ℕ) where
 
   -- whether the entry is under this key and isn't honest
   abbrev pub breaks : RecordOwner → List Entry → Entry → Bool
-  breaks makers earlier e = bytes_eq e.tag.psk key && not (is_honest makers earlier e)
+  breaks makers earlier e = is_under key e.tag && not (is_honest makers earlier e)
 
   step_over : (makers : RecordOwner) (earlier rest : List Entry) (e : Entry)
       → breaks makers earlier e ≡ false
@@ -96,9 +91,9 @@ module _ (key : List ℕ) where
       ≡ first_broken makers (under key (earlier ++ e ∷ [])) (under key rest)
   unfolding under
   step_over makers earlier rest e sound =
-      by (bytes_eq e.tag.psk key) (is_honest makers earlier e) refl refl sound
+      by (is_under key e.tag) (is_honest makers earlier e) refl refl sound
     where
-      by : (b honest : Bool) → bytes_eq e.tag.psk key ≡ b → is_honest makers earlier e ≡ honest
+      by : (b honest : Bool) → is_under key e.tag ≡ b → is_honest makers earlier e ≡ honest
           → (b && not honest) ≡ false
           → first_broken makers (under key earlier)
           (if b then e ∷ under key rest else under key rest)
@@ -117,9 +112,9 @@ module _ (key : List ℕ) where
       → first_broken makers (under key earlier) (under key (e ∷ rest)) ≡ Some e.event
   unfolding under
   stop_at makers earlier rest e broken =
-      by (bytes_eq e.tag.psk key) (is_honest makers earlier e) refl refl broken
+      by (is_under key e.tag) (is_honest makers earlier e) refl refl broken
     where
-      by : (b honest : Bool) → bytes_eq e.tag.psk key ≡ b → is_honest makers earlier e ≡ honest
+      by : (b honest : Bool) → is_under key e.tag ≡ b → is_honest makers earlier e ≡ honest
           → (b && not honest) ≡ true
           → first_broken makers (under key earlier) (if b then e ∷ under key rest
           else under key rest) ≡ Some e.event

@@ -1,13 +1,10 @@
 -- The book of tags: which tags each end made and accepted, in their order, and whether each
 -- accepted tag was made earlier: by the other end, or by either.
-use Rattle.std.specs.Prelude.{ℕ, List, [], ◌∷◌, ◌++◌, Bool, true, false, ◌==◌, ◌&&◌, not}
+use Rattle.std.specs.Prelude.{ℕ, List, [], ◌∷◌, ◌++◌, Bool, true, false, ◌&&◌, not}
 use Rattle.std.specs.Prelude.{if◌then◌else◌, Option, Some, None, map}
-use Rattle.std.specs.Str.{bytes_eq}
 use Rattle.std.specs.List.{list_any}
-use Rattle.eap_method.specs.declared.tags.Label.{Label}
-use Rattle.eap_method.specs.declared.tags.Label.TheVariants.{Ak, Tek, Sk}
 use Rattle.eap_method.specs.declared.tags.TagRecord.{TagRecord}
-use Rattle.eap_method.specs.Tags.{Tags}
+use Rattle.eap_method.specs.Tags.{Tags, is_under, same_tag}
 use Rattle.tag_book.specs.declared.book.End.{End}
 use Rattle.tag_book.specs.declared.book.End.TheVariants.{Peer, Server}
 use Rattle.tag_book.specs.declared.book.Use.{Use}
@@ -26,26 +23,12 @@ abbrev pub entries_of : ℕ → End → Tags → List Entry
 entries_of event end tags =
     map (entry event end Accepted) tags.accepted ++ map (entry event end Made) tags.made
 
--- whether two ends, two labels, two records are the same
+-- whether two ends are the same
 abbrev pub same_end : End → End → Bool
 same_end Peer Peer = true
 same_end Peer Server = false
 same_end Server Peer = false
 same_end Server Server = true
-
-abbrev pub label_number : Label → ℕ
-label_number Ak = 0
-label_number Tek = 1
-label_number Sk = 2
-
-abbrev pub same_label : Label → Label → Bool
-same_label one other = label_number one == label_number other
-
-abbrev pub same_tag : TagRecord → TagRecord → Bool
-same_tag one other =
-    (one.method == other.method)
-    && (same_label one.label other.label && (bytes_eq one.psk other.psk
-    && (bytes_eq one.octets other.octets && bytes_eq one.tag other.tag)))
 
 abbrev pub is_accepted : Entry → Bool
 is_accepted e = elim e.used [ Accepted ↦ true | Made ↦ false ]
@@ -86,4 +69,4 @@ tags_verdict_either book = verdict_on (first_broken Either [] book)
 -- the entries of a book whose tags are under this shared key
 unfoldable pub under : List ℕ → List Entry → List Entry
 under key [] = []
-under key (e ∷ rest) = if bytes_eq e.tag.psk key then e ∷ under key rest else under key rest
+under key (e ∷ rest) = if is_under key e.tag then e ∷ under key rest else under key rest

@@ -2,10 +2,10 @@
 
 ghost use Rattle.std.specs.Prelude.{◌≡◌, ◌≤◌, ◌+◌, ◌++◌, ◌∷◌, [], ◌&&◌, not, map, vec_len};
 ghost use Rattle.std.specs.Prelude.{vec_capacity};
-ghost use Rattle.std.specs.Str.{bytes_eq};
 ghost use Rattle.std.specs.List.{list_any};
+ghost use Rattle.eap_method.specs.Tags.{is_under};
 ghost use Rattle.tag_book.specs.Book.{entry, entries_of, first_broken, verdict_on, is_honest};
-ghost use Rattle.tag_book.specs.Book.{may_make, vouches, same_tag, under};
+ghost use Rattle.tag_book.specs.Book.{may_make, vouches, under};
 
 use eap_method::{TagList, TagRecord, Tags, TwoRecords};
 
@@ -89,11 +89,7 @@ fn book_one(book: &mut Vec<Entry>, event: u32, end: End, used: Use, tag: &TagRec
         used,
         tag: TagRecord::default(),
     };
-    entry.tag.method = tag.method;
-    entry.tag.label = tag.label;
-    entry.tag.psk.set(tag.psk.as_slice());
-    entry.tag.octets.set(tag.octets.as_slice());
-    entry.tag.tag.set(tag.tag.as_slice());
+    entry.tag.set(tag);
     let _ = book.push(entry);
 }
 
@@ -126,9 +122,9 @@ pub fn judge_tags_under(book: &[Entry], key: &[u8], makers: RecordOwner) -> Tags
 /// Whether an entry is an accepted tag under this key that no such end made earlier.
 fn breaks(earlier: &[Entry], entry: &Entry, key: &[u8], makers: RecordOwner) -> bool
     ensures { result
-        ≡ (bytes_eq entry.now.tag.psk key.now && not (is_honest makers earlier.now entry.now)) }
+        ≡ (is_under key.now entry.now.tag && not (is_honest makers earlier.now entry.now)) }
 {
-    entry.tag.psk.as_slice() == key && !is_honest(earlier, entry, makers)
+    entry.tag.is_under(key) && !is_honest(earlier, entry, makers)
 }
 
 /// Whether an entry is no accepted tag, or one that such an end made earlier.
@@ -154,7 +150,7 @@ fn vouches(accepted: &Entry, made: &Entry, makers: RecordOwner) -> bool
 {
     made.used == Use::Made
         && may_make(makers, made.end, accepted.end)
-        && is_same(&made.tag, &accepted.tag)
+        && made.tag.is_same(&accepted.tag)
 }
 
 /// Whether a tag that the one end made vouches for one that the other accepted.
@@ -165,15 +161,4 @@ fn may_make(makers: RecordOwner, made: End, accepted: End) -> bool
         RecordOwner::Other => made != accepted,
         RecordOwner::Either => true,
     }
-}
-
-/// Whether two records are equal.
-fn is_same(one: &TagRecord, other: &TagRecord) -> bool
-    ensures { result ≡ same_tag one.now other.now }
-{
-    one.method == other.method
-        && one.label == other.label
-        && one.psk.as_slice() == other.psk.as_slice()
-        && one.octets.as_slice() == other.octets.as_slice()
-        && one.tag.as_slice() == other.tag.as_slice()
 }

@@ -5,7 +5,7 @@ use Rattle.std.proofs.Common.{ℕ}
 use Rattle.std.proofs.lemmas.Bool.{and_parts}
 use Rattle.std.proofs.lemmas.List.Elements.{All-nil, All-push}
 use Rattle.std.proofs.lemmas.Option.{same_Some}
-use Rattle.login_setup.specs.Setup.{is_valid_for}
+use Rattle.login_setup.specs.Setup.{has_valid_key, is_valid_for}
 use Rattle.login_setup.specs.Users.{user_of}
 use Rattle.login_setup.specs.declared.users.User.{User}
 use Rattle.text_tables.specs.Fields.{octets_of, spells_kind, spells_octets, kind_of}
@@ -16,7 +16,7 @@ use Rattle.text_tables.specs.UserWords.{users_named, users_until, read_as}
 -- what holds of a user that words name
 pub record IsNamed (user : User) : Type 0 where
   pub visible : is_visible user.name ≡ true
-  pub key : IsTrue (is_valid_for user.kind user.psk)
+  pub key : IsTrue (has_valid_key user)
 
 -- an option's value, if there is one, holds
 record Holds {A : Type 0} (P : A → Type 0) (o : Option A) : Type 0 where

@@ -1,7 +1,7 @@
 //! The session of a handle: an end, and what it has sent.
 
 ghost use Rattle.std.specs.Prelude.{All, IsTrue};
-ghost use Rattle.login_setup.specs.Setup.{is_valid_for};
+ghost use Rattle.login_setup.specs.Setup.{has_valid_key};
 
 use end_objects::{MAX_OTHERS, OtherUsers, PeerObject, ServerObject};
 use octet_lists::{Packet, Secret};
@@ -80,7 +80,7 @@ impl End {
 #[derive(Drop)]
 pub struct CheckedUsers {
     pub users: OtherUsers,
-    pub ghost fit: { All (λ user. IsTrue (is_valid_for user.kind user.psk)) users },
+    pub ghost fit: { All (λ user. IsTrue (has_valid_key user)) users },
 }
 
 /// An end, and whether its last turn sent a packet.

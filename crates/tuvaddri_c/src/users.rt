@@ -2,7 +2,7 @@
 
 ghost use Rattle.std.specs.Prelude.{◌≡◌, [], ◌∷◌, ◌++◌, true, false, None, IfSome, if◌then◌else◌};
 ghost use Rattle.octet_lists.specs.Among.{is_kind};
-ghost use Rattle.login_setup.specs.Setup.{is_valid_for};
+ghost use Rattle.login_setup.specs.Setup.{has_valid_key};
 ghost use Rattle.login_setup.specs.Users.{HasCapacity};
 ghost use Rattle.server_machine.specs.ServerTable.{with_users};
 ghost use Rattle.end_objects.specs.Refusals.{IsSoundOther, user_refusal};
@@ -35,7 +35,7 @@ pub trait HasUsers {
     fn add(&mut self, user: User)
         requires capacity { HasCapacity max_others (seen self.old).vars.setup.users user }
         requires kind { is_kind user.kind ≡ true }
-        requires key { is_valid_for user.kind user.psk ≡ true }
+        requires key { has_valid_key user ≡ true }
         ensures { seen self.new
             ≡ with_users (seen self.old) ((seen self.old).vars.setup.users ++ user ∷ []) };
 

@@ -5,18 +5,18 @@ use Rattle.std.specs.Prelude.{if◌then◌else◌, ◌&&◌, nat_le, IfOk}
 use Rattle.login_setup.specs.declared.event.Event.{Event}
 use Rattle.login_setup.specs.declared.setup.Setup.{Setup}
 use Rattle.octet_io.specs.Lines.{Lines, ended, too_long, too_much, line, lines}
-use Rattle.world_laws.specs.Agreement.{IsWhole}
-use Rattle.world_laws.proofs.Conversations.{conversations_are_all, conversations_match}
-use Rattle.world_laws.proofs.Conversations.{one_end_implies}
+use Rattle.world_laws.specs.Whole.{IsWhole}
+use Rattle.login_laws.proofs.Conversations.{conversations_are_all, conversations_match}
+use Rattle.login_laws.proofs.Conversations.{one_end_implies}
 use Rattle.world_laws.proofs.Few.{few_tags}
 use Rattle.world_laws.proofs.HonestOfEither.{honest_of_either}
-use Rattle.world_laws.proofs.HonestRuns.{honest_ends_agree}
+use Rattle.login_laws.proofs.HonestRuns.{honest_ends_agree}
 use Rattle.world_laws.proofs.Passing.{pass_carries, pass_is_alone}
-use Rattle.world_laws.proofs.PresentUnderKey.{ends_agree_under, one_end_implies_under}
-use Rattle.world_laws.proofs.PskReflected.{reflected_ends_agree}
+use Rattle.login_laws.proofs.PresentUnderKey.{ends_agree_under, one_end_implies_under}
+use Rattle.login_laws.proofs.PskReflected.{reflected_ends_agree}
 use Rattle.world_laws.proofs.SingleSteps.{steps_are_lawful}
-use Rattle.world_laws.proofs.UnderKey.{conversations_match_under}
-use Rattle.world_laws.proofs.Owner.{honest_names_are_theirs}
+use Rattle.login_laws.proofs.UnderKey.{conversations_match_under}
+use Rattle.login_laws.proofs.Owner.{honest_names_are_theirs}
 use Rattle.scenario_text.specs.Reading.{Reading, ReadLine, no_settings, read_line}
 use Rattle.scenario_text.specs.Valid.{AreValid, IsValidSetup, IsValidItem, IsValidReadLine}
 use Rattle.text_tables.specs.declared.fault.LineFault.{LineFault}

@@ -8,7 +8,7 @@ use Rattle.octet_io.specs.Lines.{Lines, ended, too_long, too_much, line, lines}
 use Rattle.login_setup.specs.declared.event.Event.{Event}
 use Rattle.login_setup.specs.declared.setup.Later.{Later}
 use Rattle.login_setup.specs.declared.setup.Setup.{Setup}
-use Rattle.world_laws.specs.Agreement.{AgreesWhereHonest, AreApart}
+use Rattle.login_laws.specs.Agreement.{AgreesWhereHonest, AreApart}
 use Rattle.tag_book.specs.Book.{tags_verdict}
 use Rattle.eap_world.specs.Judgement.{verdict_of}
 use Rattle.world_laws.proofs.StartsOnce.{starts_once}

@@ -5,17 +5,18 @@ use Rattle.std.specs.Prelude.{◌≡◌, ◌≤◌, ◌⊎◌, ℕ, ◌+◌, Lis
 use Rattle.login_setup.specs.declared.event.Event.{Event}
 use Rattle.login_setup.specs.declared.setup.Mode.TheVariants.{Through}
 use Rattle.login_setup.specs.declared.setup.Setup.{Setup}
-use Rattle.world_laws.specs.Agreement.{AgreesWhereHonest, TheirsWhereHonest, HasFewTags}
-use Rattle.world_laws.specs.Alone.{ImpliedByOne}
+use Rattle.login_laws.specs.Agreement.{AgreesWhereHonest, TheirsWhereHonest}
+use Rattle.world_laws.specs.Few.{HasFewTags}
+use Rattle.login_laws.specs.Alone.{ImpliedByOne}
 use Rattle.tag_book.specs.Book.{tags_verdict, tags_verdict_either}
 use Rattle.tag_book.specs.declared.book.TagsVerdict.TheVariants.{Honest}
 use Rattle.world_laws.specs.EachConversation.{peer_conversations, server_conversations}
-use Rattle.world_laws.specs.Matching.{AreAll, Match}
+use Rattle.login_laws.specs.Matching.{AreAll, Match}
 use Rattle.world_laws.specs.Passing.{Carries, IsAlone}
-use Rattle.world_laws.specs.PresentUnderKey.{AgreesUnder, ImpliedUnder}
-use Rattle.world_laws.specs.PskReflected.{AgreesReflected}
+use Rattle.login_laws.specs.PresentUnderKey.{AgreesUnder, ImpliedUnder}
+use Rattle.login_laws.specs.PskReflected.{AgreesReflected}
 use Rattle.world_laws.specs.SingleSteps.{IsLawful}
-use Rattle.world_laws.specs.UnderKey.{MatchUnder}
+use Rattle.login_laws.specs.UnderKey.{MatchUnder}
 use Rattle.eap_world.specs.World.{WorldNow, world_step}
 use Rattle.answer_text.specs.Lines.{HasLine}
 use Rattle.world_commands.specs.Scenario.{scenario_of}

@@ -47,7 +47,7 @@ module _ {P S : Type 0} (peer_shown : P → PeerShown) (server_shown : S → Ser
     pub server : (kinds : List ℕ) → IsTrue (are_kinds kinds)
         → have_each (server_kinds (map server_shown methods.server.items)) kinds ≡ true
 
-  -- and none of another method than EAP-PSK and EAP-GPSK
+  -- and none of a method that settings can't name
   pub record HasBoth (methods : Methods P S) : Type 0 where
     pub peer : (kinds : List ℕ) → IsTrue (are_kinds kinds)
         → have_each (peer_kinds (map peer_shown methods.peer.items)) kinds ≡ true

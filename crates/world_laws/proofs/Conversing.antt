@@ -26,7 +26,7 @@ use Rattle.server_machine.specs.Inputs.{ServerInput, server_accepts}
 use Rattle.server_machine.specs.ServerTable as servers
 use Rattle.server_machine.specs.ServerTable.{ServerNow, ServerAnswer, answer, is_backend}
 use Rattle.server_machine.specs.ServerTable.{made_again, server_restart, server_start}
-use Rattle.world_laws.specs.Agreement.{IsWhole}
+use Rattle.world_laws.specs.Whole.{IsWhole}
 use Rattle.eap_world.specs.Conversations.{Conversations, begins, beginning, front, hears}
 use Rattle.eap_world.specs.Conversations.{since_from, since_of, waiting}
 use Rattle.method_laws.specs.ByMethod.{peer_foreign, server_foreign}
@@ -370,7 +370,7 @@ module _ (setup : Setup) where
       let sized : LeftSized (one ∷ left) = subst LeftSized is_left h.sized.peer in
       let after = (peer_accepts w.parties.peer (peer_inputs.restart one.nonce)).after in
       let is = peer_is_anew h.peer_nonce one.nonce w.parties.peer h.peer.now.stands.own
-      h.peer.now.stands.both in
+      h.peer.now.stands.objects in
       record {
         peer_nonce = one.nonce;
         server_nonce = h.server_nonce;
@@ -454,7 +454,7 @@ module _ (setup : Setup) where
       let sized : LeftSized (one ∷ left) = subst LeftSized is_left h.sized.server in
       let after = (server_accepts w.parties.server (server_inputs.restart one.nonce)).after in
       let is = server_is_anew h.server_nonce one.nonce w.parties.server h.server.now.stands.own
-      h.server.now.stands.both in
+      h.server.now.stands.objects in
       record {
         peer_nonce = h.peer_nonce;
         server_nonce = one.nonce;

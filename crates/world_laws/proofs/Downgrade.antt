@@ -22,8 +22,7 @@ use Rattle.eap_packet.specs.declared.state.State.{State}
 use Rattle.login_policy.specs.Policy.{next_kind}
 use Rattle.method_laws.specs.Both.{ServerHasBoth}
 use Rattle.eap_method.proofs.Amongs.{each_one}
-use Rattle.eap_method.specs.Server.{Offer, ServerViews, side_of}
-use Rattle.eap_method.specs.declared.values.ServerSide.{ServerSide}
+use Rattle.eap_method.specs.Server.{Offer, side_of}
 use Rattle.server_machine.specs.Expanded.{discards_bad, response_octets, wraps_sent}
 use Rattle.peer_machine.specs.Inputs as peer_inputs
 use Rattle.server_machine.specs.Inputs as server_inputs
@@ -44,7 +43,7 @@ use Rattle.eap_world.specs.declared.conversations.Waiting.{Waiting}
 use Rattle.eap_world.specs.World.{Call, WorldNow, WorldOutcome, act_of_call, call_at, call_octets}
 use Rattle.eap_world.specs.World.{call_of, call_with, delivered_in_call, timer_call, run_after}
 use Rattle.eap_world.specs.World.{start_call, to_pass, to_peer, to_server, world_start, world_step}
-use Rattle.world_laws.specs.Agreement.{IsWhole}
+use Rattle.world_laws.specs.Whole.{IsWhole}
 use Rattle.world_laws.specs.Downgrade.{DowngradesNeedNaks, IsPassedOver, TakesNak, is_nak}
 use Rattle.world_laws.specs.Downgrade.{is_nak_state}
 use Rattle.world_laws.specs.SingleSteps.{delivered_in}
@@ -54,7 +53,7 @@ use Rattle.world_laws.proofs.EndInvariants.{InvariantSoFar, every_run_so_far, st
 use Rattle.world_laws.proofs.Few.{started_more}
 use Rattle.world_laws.proofs.NakAnswers.{naks_refuse, read_nak, response_nak}
 use Rattle.world_laws.proofs.SingleSteps.{StepOf, is_called, is_skipped, step_of}
-use Rattle.method_laws.proofs.ServerByMethod.{OfferOf, by_gpsk, by_none, by_psk, offer_of}
+use Rattle.method_laws.proofs.ServerByMethod.{offer_of, offers_no_identity}
 use Rattle.world_laws.specs.Runs.{initial_world, run_of}
 
 -- ---- what each answer of the server does to its method
@@ -83,13 +82,6 @@ bytes_same one other e = cc
 
 some_kind : (one other : ℕ) → Some one ≡ Some other → one ≡ other
 some_kind one other e = cc
-
-offered_kind : (own : ServerSide) (nonce : List ℕ) (kind id : ℕ) (views : ServerViews)
-    (offer : Offer) → OfferOf own nonce kind id views offer
-    → (packet : List ℕ) → offer.packet ≡ Some packet → kind ≡ identity_kind → ⊥
-offered_kind own nonce kind id views _ (by_psk same) packet e is = omega (arith, same, is)
-offered_kind own nonce kind id views _ (by_gpsk same) packet e is = omega (arith, same, is)
-offered_kind own nonce kind id views _ by_none packet e is = cc e
 
 -- a server that has not started has no method
 module _ {order : List ℕ} (now : ServerNow) (both : ServerHasBoth order now.views)
@@ -175,7 +167,7 @@ module _ {order : List ℕ} (now : ServerNow) (both : ServerHasBoth order now.vi
       selects next_is) =
       selected bytes id kind body heard.is_packet entered vars desired next _ _ selects refl
       next_is.is_next refl refl refl
-      (offered_kind (side_of vars.setup) vars.setup.nonce next (next_id vars) now.views _
+      (offers_no_identity (side_of vars.setup) vars.setup.nonce next (next_id vars) now.views _
       (offer_of (side_of vars.setup) vars.setup.nonce next (next_id vars) now.views both) packet
       (ap (λ (offer : Offer). offer.packet) next_is.is_offer))
   row_offers _ _ (rows.proposes_without bytes id kind body entered vars desired next views heard
@@ -344,7 +336,7 @@ module _ (setup : Setup) (w : WorldNow) (so : InvariantSoFar setup w) (e : Event
       → out.told.path ≡ (server_accepts w.parties.server input).step.path → Goes w e out
   server_goes input out is_call same after by path = on same (λ was.
       elim (goes_on w.parties.server input (server_accepts w.parties.server input)
-      (server_offers w.parties.server so.both.server_invariant.both untouched input) was) [
+      (server_offers w.parties.server so.both.server_invariant.objects untouched input) was) [
         | inl still ↦ inl (subst (λ (now : ServerNow). Unrefused now.vars) (sym after) still)
         | inr t ↦ inr (
           by,

@@ -240,7 +240,7 @@ module _ (setup : Setup) where
       let now = w.parties.peer in
       let after = (peer_accepts now (peer_inputs.restart one.nonce)).after in
       let stands = peer_invariant_anew (peers.setup_with_nonce setup.peer h.peer_nonce)
-      now one.nonce h.peer.now.stands.own h.peer.now.stands.both in
+      now one.nonce h.peer.now.stands.own h.peer.now.stands.objects in
       let nonce : peer_nonce_of after ≡ one.nonce = ap (λ (s : PeerSetup). s.nonce) stands.own in
       let sized : LeftSized (one ∷ left) = subst LeftSized next h.sized.peer in
       let more = own end.Peer w (after_peer_restart w one left)
@@ -349,7 +349,7 @@ module _ (setup : Setup) where
       let now = w.parties.server in
       let after = (server_accepts now (server_inputs.restart one.nonce)).after in
       let stands = server_invariant_anew (servers.setup_with_nonce setup.server h.server_nonce)
-      now one.nonce h.server.now.stands.own h.server.now.stands.both in
+      now one.nonce h.server.now.stands.own h.server.now.stands.objects in
       let nonce : server_nonce_of after ≡ one.nonce =
       ap (λ (s : ServerSetup). s.nonce) stands.own in
       let sized : LeftSized (one ∷ left) = subst LeftSized next h.sized.server in

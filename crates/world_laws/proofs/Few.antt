@@ -15,7 +15,7 @@ use Rattle.tag_book.specs.declared.book.Entry.{Entry}
 use Rattle.tag_book.specs.declared.book.Use.{Use}
 use Rattle.tag_book.specs.declared.book.Use.TheVariants.{Accepted, Made}
 use Rattle.eap_world.specs.declared.conversations.ConversationStart.{ConversationStart}
-use Rattle.world_laws.specs.Agreement.{FewPackets, FewTags}
+use Rattle.world_laws.specs.Few.{FewPackets, FewTags}
 use Rattle.eap_world.specs.Conversations.{beginning, initiated_by, one_of}
 use Rattle.world_laws.specs.EndInvariants.{BothInvariants}
 use Rattle.method_laws.specs.Records.{same_use, tags_by}

@@ -4,8 +4,9 @@ use Rattle.std.proofs.Common.{refl, ap, ◌∙◌, inl, inr}
 use Rattle.std.specs.Prelude.{not, if◌then◌else◌}
 use Rattle.std.specs.List.{list_any}
 use Rattle.std.proofs.lemmas.Bool.{and_parts, and_from, or_cases, or_left, or_right}
-use Rattle.world_laws.specs.Agreement.{HonestOfEither}
-use Rattle.tag_book.specs.Book.{same_end, same_tag, is_accepted, vouches, is_honest, first_broken}
+use Rattle.world_laws.specs.Laws.{HonestOfEither}
+use Rattle.eap_method.specs.Tags.{same_tag}
+use Rattle.tag_book.specs.Book.{same_end, is_accepted, vouches, is_honest, first_broken}
 use Rattle.tag_book.specs.Book.{verdict_on}
 use Rattle.tag_book.specs.declared.book.Entry.{Entry}
 use Rattle.tag_book.specs.declared.book.RecordOwner.TheVariants.{Other, Either}

@@ -16,8 +16,6 @@ use Rattle.eap_packet.specs.Expanded.{is_bad_expanded, is_ietf, is_nak_body, is_
 use Rattle.eap_packet.specs.Fault.{code_of, fields_of, length_of, packet_of, type_of}
 use Rattle.eap_packet.specs.Packet.{PacketValue, failure, request, response, spelled, success}
 use Rattle.eap_packet.proofs.Grammar.{fields_if_read}
-use Rattle.eap_method.specs.GpskPeer as gpsk
-use Rattle.eap_method.specs.PskPeer as psk
 use Rattle.eap_method.specs.Peer.{PeerViews}
 use Rattle.eap_method.specs.PeerTurn.{PeerTurn, Reply}
 use Rattle.eap_method.specs.Plain.{plain_octets}
@@ -26,8 +24,6 @@ use Rattle.eap_method.specs.Tags.{Tags}
 use Rattle.eap_method.specs.Turns.{PeerOutcome}
 use Rattle.eap_method.specs.declared.values.Decision.{Decision}
 use Rattle.eap_method.specs.declared.values.MethodState.{MethodState}
-use Rattle.method_laws.specs.GpskPeerRows as gpsk_row
-use Rattle.method_laws.specs.PskPeerRows as psk_row
 use Rattle.peer_machine.specs.Expanded.{expanded_answer, expressed_unless, express, peer_reads}
 use Rattle.peer_machine.specs.Expanded.{peer_receives}
 use Rattle.peer_machine.specs.Inputs.{PeerInput, octets, peer_accepts}
@@ -42,15 +38,14 @@ use Rattle.server_machine.specs.Variables.{ServerVariables}
 use Rattle.world_laws.specs.Downgrade.{IsRefused, NaksRefuse, asked_kind, asks_for, is_nak}
 use Rattle.world_laws.specs.SingleSteps.{Sends, delivered_in, is_again}
 use Rattle.world_laws.proofs.EndInvariants.{every_run_so_far}
-use Rattle.method_laws.proofs.PeerByMethod.{TurnOf, of_gpsk, of_none, of_psk, turn_of}
+use Rattle.method_laws.proofs.PeerByMethod.{turn_of}
+use Rattle.method_laws.proofs.PeerKinds.{AreOfMethod, turn_is_of_method}
 use Rattle.world_laws.proofs.PeerSpeaks as peering
 use Rattle.world_laws.proofs.PeerSpeaks.{PeerSpeaks, peer_speaks}
 use Rattle.world_laws.proofs.SingleSteps.{StepOf, cancel, is_called, is_skipped, one_sent}
 use Rattle.world_laws.proofs.SingleSteps.{passed_to_peer, step_of}
 use Rattle.method_laws.specs.Both.{PeerHasBoth}
 use Rattle.world_laws.specs.Runs.{run_of}
-use Rattle.eap_method.specs.BothPeers.{psk_in}
-use Rattle.eap_method.specs.BothPeers.{gpsk_in}
 
 -- ---- Types of packets
 
@@ -107,39 +102,12 @@ record NoNaks (turn : PeerTurn) : Type 0 where
   each : (packet : List ℕ) (m : MethodState) (d : Decision) (tags : Tags)
       → turn ≡ Reply packet m d tags → is_nak packet ≡ false
 
-replied_so : (id kind : ℕ) (body : List ℕ) (m : MethodState) (d : Decision) (tags : Tags)
-    → (kind == nak_kind) ≡ false → (kind == expanded_kind) ≡ false
-    → NoNaks (Reply (spelled (response id kind body)) m d tags)
-replied_so id kind body m d tags other plain = record {
-  each = λ packet m' d' tags' e.
-      (let same : spelled (response id kind body) ≡ packet =
-      cc in subst (λ (p : List ℕ). is_nak p ≡ false) same (no_nak id kind body other plain));
+turn_none : (turn : PeerTurn) → AreOfMethod turn → NoNaks turn
+turn_none turn are = record {
+  each = λ packet m d tags e. (let is = are.each packet m d tags e in
+      subst (λ (p : List ℕ). is_nak p ≡ false) (sym is.same)
+      (no_nak is.id is.kind is.body is.no_nak is.plain));
 }
-
-psk_none : (view : psk.View) (bytes : List ℕ) (out : PeerOutcome psk.View)
-    → psk_row.PskPeerRow view bytes out → NoNaks out.turn
-psk_none view bytes _ (psk_row.drops c) = record { each = λ packet m d tags e. cc e }
-psk_none view bytes _ (psk_row.answers _ _ _ _ _ _ _) = replied_so _ 47 _ _ _ _ refl refl
-psk_none view bytes _ (psk_row.confirms_success _ _ _ _ _ _ _ _ _ _ _ _ _ _ _ _) =
-    replied_so _ 47 _ _ _ _ refl refl
-psk_none view bytes _ (psk_row.confirms_failure _ _ _ _ _ _ _ _ _ _ _ _ _ _ _ _ _ _) =
-    replied_so _ 47 _ _ _ _ refl refl
-
-gpsk_none : (view : gpsk.View) (bytes : List ℕ) (out : PeerOutcome gpsk.View)
-    → gpsk_row.GpskPeerRow view bytes out → NoNaks out.turn
-gpsk_none view bytes _ (gpsk_row.drops c) = record { each = λ packet m d tags e. cc e }
-gpsk_none view bytes _ (gpsk_row.answers _ _ _ _ _ _ _ _ _ _) = replied_so _ 51 _ _ _ _ refl refl
-gpsk_none view bytes _ (gpsk_row.confirms _ _ _ _ _ _ _ _ _ _ _ _ _ _ _ _) =
-    replied_so _ 51 _ _ _ _ refl refl
-gpsk_none view bytes _ (gpsk_row.repeats_fail _ _ _ _) = replied_so _ 51 _ _ _ _ refl refl
-gpsk_none view bytes _ (gpsk_row.repeats_protected _ _ _ _ _ _ _) =
-    replied_so _ 51 _ _ _ _ refl refl
-
-turn_none : (kind : ℕ) (views : PeerViews) (bytes : List ℕ) (out : PeerOutcome PeerViews)
-    → TurnOf kind views bytes out → NoNaks out.turn
-turn_none kind views bytes _ (of_psk same out row) = psk_none (psk_in views) bytes out row
-turn_none kind views bytes _ (of_gpsk same out row) = gpsk_none (gpsk_in views) bytes out row
-turn_none kind views bytes _ (of_none c) = record { each = λ packet m d tags e. cc e }
 
 -- ---- the rows
 
@@ -211,8 +179,8 @@ module _ {methods : List ℕ} (now : PeerNow) (bytes : List ℕ)
       same = record {
         each = λ packet sent new is.
             other_sent one packet
-            ((turn_none kind now.views (spelled (request id kind body)) _
-            (turn_of kind now.views (spelled (request id kind body)) both)).each one m d tags
+            ((turn_none _ (turn_is_of_method kind now.views (spelled (request id kind body)) _
+            (turn_of kind now.views (spelled (request id kind body)) both))).each one m d tags
             (ap (λ (out : PeerOutcome PeerViews). out.turn) turned))
             sent is;
       }
@@ -484,5 +452,5 @@ module _ {methods : List ℕ} (setup : Setup) (w : WorldNow) (e : Event)
 pub naks_refuse : NaksRefuse
 naks_refuse setup events e packet sends new nak =
     let stands = (every_run_so_far setup events).both.peer_invariant in
-    step_refuses setup (run_of setup events) e stands.own stands.both _
+    step_refuses setup (run_of setup events) e stands.own stands.objects _
     (step_of (run_of setup events) e) packet sends new nak

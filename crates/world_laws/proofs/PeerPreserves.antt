@@ -23,12 +23,12 @@ use Rattle.peer_machine.specs.Rows.{Calls}
 use Rattle.peer_machine.proofs.Receiving.{PeerReceiving, as_it_is, bad, again, expresses}
 use Rattle.peer_machine.proofs.PeerRows.{peer_answers_are_rows}
 use Rattle.eap_world.specs.Judgement.{is_success}
-use Rattle.method_laws.specs.Both.{PeerHasBoth}
-use Rattle.world_laws.specs.PeerInvariant.{PeerInvariant}
+use Rattle.method_laws.specs.Objects.{PeerHasMethods}
+use Rattle.world_laws.specs.PeerInvariant.{PeerInvariant, PeerInvariantOf}
 use Rattle.method_laws.specs.Records.{AreFew}
 use Rattle.world_laws.proofs.Unended.{goes_on}
 use Rattle.method_laws.proofs.OneMethod.{some_same}
-use Rattle.method_laws.proofs.PeerObjects.{are_allowed, both_after, both_are, both_started}
+use Rattle.method_laws.proofs.PeerObjects.{are_allowed, both_are, methods_after, methods_started}
 use Rattle.method_laws.proofs.PeerByMethod.{tags_few}
 use Rattle.method_laws.proofs.PeerHistories.{initiated_has, responds_has}
 use Rattle.world_laws.proofs.EndTags.{peer_tags}
@@ -39,17 +39,19 @@ use Rattle.peer_machine.specs.PeerTable as wide
 
 -- ---- the begin
 
-initiates_with : (setup : PeerSetup) (views : PeerViews) → PeerHasBoth setup.methods views
-    → PeerInvariant setup (wide.initial_peer setup views) [] []
-initiates_with setup views both = record {
+pub initiates_with : (setup : PeerSetup) (first views : PeerViews)
+    → PeerHasMethods setup.methods first views
+    → PeerInvariantOf first setup (wide.initial_peer setup views) [] []
+initiates_with setup first views objects = record {
   own = refl;
-  both = both_started setup views both;
-  has = initiated_has setup views (record { each = are_allowed both });
+  objects = methods_started setup first views objects;
+  has = initiated_has setup views (record { each = are_allowed objects });
   sure = λ e. absurd (false≢true e);
 }
 
 pub peer_initiates : (setup : PeerSetup) → PeerInvariant setup (initial_peer setup) [] []
-peer_initiates setup = initiates_with setup (both_of setup.methods) (both_are setup.methods)
+peer_initiates setup =
+    initiates_with setup (both_of setup.methods) (both_of setup.methods) (both_are setup.methods)
 
 -- ---- the calls
 
@@ -61,30 +63,30 @@ called_alone now _ kind (rows.again is_selected undone) other is_other =
     some_same kind other (sym is_selected ∙ is_other)
 
 -- what stands after a call, with the tags of its step
-record Preserves (setup : PeerSetup) (accepted made : List TagRecord)
+record Preserves (first : PeerViews) (setup : PeerSetup) (accepted made : List TagRecord)
     (out : PeerAnswer) : Type 0 where
-  pub stands : PeerInvariant setup out.after (accepted ++ out.step.tags.accepted)
+  pub stands : PeerInvariantOf first setup out.after (accepted ++ out.step.tags.accepted)
       (made ++ out.step.tags.made)
 
 -- a call without tags
-quiet : (setup : PeerSetup) (accepted made : List TagRecord) (out : PeerAnswer)
+quiet : (first : PeerViews) (setup : PeerSetup) (accepted made : List TagRecord) (out : PeerAnswer)
     → out.step.tags ≡ no_tags
-    → PeerInvariant setup out.after accepted made → Preserves setup accepted made out
-quiet setup accepted made out is_quiet stands = record {
-  stands = subst (λ (tags : Tags). PeerInvariant setup out.after (accepted ++ tags.accepted)
+    → PeerInvariantOf first setup out.after accepted made → Preserves first setup accepted made out
+quiet first setup accepted made out is_quiet stands = record {
+  stands = subst (λ (tags : Tags). PeerInvariantOf first setup out.after (accepted ++ tags.accepted)
       (made ++ tags.made)) (sym is_quiet) (rw (append-nil accepted, append-nil made) stands);
 }
 
-module _ (setup : PeerSetup) (now : PeerNow) (accepted made : List TagRecord)
-    (stands : PeerInvariant setup now accepted made) where
+module _ (first : PeerViews) (setup : PeerSetup) (now : PeerNow) (accepted made : List TagRecord)
+    (stands : PeerInvariantOf first setup now accepted made) where
   -- another state, lastId and lastRespData
   remains : (s : State) (last_id : Option ℕ) (last_response : List ℕ)
       → (is_success s ≡ true → is_fail now.vars.decision ≡ false)
-      → PeerInvariant setup (with_vars now (record
+      → PeerInvariantOf first setup (with_vars now (record
       now.vars { state = s; last_id = last_id; last_response = last_response })) accepted made
   remains s last_id last_response sure = record {
     own = stands.own;
-    both = stands.both;
+    objects = stands.objects;
     has = stands.has;
     sure = sure;
   }
@@ -93,9 +95,10 @@ module _ (setup : PeerSetup) (now : PeerNow) (accepted made : List TagRecord)
       (d : Decision) (tags : Tags) (views : PeerViews) → Calls now kind selects
       → peer_turn kind now.views octets
       ≡ record { turn = Reply packet m d tags; after = views }
-      → PeerHasBoth setup.methods views → (s : State) (last_id : Option ℕ) (last_response : List ℕ)
+      → PeerHasMethods setup.methods first views → (s : State) (last_id : Option ℕ)
+      (last_response : List ℕ)
       → (is_success s ≡ true → ⊥)
-      → PeerInvariant setup (record {
+      → PeerInvariantOf first setup (record {
         vars = record now.vars {
           state = s;
           selected = Some kind;
@@ -106,76 +109,78 @@ module _ (setup : PeerSetup) (now : PeerNow) (accepted made : List TagRecord)
         };
         views = views;
       }) (accepted ++ tags.accepted) (made ++ tags.made)
-  after_turn selects kind octets packet m d tags views calls turned both s last_id last_response
+  after_turn selects kind octets packet m d tags views calls turned objects s last_id last_response
       unsure = record {
         own = stands.own;
-        both = both;
+        objects = objects;
         has = responds_has setup now.vars.selected now.views now.vars.decision accepted made kind
             octets packet m d tags views stands.has (called_alone now selects kind calls) turned;
         sure = λ e. absurd (unsure e);
       }
 
-  still_both : (kind : ℕ) (octets : List ℕ) (out : PeerOutcome PeerViews)
-      → peer_turn kind now.views octets ≡ out → PeerHasBoth setup.methods out.after
-  still_both kind octets out turned = subst (λ (o : PeerOutcome PeerViews).
-      PeerHasBoth setup.methods o.after) turned (both_after stands.both kind octets)
+  still_objects : (kind : ℕ) (octets : List ℕ) (out : PeerOutcome PeerViews)
+      → peer_turn kind now.views octets ≡ out → PeerHasMethods setup.methods first out.after
+  still_objects kind octets out turned = subst (λ (o : PeerOutcome PeerViews).
+      PeerHasMethods setup.methods first o.after) turned (methods_after stands.objects kind octets)
 
   row_preserves : (input : PeerInput) (out : PeerAnswer) → ((nonce : List ℕ) → input ≡ restart nonce
-      → ⊥) → rows.PeerRow now input out → Preserves setup accepted made out
+      → ⊥) → rows.PeerRow now input out → Preserves first setup accepted made out
   row_preserves _ _ same (rows.begins nonce) = absurd (same nonce refl)
-  row_preserves _ _ same (rows.ended bytes over) = quiet setup accepted made _ refl stands
+  row_preserves _ _ same (rows.ended bytes over) = quiet first setup accepted made _ refl stands
   row_preserves _ _ same (rows.rests report no_octets no_restart over) =
-      quiet setup accepted made _ refl stands
+      quiet first setup accepted made _ refl stands
   row_preserves _ _ same (rows.drops bytes path c going why) =
-      quiet setup accepted made _ refl stands
-  row_preserves _ _ same (rows.waits going fails goes_on) = quiet setup accepted made _ refl stands
+      quiet first setup accepted made _ refl stands
+  row_preserves _ _ same
+      (rows.waits going fails goes_on) = quiet first setup accepted made _ refl stands
   row_preserves _ _ same (rows.identifies bytes id kind body heard unselected is_identity) =
-      quiet setup accepted made _ refl (remains _ _ _ stands.sure)
+      quiet first setup accepted made _ refl (remains _ _ _ stands.sure)
   row_preserves _ _ same (rows.notifies bytes id kind body heard unselected is_notification) =
-      quiet setup accepted made _ refl (remains _ _ _ stands.sure)
+      quiet first setup accepted made _ refl (remains _ _ _ stands.sure)
   row_preserves _ _ same
       (rows.naks bytes id kind body heard unselected no_identity no_notification barred) =
-      quiet setup accepted made _ refl (remains _ _ _ stands.sure)
+      quiet first setup accepted made _ refl (remains _ _ _ stands.sure)
   row_preserves _ _ same (rows.resends bytes id kind body heard) =
-      quiet setup accepted made _ refl stands
+      quiet first setup accepted made _ refl stands
   row_preserves _ _ same (rows.ends_well input entered going sure why) =
-      quiet setup accepted made _ refl (remains _ _ _ (λ _. sure))
+      quiet first setup accepted made _ refl (remains _ _ _ (λ _. sure))
   row_preserves _ _ same (rows.ends_badly input entered going why) =
-      quiet setup accepted made _ refl (remains _ _ _ (λ e. absurd (false≢true e)))
+      quiet first setup accepted made _ refl (remains _ _ _ (λ e. absurd (false≢true e)))
   row_preserves _ _ same
       (rows.method_replies bytes selects id kind body packet m d tags views heard calls turned _) =
       record {
         stands = after_turn selects kind _ packet m d tags views calls turned
-            (still_both kind _ _ turned) _ _ _ (goes_on now.vars.state heard.going);
+            (still_objects kind _ _ turned) _ _ _ (goes_on now.vars.state heard.going);
       }
   row_preserves _ _ same
       (rows.method_fails bytes selects id kind body packet m d tags views heard calls turned _) =
       record {
         stands = after_turn selects kind _ packet m d tags views calls turned
-            (still_both kind _ _ turned) _ _ _ false≢true;
+            (still_objects kind _ _ turned) _ _ _ false≢true;
       }
 
   -- by the table alone
   abbrev IsConsistent : PeerInput → PeerAnswer → Type 0
   IsConsistent input out =
-      ((nonce : List ℕ) → input ≡ restart nonce → ⊥) → Preserves setup accepted made out
+      ((nonce : List ℕ) → input ≡ restart nonce → ⊥) → Preserves first setup accepted made out
 
   answer_preserves : (input : PeerInput) → IsConsistent input (peer_answers now input)
   answer_preserves input same = row_preserves input _ same (peer_answers_are_rows now input)
 
   of_octets : (bytes : List ℕ)
-      → Preserves setup accepted made (peer_answers now (inputs.octets bytes))
+      → Preserves first setup accepted made (peer_answers now (inputs.octets bytes))
   of_octets bytes = answer_preserves (inputs.octets bytes) (λ nonce e. cc e)
 
   -- lastRespData alone is another where a Response is expressed
   expressed_preserves : (out : PeerAnswer) (sent : Option (List ℕ))
-      → Preserves setup accepted made out → Preserves setup accepted made (expanded_answer out sent)
+      → Preserves first setup accepted made out → Preserves first setup accepted made
+      (expanded_answer out sent)
   expressed_preserves out None kept = kept
   expressed_preserves out (Some packet) kept =
       let s = kept.stands in record {
         stands = record {
           own = s.own;
-          both = s.both;
+          objects = s.objects;
           has = s.has;
           sure = s.sure;
         };
@@ -185,32 +190,36 @@ module _ (setup : PeerSetup) (now : PeerNow) (accepted made : List TagRecord)
       → IsConsistent (inputs.octets bytes) out
   receiving_preserves bytes _ as_it_is same = of_octets bytes
   receiving_preserves bytes _ (bad id kind body asks is_bad) same =
-      quiet setup accepted made _ refl stands
+      quiet first setup accepted made _ refl stands
   receiving_preserves bytes _ (again id kind body asks last) same = of_octets _
   receiving_preserves bytes _ (expresses id kind body asks new) same =
       expressed_preserves _ _ (of_octets _)
 
 -- every input but the begin of a new conversation keeps what stands
-pub peer_preserves : (setup : PeerSetup) (now : PeerNow) (accepted made : List TagRecord)
+pub peer_preserves : {first : PeerViews} (setup : PeerSetup) (now : PeerNow)
+    (accepted made : List TagRecord)
     (input : PeerInput)
-    → ((nonce : List ℕ) → input ≡ restart nonce → ⊥) → PeerInvariant setup now accepted made
+    → ((nonce : List ℕ) → input ≡ restart nonce → ⊥) → PeerInvariantOf first setup now accepted made
     → (let out = peer_accepts now input in
-    PeerInvariant setup out.after (accepted ++ out.step.tags.accepted) (made ++ out.step.tags.made))
-peer_preserves setup now accepted made input same stands =
-    (peer_accepted_tags now (IsConsistent setup now accepted made stands) (answer_preserves setup
-    now accepted made stands) (receiving_preserves setup now accepted made stands)
+    PeerInvariantOf first setup out.after (accepted ++ out.step.tags.accepted)
+    (made ++ out.step.tags.made))
+peer_preserves {first} setup now accepted made input same stands =
+    (peer_accepted_tags now (IsConsistent first setup now accepted made stands)
+    (answer_preserves first setup
+    now accepted made stands) (receiving_preserves first setup now accepted made stands)
     input same).stands
 
 -- a peer of these settings that begins a new conversation stands as one that has just begun, with
 -- the new nonce
-pub peer_invariant_anew : (setup : PeerSetup) (now : PeerNow) (nonce : List ℕ)
-    → now.vars.setup ≡ setup → PeerHasBoth setup.methods now.views
-    → PeerInvariant (setup_with_nonce setup nonce) (peer_accepts now (restart nonce)).after [] []
+pub peer_invariant_anew : {first : PeerViews} (setup : PeerSetup) (now : PeerNow) (nonce : List ℕ)
+    → now.vars.setup ≡ setup → PeerHasMethods setup.methods first now.views
+    → PeerInvariantOf first (setup_with_nonce setup nonce) (peer_accepts now
+    (restart nonce)).after [] []
 unfolding peer_restart
-peer_invariant_anew setup now nonce own both =
-    subst (λ (s : PeerSetup). PeerInvariant (setup_with_nonce setup nonce)
+peer_invariant_anew {first} setup now nonce own objects =
+    subst (λ (s : PeerSetup). PeerInvariantOf first (setup_with_nonce setup nonce)
     (wide.initial_peer (setup_with_nonce s nonce) now.views) [] []) (sym own)
-    (initiates_with (setup_with_nonce setup nonce) now.views both)
+    (initiates_with (setup_with_nonce setup nonce) first now.views objects)
 
 -- it has made no tag in it
 pub peer_tags_none : (now : PeerNow) (nonce : List ℕ)

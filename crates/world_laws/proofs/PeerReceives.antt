@@ -52,7 +52,7 @@ module _ (setup : PeerSetup) (now : PeerNow) (accepted made : List TagRecord)
       (peer_foreign (Some kind) after)
   called_received bytes id kind body after calls heard is_after =
       by (turn_received kind now.views (spelled (request id kind body)) _
-      (turn_of kind now.views (spelled (request id kind body)) stands.both))
+      (turn_of kind now.views (spelled (request id kind body)) stands.objects))
     where
       by : Receives (Some (body_of (spelled (request id kind body))))
           (peer_foreign_of now.views kind)

@@ -12,6 +12,7 @@ use Rattle.eap_packet.specs.declared.state.State.{State}
 use Rattle.eap_method.specs.declared.tags.TagRecord.{TagRecord}
 use Rattle.eap_method.specs.Turns.{ServerOutcome, body_of}
 use Rattle.eap_method.specs.ServerTurn.{ServerTurn}
+use Rattle.eap_method.specs.BothServers.{both_of}
 use Rattle.eap_method.specs.Server.{ServerViews, server_turn}
 use Rattle.server_machine.specs.Expanded.{response_octets, accepts_nak, wraps_sent}
 use Rattle.server_machine.specs.Inputs as inputs
@@ -64,7 +65,7 @@ module _ (setup : ServerSetup) (now : ServerNow) (accepted made : List TagRecord
   called_received bytes id kind body answered after heard turned =
       by (turn_received now.vars.setup.users (next_id now.vars) kind now.views
       (spelled (response id kind body)) _ (turn_of now.vars.setup.users (next_id now.vars)
-      kind now.views (spelled (response id kind body)) stands.both))
+      kind now.views (spelled (response id kind body)) stands.objects))
     where
       is_after : (server_turn now.vars.setup.users (next_id now.vars) kind now.views
           (spelled (response id kind body))).after ≡ after
@@ -126,13 +127,15 @@ module _ (setup : ServerSetup) (now : ServerNow) (accepted made : List TagRecord
 
   -- a method that is offered holds none, and without an object of it all views stay
   offered_none : (kind : ℕ) (packet : List ℕ) (views : ServerViews)
-      → Offers setup kind now.views (record { packet = Some packet; after = views })
+      → Offers setup (both_of setup.methods) kind now.views (record
+      { packet = Some packet; after = views })
       → server_foreign (Some kind) views ≡ None
   offered_none kind _ _ (asks packet after both has) =
       untagged_none setup (Some kind) after [] [] (has_tags setup _ _ _ _ _ both has) refl
 
   offered_same : (kind : ℕ) (views : ServerViews)
-      → Offers setup kind now.views (record { packet = None; after = views }) → views ≡ now.views
+      → Offers setup (both_of setup.methods) kind now.views (record
+      { packet = None; after = views }) → views ≡ now.views
   offered_same kind _ lacks = refl
 
   gives_up : {came : Option (List ℕ)} (vars : ServerVariables) (views : ServerViews)
@@ -156,13 +159,15 @@ module _ (setup : ServerSetup) (now : ServerNow) (accepted made : List TagRecord
   row_received _ _ later no_restart (rows.proposes bytes id kind body entered vars desired next
       packet views heard selects next_is) =
       let was = unheard id kind body entered vars desired selects in
-      as_before (offered_none next packet views (proposes_own setup now stands.both vars desired
+      as_before (offered_none next packet views (proposes_own setup
+      (both_of setup.methods) now stands.objects vars desired
       next _ was.own next_is) ∙ sym was.none)
   row_received _ _ later no_restart (rows.proposes_without bytes id kind body entered vars desired
       next views heard selects next_is) =
       let was = unheard id kind body entered vars desired selects in
       gives_up vars views (offered_same next views
-      (proposes_own setup now stands.both vars desired next _ was.own next_is)) was.current
+      (proposes_own setup
+      (both_of setup.methods) now stands.objects vars desired next _ was.own next_is)) was.current
   row_received _ _ later no_restart
       (rows.proposes_none bytes id kind body entered vars desired heard selects none) =
       gives_up vars now.views refl (unheard id kind body entered vars desired selects).current

@@ -38,10 +38,10 @@ use Rattle.eap_world.specs.Judgement.{is_success}
 use Rattle.method_laws.specs.Records.{AreFew, AreNone, untagged}
 use Rattle.method_laws.specs.ServerHistory.{ServerHas, identity_round, unproposed}
 use Rattle.world_laws.specs.Runs.{initial_server}
-use Rattle.world_laws.specs.ServerInvariant.{IsUntouched, ServerInvariant}
-use Rattle.method_laws.specs.Both.{ServerHasBoth}
+use Rattle.world_laws.specs.ServerInvariant.{IsUntouched, ServerInvariant, ServerInvariantOf}
+use Rattle.method_laws.specs.Objects.{ServerHasMethods}
 use Rattle.world_laws.proofs.Unended.{goes_on}
-use Rattle.method_laws.proofs.ServerObjects.{both_after, both_are, both_started}
+use Rattle.method_laws.proofs.ServerObjects.{both_are, methods_after, methods_started}
 use Rattle.world_laws.proofs.Proposing.{proposes_own}
 use Rattle.method_laws.proofs.ServerByMethod.{tags_few}
 use Rattle.method_laws.proofs.ServerHistories.{Offers, asks, ends_has, in_identity, in_none, lacks}
@@ -51,13 +51,13 @@ use Rattle.world_laws.proofs.Accepting.{server_accepted_tags}
 
 -- ---- the begin
 
-module _ (of : Role) (setup : ServerSetup) (views : ServerViews)
-    (both : ServerHasBoth setup.methods views) (first_id max_retrans : ℕ) where
-  initiates_with : ServerInvariant setup
+module _ (of : Role) (setup : ServerSetup) (first views : ServerViews)
+    (objects : ServerHasMethods setup.methods first views) (first_id max_retrans : ℕ) where
+  pub initiates_with : ServerInvariantOf first setup
       (wide.initial_server of setup views first_id max_retrans) [] []
   initiates_with = record {
     own = refl;
-    both = both_started setup views both;
+    objects = methods_started setup first views objects;
     good = false;
     has = unproposed refl;
     unstarted = λ _. record { no_method = refl; no_id = refl };
@@ -65,12 +65,13 @@ module _ (of : Role) (setup : ServerSetup) (views : ServerViews)
     sure = λ e. absurd (false≢true e);
   }
 
-  starts_with : (let out = server_start (wide.initial_server of setup views first_id max_retrans) in
-      ServerInvariant setup out.after [] [])
+  pub starts_with : (let out = server_start
+      (wide.initial_server of setup views first_id max_retrans) in
+      ServerInvariantOf first setup out.after [] [])
   unfolding server_start
   starts_with = record {
     own = refl;
-    both = both_started setup views both;
+    objects = methods_started setup first views objects;
     good = false;
     has = identity_round refl;
     unstarted = λ e. absurd (false≢true (sym e));
@@ -80,12 +81,14 @@ module _ (of : Role) (setup : ServerSetup) (views : ServerViews)
 
 pub server_initiates : (of : Role) (setup : ServerSetup) (first_id max_retrans : ℕ)
     → ServerInvariant setup (initial_server of setup first_id max_retrans) [] []
-server_initiates of setup = initiates_with of setup (both_of setup.methods) (both_are setup.methods)
+server_initiates of setup = initiates_with of setup (both_of setup.methods)
+    (both_of setup.methods) (both_are setup.methods)
 
 pub started_invariant : (of : Role) (setup : ServerSetup) (first_id max_retrans : ℕ)
     → (let out = server_start (initial_server of setup first_id max_retrans) in
     ServerInvariant setup out.after [] [])
-started_invariant of setup = starts_with of setup (both_of setup.methods) (both_are setup.methods)
+started_invariant of setup = starts_with of setup (both_of setup.methods)
+    (both_of setup.methods) (both_are setup.methods)
 
 -- ---- the calls
 
@@ -95,36 +98,40 @@ none_had : {setup : ServerSetup} {current : Option ℕ} {views : ServerViews}
 none_had untagged has = has
 
 -- what stands after a call, with the tags of its step
-record Preserves (setup : ServerSetup) (accepted made : List TagRecord)
+record Preserves (first : ServerViews) (setup : ServerSetup) (accepted made : List TagRecord)
     (out : ServerAnswer) : Type 0 where
-  pub stands : ServerInvariant setup out.after (accepted ++ out.step.tags.accepted)
+  pub stands : ServerInvariantOf first setup out.after (accepted ++ out.step.tags.accepted)
       (made ++ out.step.tags.made)
 
 -- a call without tags
-quiet : (setup : ServerSetup) (accepted made : List TagRecord) (out : ServerAnswer)
+quiet : (first : ServerViews) (setup : ServerSetup) (accepted made : List TagRecord)
+    (out : ServerAnswer)
     → out.step.tags ≡ no_tags
-    → ServerInvariant setup out.after accepted made → Preserves setup accepted made out
-quiet setup accepted made out is_quiet stands = record {
-  stands = subst (λ (tags : Tags). ServerInvariant setup out.after (accepted ++ tags.accepted)
+    → ServerInvariantOf first setup out.after accepted made
+    → Preserves first setup accepted made out
+quiet first setup accepted made out is_quiet stands = record {
+  stands = subst (λ (tags : Tags). ServerInvariantOf first setup out.after
+      (accepted ++ tags.accepted)
       (made ++ tags.made)) (sym is_quiet) (rw (append-nil accepted, append-nil made) stands);
 }
 
-module _ (setup : ServerSetup) (now : ServerNow) (accepted made : List TagRecord)
-    (stands : ServerInvariant setup now accepted made) where
+module _ (first : ServerViews) (setup : ServerSetup) (now : ServerNow)
+    (accepted made : List TagRecord)
+    (stands : ServerInvariantOf first setup now accepted made) where
   -- another state, Identifier, progress and count of retransmissions
   remains : (s : State) (id : Option ℕ) (p : Progress) (count : ℕ)
       → (is_started (record now.vars { state = s }) ≡ false
       → IsUntouched (record now.vars { current_id = id }))
       → (is_proposed p ≡ true → AreNone accepted made)
       → (is_success s ≡ true → stands.good ≡ true)
-      → ServerInvariant setup (record {
+      → ServerInvariantOf first setup (record {
         vars = record now.vars { state = s; current_id = id; progress = p; retrans_count = count };
         views = now.views;
       })
       accepted made
   remains s id p count unstarted proposed sure = record {
     own = stands.own;
-    both = stands.both;
+    objects = stands.objects;
     good = stands.good;
     has = stands.has;
     unstarted = λ e. let untouched = unstarted e in
@@ -150,24 +157,24 @@ module _ (setup : ServerSetup) (now : ServerNow) (accepted made : List TagRecord
       (spelled (response id kind body)) ≡ record { turn = answered; after = views })
       own_users turned.is_turn
 
-  still_both : (id kind : ℕ) (body : List ℕ) (answered : ServerTurn) (views : ServerViews)
-      → rows.Turns now id kind body answered views → ServerHasBoth setup.methods views
-  still_both id kind body answered views turned =
-      subst (λ (out : ServerOutcome ServerViews). ServerHasBoth setup.methods out.after)
-      turned.is_turn (both_after stands.both now.vars.setup.users (next_id now.vars) kind
+  still_objects : (id kind : ℕ) (body : List ℕ) (answered : ServerTurn) (views : ServerViews)
+      → rows.Turns now id kind body answered views → ServerHasMethods setup.methods first views
+  still_objects id kind body answered views turned =
+      subst (λ (out : ServerOutcome ServerViews). ServerHasMethods setup.methods first out.after)
+      turned.is_turn (methods_after stands.objects now.vars.setup.users (next_id now.vars) kind
       (spelled (response id kind body)))
 
   after_request : (id kind : ℕ) (body packet : List ℕ) (tags : Tags) (views : ServerViews)
       → rows.Turns now id kind body (turn.Request packet tags) views
       → (is_started now.vars ≡ false → ⊥) → (is_success now.vars.state ≡ true → ⊥)
-      → ServerInvariant setup (record {
+      → ServerInvariantOf first setup (record {
         vars = record (with_request now.vars packet) { progress = progress.Continue };
         views = views;
       })
       (accepted ++ tags.accepted) (made ++ tags.made)
   after_request id kind body packet tags views turned begun unsure = record {
     own = stands.own;
-    both = still_both id kind body _ views turned;
+    objects = still_objects id kind body _ views turned;
     good = false;
     has = requests_has setup now.vars.current now.views stands.good accepted made
         (next_id now.vars) kind (spelled (response id kind body)) tags views stands.has
@@ -180,12 +187,12 @@ module _ (setup : ServerSetup) (now : ServerNow) (accepted made : List TagRecord
   after_end : (id kind : ℕ) (body : List ℕ) (good : Bool) (tags : Tags) (views : ServerViews)
       → rows.Turns now id kind body (turn.Done good tags) views → (s : State)
       → is_started (record now.vars { state = s }) ≡ true → (is_success s ≡ true → good ≡ true)
-      → ServerInvariant setup
+      → ServerInvariantOf first setup
       (record { vars = record now.vars { progress = progress.End; state = s }; views = views })
       (accepted ++ tags.accepted) (made ++ tags.made)
   after_end id kind body good tags views turned s begun sure = record {
     own = stands.own;
-    both = still_both id kind body _ views turned;
+    objects = still_objects id kind body _ views turned;
     good = good;
     has = ends_has setup now.vars.current now.views stands.good accepted made (next_id now.vars)
         kind (spelled (response id kind body)) tags views stands.has turned.is_current
@@ -201,7 +208,7 @@ module _ (setup : ServerSetup) (now : ServerNow) (accepted made : List TagRecord
     pub none : AreNone accepted made
     pub begun : is_started vars ≡ false → ⊥
     pub unsure : is_success vars.state ≡ true → ⊥
-    pub gives_up : ServerInvariant setup
+    pub gives_up : ServerInvariantOf first setup
         (record { vars = record vars { state = state.Failure }; views = now.views }) accepted made
 
   -- after a backend's first Response, before which it has made no tag
@@ -251,40 +258,41 @@ module _ (setup : ServerSetup) (now : ServerNow) (accepted made : List TagRecord
 
   -- a method is offered, or there is no object of it
   offered : (entered : List State) (vars : ServerVariables) (id kind : ℕ) → Proposing vars
-      → (offer : Offer) → Offers setup kind now.views offer
-      → Preserves setup accepted made (offers entered vars offer.after id kind offer.packet)
-  offered entered vars id kind at _ (asks packet after both has) =
-      quiet setup accepted made _ refl (record {
+      → (offer : Offer) → Offers setup first kind now.views offer
+      → Preserves first setup accepted made (offers entered vars offer.after id kind offer.packet)
+  offered entered vars id kind at _ (asks packet after objects has) =
+      quiet first setup accepted made _ refl (record {
         own = at.own;
-        both = both;
+        objects = objects;
         good = false;
         has = none_had at.none has;
         unstarted = λ e. absurd (at.begun e);
         proposed = λ _. at.none;
         sure = λ e. absurd (at.unsure e);
       })
-  offered entered vars id kind at _ lacks = quiet setup accepted made _ refl at.gives_up
+  offered entered vars id kind at _ lacks = quiet first setup accepted made _ refl at.gives_up
 
   offer_preserves : (entered : List State) (vars : ServerVariables) (desired : Option (List ℕ))
       (id kind : ℕ) (offer : Offer) → Proposing vars
       → rows.Proposes now vars desired kind offer
-      → Preserves setup accepted made (offers entered vars offer.after id kind offer.packet)
+      → Preserves first setup accepted made (offers entered vars offer.after id kind offer.packet)
   offer_preserves entered vars desired id kind offer at next = offered entered vars id kind at offer
-      (proposes_own setup now stands.both vars desired kind offer at.own next)
+      (proposes_own setup first now stands.objects vars desired kind offer at.own next)
 
   row_preserves : (input : ServerInput) (out : ServerAnswer) → (input ≡ start → ⊥)
       → ((nonce : List ℕ) → input ≡ restart nonce → ⊥)
-      → rows.ServerRow now input out → Preserves setup accepted made out
+      → rows.ServerRow now input out → Preserves first setup accepted made out
   row_preserves _ _ later same (rows.begins nonce) = absurd (same nonce refl)
-  row_preserves _ _ later same (rows.ended bytes over) = quiet setup accepted made _ refl stands
-  row_preserves _ _ later same (rows.rests over) = quiet setup accepted made _ refl stands
+  row_preserves _ _ later same
+      (rows.ended bytes over) = quiet first setup accepted made _ refl stands
+  row_preserves _ _ later same (rows.rests over) = quiet first setup accepted made _ refl stands
   row_preserves _ _ later same (rows.goes_on is_initiated) = absurd (later refl)
   row_preserves _ _ later same (rows.drops bytes path c going why) =
-      quiet setup accepted made _ refl stands
+      quiet first setup accepted made _ refl stands
   row_preserves _ _ later same (rows.starts unstarted) = absurd (later refl)
-  row_preserves _ _ later same (rows.resends going in_time) = quiet setup accepted made _ refl
+  row_preserves _ _ later same (rows.resends going in_time) = quiet first setup accepted made _ refl
       (remains _ _ _ _ stands.unstarted stands.proposed stands.sure)
-  row_preserves _ _ later same (rows.times_out going late) = quiet setup accepted made _ refl
+  row_preserves _ _ later same (rows.times_out going late) = quiet first setup accepted made _ refl
       (remains _ _ _ _ (λ e. absurd (false≢true (sym e))) stands.proposed
       (λ e. absurd (false≢true e)))
   row_preserves _ _ later same (rows.proposes bytes id kind body entered vars desired next packet
@@ -297,7 +305,7 @@ module _ (setup : ServerSetup) (now : ServerNow) (accepted made : List TagRecord
       id kind body entered vars desired selects) next_is
   row_preserves _ _ later same
       (rows.proposes_none bytes id kind body entered vars desired heard selects none) =
-      quiet setup accepted made _ refl (proposing (goes_on now.vars.state heard.going)
+      quiet first setup accepted made _ refl (proposing (goes_on now.vars.state heard.going)
       id kind body entered vars desired selects).gives_up
   row_preserves _ _ later same (rows.requests bytes id kind body packet tags views heard turned) =
       record {
@@ -312,27 +320,28 @@ module _ (setup : ServerSetup) (now : ServerNow) (accepted made : List TagRecord
   -- by the table alone
   abbrev IsConsistent : ServerInput → ServerAnswer → Type 0
   IsConsistent input out = (input ≡ start → ⊥) → ((nonce : List ℕ) → input ≡ restart nonce → ⊥)
-      → Preserves setup accepted made out
+      → Preserves first setup accepted made out
 
   answer_preserves : (input : ServerInput) → IsConsistent input (server_answers now input)
   answer_preserves input later same =
       row_preserves input _ later same (server_answers_are_rows now input)
 
   of_octets : (bytes : List ℕ)
-      → Preserves setup accepted made (server_answers now (inputs.octets bytes))
+      → Preserves first setup accepted made (server_answers now (inputs.octets bytes))
   of_octets bytes = answer_preserves (inputs.octets bytes) (λ e. cc e) (λ nonce e. cc e)
 
   -- lastReqData alone is another where a Request is wrapped
-  wraps_preserve : (out : ServerAnswer) (sent : Option (List ℕ)) → Preserves setup accepted made out
-      → Preserves setup accepted made (wraps_sent out sent)
+  wraps_preserve : (out : ServerAnswer) (sent : Option (List ℕ))
+      → Preserves first setup accepted made out
+      → Preserves first setup accepted made (wraps_sent out sent)
   wraps_preserve out None kept = kept
   wraps_preserve out (Some packet) kept =
       let s = kept.stands in
-      cond_both (code_of packet == 1) _ _ (Preserves setup accepted made)
+      cond_both (code_of packet == 1) _ _ (Preserves first setup accepted made)
       (λ _. record {
         stands = record {
           own = s.own;
-          both = s.both;
+          objects = s.objects;
           good = s.good;
           has = s.has;
           unstarted =
@@ -343,10 +352,11 @@ module _ (setup : ServerSetup) (now : ServerNow) (accepted made : List TagRecord
       })
       (λ _. kept)
 
-  bad_preserves : Preserves setup accepted made (discards_bad now)
+  bad_preserves : Preserves first setup accepted made (discards_bad now)
   bad_preserves =
-      cond_both (awaits_first now.vars) _ _ (Preserves setup accepted made)
-      (λ _. quiet setup accepted made _ refl stands) (λ _. quiet setup accepted made _ refl stands)
+      cond_both (awaits_first now.vars) _ _ (Preserves first setup accepted made)
+      (λ _. quiet first setup accepted made _ refl stands)
+      (λ _. quiet first setup accepted made _ refl stands)
 
   receiving_preserves : (bytes : List ℕ) (out : ServerAnswer) → ServerReceiving now bytes out
       → IsConsistent (inputs.octets bytes) out
@@ -357,32 +367,36 @@ module _ (setup : ServerSetup) (now : ServerNow) (accepted made : List TagRecord
       wraps_preserve out out.step.sent (of_octets _)
 
 -- every input after the start but the begin of a new conversation keeps what stands
-pub server_preserves : (setup : ServerSetup) (now : ServerNow) (accepted made : List TagRecord)
+pub server_preserves : {first : ServerViews} (setup : ServerSetup) (now : ServerNow)
+    (accepted made : List TagRecord)
     (input : ServerInput) → (input ≡ start → ⊥)
-    → ((nonce : List ℕ) → input ≡ restart nonce → ⊥) → ServerInvariant setup now accepted made
-    → (let out = server_accepts now input in ServerInvariant setup out.after
+    → ((nonce : List ℕ) → input ≡ restart nonce → ⊥)
+    → ServerInvariantOf first setup now accepted made
+    → (let out = server_accepts now input in ServerInvariantOf first setup out.after
     (accepted ++ out.step.tags.accepted) (made ++ out.step.tags.made))
-server_preserves setup now accepted made input later same stands =
-    (server_accepted_tags now (IsConsistent setup now accepted made stands) (answer_preserves setup
-    now accepted made stands) (receiving_preserves setup now accepted made stands)
+server_preserves {first} setup now accepted made input later same stands =
+    (server_accepted_tags now (IsConsistent first setup now accepted made stands)
+    (answer_preserves first setup
+    now accepted made stands) (receiving_preserves first setup now accepted made stands)
     input later same).stands
 
 -- a server of these settings that begins a new conversation stands as one that was made, or has
 -- started, with the new nonce
-pub server_invariant_anew : (setup : ServerSetup) (now : ServerNow) (nonce : List ℕ)
-    → now.vars.setup ≡ setup → ServerHasBoth setup.methods now.views
-    → ServerInvariant (setup_with_nonce setup nonce)
+pub server_invariant_anew : {first : ServerViews} (setup : ServerSetup) (now : ServerNow)
+    (nonce : List ℕ) → now.vars.setup ≡ setup → ServerHasMethods setup.methods first now.views
+    → ServerInvariantOf first (setup_with_nonce setup nonce)
     (server_accepts now (restart nonce)).after [] []
 unfolding server_restart
-server_invariant_anew setup now nonce own both =
-    let set : ServerHasBoth now.vars.setup.methods now.views =
-    subst (λ (s : ServerSetup). ServerHasBoth s.methods now.views) (sym own) both in
-    subst (λ (s : ServerSetup). ServerInvariant (setup_with_nonce s nonce)
-    (server_restart now nonce).after [] []) own (cond_both (is_backend now.vars) _ _ (λ
-    (out : ServerAnswer). ServerInvariant (setup_with_nonce now.vars.setup nonce) out.after [] [])
-    (λ _. initiates_with now.vars.role (setup_with_nonce now.vars.setup nonce)
+server_invariant_anew {first} setup now nonce own objects =
+    let set : ServerHasMethods now.vars.setup.methods first now.views =
+    subst (λ (s : ServerSetup). ServerHasMethods s.methods first now.views) (sym own) objects in
+    subst (λ (s : ServerSetup). ServerInvariantOf first (setup_with_nonce s nonce)
+    (server_restart now nonce).after [] []) own (cond_both (is_backend now.vars) _ _
+    (λ (out : ServerAnswer). ServerInvariantOf first (setup_with_nonce now.vars.setup nonce)
+    out.after [] [])
+    (λ _. initiates_with now.vars.role (setup_with_nonce now.vars.setup nonce) first
     now.views set now.vars.first_id now.vars.max_retrans)
-    (λ _. starts_with now.vars.role (setup_with_nonce now.vars.setup nonce)
+    (λ _. starts_with now.vars.role (setup_with_nonce now.vars.setup nonce) first
     now.views set now.vars.first_id now.vars.max_retrans))
 
 -- it has made no tag in it

@@ -48,7 +48,7 @@ use Rattle.tag_book.specs.declared.book.Use.TheVariants.{Accepted}
 use Rattle.eap_world.specs.declared.told.Skip.{Skip}
 use Rattle.world_laws.specs.EndInvariants.{BothInvariants, present_tags}
 use Rattle.world_laws.proofs.Acting.{counted_acted, next_is, restart_is, some_call, step_steps}
-use Rattle.world_laws.proofs.AsksByMethod.{peer_accepted, server_accepted}
+use Rattle.method_laws.proofs.AsksByMethod.{peer_accepted, server_accepted}
 use Rattle.world_laws.proofs.EndInvariants.{InvariantSoFar, start_invariant, step_invariant}
 use Rattle.method_laws.proofs.OneMethod.{some_same}
 use Rattle.method_laws.proofs.Succeeding.{peer_succeeds, server_succeeds}
@@ -374,7 +374,7 @@ step_satisfies setup w e _ (is_called call unskipped is_call) so holds = record 
   so = so;
   said = (let stand = holds.so.both in
       call_has_sent w.parties w.sent holds.said call (event_matches w.parties w.conversations w.sent
-      e call unskipped is_call) stand.peer_invariant.both stand.server_invariant.both);
+      e call unskipped is_call) stand.peer_invariant.objects stand.server_invariant.objects);
   begun = call_started w.parties call holds.begun;
 }
 
@@ -414,8 +414,8 @@ start_satisfies setup = record {
   so = start_invariant setup;
   said = call_has_sent (initial_world setup).parties [] (initial_has_sent setup)
       (start_call setup.mode) (start_matches setup.mode)
-      (peer_initiates setup.peer).both
-      (server_initiates (role_in setup.mode) setup.server setup.first_id setup.max_retrans).both;
+      (peer_initiates setup.peer).objects
+      (server_initiates (role_in setup.mode) setup.server setup.first_id setup.max_retrans).objects;
   begun = start_started setup setup.mode refl;
 }
 
@@ -466,7 +466,8 @@ module _ (setup : Setup) (w : WorldNow) (e : Event) (holds : Holds setup w) wher
   answers_law _ (is_skipped skip) packet sends = no_party _ sends.acts
   answers_law _ (is_called (to_peer input) unskipped is_call) packet sends =
       let is = one_sent _ _ packet (cancel w.sent _ _ sends.adds) in
-      peer_answers input packet (peer_speaks w.parties.peer holds.so.both.peer_invariant.both input)
+      peer_answers input packet
+      (peer_speaks w.parties.peer holds.so.both.peer_invariant.objects input)
       is_call is.sent
   answers_law _ (is_called (to_server input) unskipped is_call) packet sends =
       absurd (let other = sends.acts in cc other)
@@ -536,12 +537,12 @@ module _ (setup : Setup) (w : WorldNow) (e : Event) (holds : Holds setup w) wher
   repeats_law _ (is_called (to_peer input) unskipped is_call) of packet sends again =
       let is = one_sent _ _ packet (cancel w.sent _ _ sends.adds) in
       ap (λ (to : Port). last_to to w.sent) is.port ∙ peer_again input packet.octets (peer_speaks
-      w.parties.peer holds.so.both.peer_invariant.both input) again is.sent
+      w.parties.peer holds.so.both.peer_invariant.objects input) again is.sent
   repeats_law _ (is_called (to_server input) unskipped is_call) of packet sends again =
       let is = one_sent _ _ packet (cancel w.sent _ _ sends.adds) in
       ap (λ (to : Port). last_to to w.sent) is.port
       ∙ server_again input packet.octets
-      (server_speaks w.parties.server holds.so.both.server_invariant.both input)
+      (server_speaks w.parties.server holds.so.both.server_invariant.objects input)
       (λ same. server_timer w.parties w.conversations w.sent e unskipped
       (is_call ∙ ap (λ (i : ServerInput). Some (to_server i)) same)) again is.sent
   repeats_law _ (is_called (to_pass input) unskipped is_call) of packet sends again =
@@ -599,7 +600,7 @@ module _ (setup : Setup) (w : WorldNow) (e : Event) (holds : Holds setup w) wher
       alone delivered packet sends is_request =
       let is = one_sent _ _ packet (cancel w.sent _ _ sends.adds) in
       server_counts input packet.octets
-      (server_speaks w.parties.server holds.so.both.server_invariant.both input) alone
+      (server_speaks w.parties.server holds.so.both.server_invariant.objects input) alone
       (of_delivery w.conversations w.sent e (to_server input) delivered is_call)
       is.sent is_request
   counts_law _ (is_called (to_pass input) unskipped is_call)
@@ -667,7 +668,8 @@ module _ (setup : Setup) (w : WorldNow) (e : Event) (holds : Holds setup w) wher
   silent_law _ (is_called (to_peer input) unskipped is_call)
       goes_on party.Peer s stands over packet sends =
       let is = one_sent _ _ packet (cancel w.sent _ _ sends.adds) in
-      peer_silent input packet.octets (peer_speaks w.parties.peer holds.so.both.peer_invariant.both
+      peer_silent input packet.octets
+      (peer_speaks w.parties.peer holds.so.both.peer_invariant.objects
       input) (ap is_end (some_state _ _ stands) ∙ over) is.sent
   silent_law _ (is_called (to_peer input) unskipped is_call)
       goes_on party.Pass s stands over packet sends = let other = sends.acts in cc other
@@ -681,7 +683,8 @@ module _ (setup : Setup) (w : WorldNow) (e : Event) (holds : Holds setup w) wher
       goes_on party.Server s stands over packet sends =
       let is = one_sent _ _ packet (cancel w.sent _ _ sends.adds) in
       server_silent input packet.octets (server_speaks
-      w.parties.server holds.so.both.server_invariant.both input) (of_start w.conversations w.sent e
+      w.parties.server holds.so.both.server_invariant.objects input)
+      (of_start w.conversations w.sent e
       (to_server input) goes_on is_call) (ap is_end (some_state _ _ stands) ∙ over) is.sent
   silent_law _ (is_called (to_pass input) unskipped is_call)
       goes_on party.Peer s stands over packet sends = let other = sends.acts in cc other

@@ -1,6 +1,6 @@
 -- An end that has no later nonces never begins a second conversation.
 use Rattle.std.proofs.Common.{◌≡◌, ℕ, List, [], ◌∷◌, length, map, Option, Some, None, refl, ap}
-use Rattle.world_laws.specs.Agreement.{StartsOnce}
+use Rattle.world_laws.specs.Laws.{StartsOnce}
 use Rattle.eap_world.specs.Conversations.{Conversations, hears, waiting}
 use Rattle.eap_world.specs.World.{WorldNow, WorldOutcome, call_octets, delivered_in_call}
 use Rattle.eap_world.specs.World.{world_start}

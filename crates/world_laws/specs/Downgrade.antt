@@ -19,7 +19,7 @@ use Rattle.tag_book.specs.declared.book.End.TheVariants as end
 use Rattle.eap_world.specs.Conversations.{initiated_by}
 use Rattle.eap_world.specs.World.{WorldNow, world_step}
 use Rattle.eap_world.specs.Sent.{Sent}
-use Rattle.world_laws.specs.Agreement.{IsWhole}
+use Rattle.world_laws.specs.Whole.{IsWhole}
 use Rattle.world_laws.specs.SingleSteps.{Sends, delivered_in, is_again}
 use Rattle.world_laws.specs.Runs.{run_of}
 

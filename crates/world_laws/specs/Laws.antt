@@ -1,12 +1,15 @@
 -- Laws of both ends over events.
-use Rattle.std.specs.Prelude.{◌≡◌, ◌+◌, List, [], true, None, IsSome}
+use Rattle.std.specs.Prelude.{◌≡◌, ◌+◌, List, [], length, true, None, IsSome}
 use Rattle.login_setup.specs.declared.event.Event.{Event}
 use Rattle.login_setup.specs.declared.setup.Party.{Party}
 use Rattle.login_setup.specs.declared.setup.Setup.{Setup}
+use Rattle.tag_book.specs.Book.{tags_verdict, tags_verdict_either}
+use Rattle.tag_book.specs.declared.book.TagsVerdict.TheVariants.{Honest}
+use Rattle.tag_book.specs.declared.book.Entry.{Entry}
 use Rattle.eap_world.specs.declared.world.HasReported.{HasReported}
 use Rattle.eap_world.specs.World.{WorldNow, WorldOutcome, Parties, has_reported, report_of}
 use Rattle.eap_world.specs.World.{world_start, world_step, run_after}
-use Rattle.world_laws.specs.Runs.{initial_world}
+use Rattle.world_laws.specs.Runs.{initial_world, run_of}
 
 -- a report that an end has was reported
 pub record HasTracedReports (held : HasReported) (parties : Parties) : Type 0 where
@@ -52,3 +55,13 @@ abbrev pub ReportsAreTraced : Type 0
 ReportsAreTraced =
     (setup : Setup) (events : List Event) → (let last = run_after
     (world_start (initial_world setup)).after events in HasTracedReports last.held last.parties)
+
+-- a book that is honest by the other end's tags alone is honest by those of either end
+abbrev pub HonestOfEither : Type 0
+HonestOfEither =
+    (book : List Entry) → tags_verdict book ≡ Honest → tags_verdict_either book ≡ Honest
+
+-- an end that has no later nonces never begins a second conversation
+abbrev pub StartsOnce : Type 0
+StartsOnce = (setup : Setup) (events : List Event) → setup.later.peer ≡ [] → setup.later.server ≡ []
+    → length (run_of setup events).conversations.begun ≡ 2

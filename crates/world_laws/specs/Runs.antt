@@ -1,4 +1,4 @@
--- Runs whose ends have objects of EAP-PSK and EAP-GPSK alone, one of each method that they name.
+-- Runs whose ends have objects of the two methods alone, one of each method that they name.
 use Rattle.std.specs.Prelude.{◌≡◌, ℕ, List, [], ◌∷◌, ◌++◌}
 use Rattle.login_setup.specs.declared.event.Event.{Event}
 use Rattle.login_setup.specs.declared.setup.PeerSetup.{PeerSetup}

@@ -6,7 +6,7 @@ ghost use Rattle.octet_lists.specs.Among.{gpsk_kind};
 ghost use Rattle.octet_lists.specs.Sizes.{max_name};
 ghost use Rattle.octet_lists.specs.Suite.{ks_of};
 ghost use Rattle.eap_packet.specs.Packet.{max_type_data};
-ghost use Rattle.login_setup.specs.Setup.{is_valid_for};
+ghost use Rattle.login_setup.specs.Setup.{has_valid_key};
 ghost use Rattle.login_setup.specs.Users.{user_of};
 ghost use Rattle.gpsk_messages.specs.Message.{message_of};
 ghost use Rattle.gpsk_messages.specs.Reading.{read_of};
@@ -84,7 +84,7 @@ fn answer<R: Records>(
 /// The user of this name, with a key for EAP-GPSK.
 #[tactic(auto, using(crate::proofs::UserKeys::key_is_long))]
 fn find_user<'a>(users: &'a [User], id_p: &[u8]) -> Option<&'a User>
-    requires { All (λ user. IsTrue (is_valid_for user.kind user.psk)) users.now }
+    requires { All (λ user. IsTrue (has_valid_key user)) users.now }
     ensures found { option_copied result ≡ user_of users.now id_p.now gpsk_kind }
     ensures key { IfSome result (λ user. 32 ≤ length user.now.psk) }
 {
@@ -202,7 +202,7 @@ fn asked_receives<R: Records>(
 ) -> ServerAnswer
     requires received { IsReceived (message_of view.now) body.now }
     requires asked { progress.old ≡ stage.Alone Asked }
-    requires keys { All (λ user. IsTrue (is_valid_for user.kind user.psk)) users.now }
+    requires keys { All (λ user. IsTrue (has_valid_key user)) users.now }
     ensures turn { outcome_with result packet.new tags.new (view_of own.now progress.new)
         ≡ asked_receives users.now own.now.side own.now.nonce next_id (message_of view.now) }
     ensures ready { IsReady own.now progress.new }
@@ -241,7 +241,7 @@ pub fn asked_reads<R: Records>(
 ) -> ServerAnswer
     requires size { length body.now ≤ max_type_data }
     requires asked { progress.old ≡ stage.Alone Asked }
-    requires keys { All (λ user. IsTrue (is_valid_for user.kind user.psk)) users.now }
+    requires keys { All (λ user. IsTrue (has_valid_key user)) users.now }
     ensures turn { outcome_with result packet.new tags.new (view_of own.now progress.new)
         ≡ asked_reads users.now own.now.side own.now.nonce next_id (read_of None body.now) }
     ensures ready { IsReady own.now progress.new }

@@ -2,7 +2,7 @@
 
 ghost use Rattle.std.specs.Prelude.{◌≡◌, ◌≤◌, ℕ, List, ◌∷◌, [], length, true, All, IsTrue, None};
 ghost use Rattle.std.specs.Prelude.{Some, option_map};
-ghost use Rattle.login_setup.specs.Setup.{is_valid_for};
+ghost use Rattle.login_setup.specs.Setup.{has_valid_key};
 ghost use Rattle.octet_lists.specs.Suite.{ks_of};
 ghost use Rattle.octet_lists.specs.Sizes.{max_packet};
 ghost use Rattle.eap_packet.specs.Packet.{max_type_data};
@@ -202,7 +202,7 @@ pub fn handle_response<R: Records>(
 ) -> ServerAnswer
     requires header { 5 ≤ length response.now }
     requires size { length response.now ≤ max_packet }
-    requires keys { All (λ user. IsTrue (is_valid_for user.kind user.psk)) users.now }
+    requires keys { All (λ user. IsTrue (has_valid_key user)) users.now }
     ensures turn { outcome_with result packet.new tags.new stage.new
         ≡ step users.now next_id stage.old response.now }
     ensures capacity { requests result ≡ true → HasCapacity packet.new }

@@ -3,7 +3,7 @@
 ghost use Rattle.std.specs.Prelude.{◌≡◌, ℕ, ◌≤◌, [], length, All, IsTrue, Some};
 ghost use Rattle.octet_lists.specs.Among.{psk_kind};
 ghost use Rattle.octet_lists.specs.Sizes.{max_name};
-ghost use Rattle.login_setup.specs.Setup.{is_valid_for};
+ghost use Rattle.login_setup.specs.Setup.{has_valid_key};
 ghost use Rattle.login_setup.specs.Users.{user_of};
 ghost use Rattle.psk_messages.specs.Message.{psk3};
 ghost use Rattle.psk_messages.specs.Reading.{read_of};
@@ -106,7 +106,7 @@ fn find<'a>(
     users: &'a [User],
 ) -> Result<Option<UserPsk2<'a>>, Cause>
     requires name { length psk2.now.id_p.now ≤ max_name }
-    requires keys { All (λ user. IsTrue (is_valid_for user.kind user.psk)) users.now }
+    requires keys { All (λ user. IsTrue (has_valid_key user)) users.now }
     ensures { (next_id : ℕ) → asked_with own.now next_id result
         ≡ finds own.now.side own.now.nonce next_id
         psk2.now.rand_p psk2.now.mac psk2.now.id_p.now
@@ -128,7 +128,7 @@ pub fn asked_reads<'a>(
     users: &'a [User],
 ) -> Result<Option<UserPsk2<'a>>, Cause>
     requires size { 5 ≤ length response.now }
-    requires keys { All (λ user. IsTrue (is_valid_for user.kind user.psk)) users.now }
+    requires keys { All (λ user. IsTrue (has_valid_key user)) users.now }
     ensures { (next_id : ℕ) → asked_with own.now next_id result
         ≡ asked_reads users.now own.now.side own.now.nonce next_id
         (read_of (body_of response.now)) }

@@ -1,7 +1,7 @@
 //! A server's first Request, and its turn for each Response (RFC 4764 section 4).
 
 ghost use Rattle.std.specs.Prelude.{◌≡◌, ℕ, ◌≤◌, List, length, true, All, IsTrue};
-ghost use Rattle.login_setup.specs.Setup.{is_valid_for};
+ghost use Rattle.login_setup.specs.Setup.{has_valid_key};
 ghost use Rattle.psk_messages.specs.Reading.{read_of};
 ghost use Rattle.eap_method.specs.Capacity.{HasCapacity, requests};
 ghost use Rattle.eap_method.specs.Turns.{body_of};
@@ -138,7 +138,7 @@ pub fn handle_response<R: Records>(
     tags: &mut Tags<R>,
 ) -> ServerAnswer
     requires size { 5 ≤ length response.now }
-    requires keys { All (λ user. IsTrue (is_valid_for user.kind user.psk)) users.now }
+    requires keys { All (λ user. IsTrue (has_valid_key user)) users.now }
     ensures turn { outcome_with result packet.new tags.new (view_of stage.new)
         ≡ step users.now next_id (view_of stage.old) response.now }
     ensures capacity { requests result ≡ true → HasCapacity packet.new }

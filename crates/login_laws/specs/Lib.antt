@@ -1,0 +1,10 @@
+pub mod Agreement
+pub mod Alone
+pub mod PskReflected
+pub mod Matching
+pub mod UnderKey
+pub mod PresentUnderKey
+pub mod SessionIds
+pub mod Forgery
+pub mod UnconditionalPsk
+pub mod NewKeys

@@ -1,5 +1,0 @@
-use Rattle.world_laws.proofs.Forgery.{agree_or_forged}
-use Rattle.world_laws.proofs.laws.agree_or_forged.Goals as goal
-
-pub returns : goal.returns
-returns c = agree_or_forged

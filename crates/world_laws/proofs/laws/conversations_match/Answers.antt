@@ -1,5 +1,0 @@
-use Rattle.world_laws.proofs.Conversations.{conversations_match}
-use Rattle.world_laws.proofs.laws.conversations_match.Goals as goal
-
-pub returns : goal.returns
-returns c = conversations_match

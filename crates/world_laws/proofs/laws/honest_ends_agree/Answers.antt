@@ -1,5 +1,0 @@
-use Rattle.world_laws.proofs.laws.honest_ends_agree.Goals as goal
-use Rattle.world_laws.proofs.HonestRuns.{honest_ends_agree}
-
-pub returns : goal.returns
-returns c = honest_ends_agree

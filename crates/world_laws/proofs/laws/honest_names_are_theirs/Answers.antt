@@ -1,5 +1,0 @@
-use Rattle.world_laws.proofs.laws.honest_names_are_theirs.Goals as goal
-use Rattle.world_laws.proofs.Owner.{honest_names_are_theirs}
-
-pub returns : goal.returns
-returns c = honest_names_are_theirs

@@ -1,5 +1,0 @@
-use Rattle.world_laws.proofs.NewKeys.{keys_are_new}
-use Rattle.world_laws.proofs.laws.keys_are_new.Goals as goal
-
-pub returns : goal.returns
-returns c = keys_are_new

@@ -1,5 +1,0 @@
-use Rattle.world_laws.proofs.PresentUnderKey.{one_end_implies_under}
-use Rattle.world_laws.proofs.laws.one_end_implies_under_a_key.Goals as goal
-
-pub returns : goal.returns
-returns c = one_end_implies_under

@@ -1,5 +1,0 @@
-use Rattle.world_laws.proofs.UnconditionalPsk.{psk_success_is_unconditional}
-use Rattle.world_laws.proofs.laws.psk_success_is_unconditional.Goals as goal
-
-pub returns : goal.returns
-returns c = psk_success_is_unconditional

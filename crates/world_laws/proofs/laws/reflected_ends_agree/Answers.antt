@@ -1,5 +1,0 @@
-use Rattle.world_laws.proofs.PskReflected.{reflected_ends_agree}
-use Rattle.world_laws.proofs.laws.reflected_ends_agree.Goals as goal
-
-pub returns : goal.returns
-returns c = reflected_ends_agree
