@@ -1,0 +1,9 @@
+pub mod Keys
+pub mod Packets
+pub mod Messages
+pub mod PaxPeer
+pub mod PaxServer
+pub mod PeerTags
+pub mod ServerTags
+pub mod Agreement
+pub mod Runs
