@@ -9,6 +9,8 @@ mod examples;
 #[cfg(test)]
 mod faults;
 #[cfg(test)]
+mod makers_keys;
+#[cfg(test)]
 mod makers_method;
 #[cfg(test)]
 mod messages;

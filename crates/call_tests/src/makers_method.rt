@@ -1,7 +1,7 @@
 //! A maker's own method logs in like the others: EAP MD5-Challenge between the machines, through the pass-through, between
 //! the pipes and in a world, by its own objects and in boxes.
 
-use crate::plain_calls::{LOGINS, input_of, settings_of};
+use crate::plain_calls::{LOGINS, Way, input_of, settings_of};
 use eap_base::{Event, Octets, Packet, Party, Setup};
 use eap_method::{Methods, PeerMethod, ServerMethod};
 use eap_packet::{Cause, State};
@@ -15,10 +15,12 @@ use server_machine::{Backend, ServerMachine};
 use std::alloc::{AllocError, Global};
 use std::test::Fail;
 
-/// The secret of both ends, and another one.
+/// The secret of both ends, another one, and none.
 const SECRET: &[u8] = b"a secret of both";
 
 const OTHER: &[u8] = b"a secret of none";
+
+const NO_SECRET: &[u8] = b"";
 
 /// The Challenge of the server whose nonce is 32 octets 0x22, with Identifier 2, and the Response to it under the secret. Its Value is
 /// what `printf '\x02a secret of both""""""""""""""""' | openssl md5` prints.
@@ -28,7 +30,7 @@ const RESPONSE: &[u8] =
     b"\x02\x02\x00\x16\x04\x10\x72\x76\x36\x1b\x53\x35\x77\xac\x3c\x4e\x7e\x53\xfc\x7f\xe0\xa6";
 
 /// The settings of two ends that allow and propose these Types.
-fn settings(allowed: &[u8], order: &[u8]) -> Option<Setup> {
+pub(crate) fn settings(allowed: &[u8], order: &[u8]) -> Option<Setup> {
     let mut setup = settings_of(LOGINS[0])?;
     setup.first_id = 1;
     setup.peer.methods = Octets::from_slice(allowed)?;
@@ -73,14 +75,14 @@ fn boxes(alloc: Global) -> Result<Methods, AllocError> {
 
 /// How a login ended: the states of the peer and of the server, and whether both have keys, or neither.
 #[derive(Clone, Copy, PartialEq, Eq, Debug)]
-struct End {
+pub(crate) struct End {
     peer: State,
     server: State,
     with_keys: Option<bool>,
 }
 
 /// An end of both in this state, with keys or without.
-fn both_in(state: State, with_keys: bool) -> Option<End> {
+pub(crate) fn both_in(state: State, with_keys: bool) -> Option<End> {
     Some(End {
         peer: state,
         server: state,
@@ -94,7 +96,7 @@ fn keys_of(peer: bool, server: bool) -> Option<bool> {
 }
 
 /// Between the peer and the stand-alone server.
-fn between_machines<P: PeerMethod, S: ServerMethod>(
+pub(crate) fn between_machines<P: PeerMethod, S: ServerMethod>(
     setup: Setup,
     methods: Methods<P, S>,
 ) -> Option<End> {
@@ -131,7 +133,7 @@ fn between_machines<P: PeerMethod, S: ServerMethod>(
 }
 
 /// Between the peer and the backend, through the pass-through.
-fn through_pass<P: PeerMethod, S: ServerMethod>(
+pub(crate) fn through_pass<P: PeerMethod, S: ServerMethod>(
     setup: Setup,
     methods: Methods<P, S>,
 ) -> Option<End> {
@@ -163,7 +165,7 @@ fn through_pass<P: PeerMethod, S: ServerMethod>(
 }
 
 /// Between the pipes of both ends.
-fn between_pipes<P: PeerMethod, S: ServerMethod>(
+pub(crate) fn between_pipes<P: PeerMethod, S: ServerMethod>(
     setup: Setup,
     methods: Methods<P, S>,
 ) -> Option<End> {
@@ -205,8 +207,20 @@ fn between_pipes<P: PeerMethod, S: ServerMethod>(
     })
 }
 
+/// Whether a packet was sent and an end got its report, as a packet of this number was delivered; None if it can't be.
+fn deliver<P: PeerMethod, S: ServerMethod>(
+    world: &mut World<P, S>,
+    number: u32,
+) -> Option<(bool, bool)> {
+    if !world.started() || !world.has_objects() || world.counts().events >= 16 {
+        return None;
+    }
+    let told = world.step(&Event::Deliver { number }).ok()?;
+    Some((told.sent.is_some(), told.named.is_some()))
+}
+
 /// In a world, in which each packet is delivered once.
-fn in_world<P: PeerMethod, S: ServerMethod>(
+pub(crate) fn in_world<P: PeerMethod, S: ServerMethod>(
     alloc: Global,
     setup: Setup,
     methods: Methods<P, S>,
@@ -218,19 +232,17 @@ fn in_world<P: PeerMethod, S: ServerMethod>(
     if world.started() || !world.has_objects() {
         return None;
     }
-    let mut told = world.start().ok()?;
+    let mut is_sent = world.start().ok()?.sent.is_some();
     let mut one_names = false;
     let mut both_name = false;
     for number in 1..16 {
-        if told.sent.is_none() {
+        if !is_sent {
             break;
         }
-        if !world.started() || !world.has_objects() || world.counts().events >= 16 {
-            return None;
-        }
-        told = world.step(&Event::Deliver { number }).ok()?;
-        both_name |= one_names & told.named.is_some();
-        one_names |= told.named.is_some();
+        let (sends, names) = deliver(&mut world, number)?;
+        is_sent = sends;
+        both_name |= one_names & names;
+        one_names |= names;
     }
     let end = End {
         peer: world.state(Party::Peer)?,
@@ -240,22 +252,45 @@ fn in_world<P: PeerMethod, S: ServerMethod>(
     Some((end, world.result()))
 }
 
-/// True if a login with these secrets ends so, between the machines, through the pass-through and between the pipes.
-fn ends(alloc: Global, peer: &[u8], server: &[u8], end: Option<End>) -> Result<bool, AllocError> {
+/// The ways by which a maker's method logs in.
+pub(crate) const MAKERS_WAYS: [Way; 4] = [Way::World, Way::Machines, Way::Through, Way::Pipes];
+
+/// How a login ends by one of them; None by the way that isn't one.
+pub(crate) fn end_by<P: PeerMethod, S: ServerMethod>(
+    alloc: Global,
+    way: Way,
+    setup: Setup,
+    methods: Methods<P, S>,
+) -> Option<End> {
+    match way {
+        Way::World => in_world(alloc, setup, methods).map(|over| over.0),
+        Way::Machines => between_machines(setup, methods),
+        Way::InPlace => None,
+        Way::Through => through_pass(setup, methods),
+        Way::Pipes => between_pipes(setup, methods),
+    }
+}
+
+/// How a login with these secrets ends by this way.
+fn md5_end(alloc: Global, way: Way, peer: &[u8], server: &[u8]) -> Result<Option<End>, AllocError> {
     let Some(setup) = settings(&[4], &[4]) else {
-        return Ok(false);
+        return Ok(None);
     };
-    let between = between_machines(setup.copy(), md5_methods(alloc, peer, server)?);
-    let through = through_pass(setup.copy(), md5_methods(alloc, peer, server)?);
-    let pipes = between_pipes(setup, md5_methods(alloc, peer, server)?);
-    Ok(between == end && through == end && pipes == end)
+    Ok(end_by(alloc, way, setup, md5_methods(alloc, peer, server)?))
 }
 
 #[test]
 fn a_makers_method_logs_in(rt: HostRuntime) -> Result<(), Fail> {
-    assert!(rt; ends(rt.alloc(), SECRET, SECRET, both_in(State::Success, false))?);
-    assert!(rt; ends(rt.alloc(), OTHER, SECRET, both_in(State::Failure, false))?);
-    assert!(rt; ends(rt.alloc(), b"", b"", both_in(State::Success, false))?);
+    for (secret, other, state) in [
+        (SECRET, SECRET, State::Success),
+        (OTHER, SECRET, State::Failure),
+        (NO_SECRET, NO_SECRET, State::Success),
+    ] {
+        for way in MAKERS_WAYS {
+            let end = md5_end(rt.alloc(), way, secret, other)?;
+            assert!(rt; end == both_in(state, false), "{way:?} {end:?}");
+        }
+    }
     Ok(())
 }
 
@@ -279,32 +314,71 @@ fn a_makers_method_logs_in_a_world(rt: HostRuntime) -> Result<(), Fail> {
     Ok(())
 }
 
-/// How a login ends over boxes of both methods, in each way.
-fn over_boxes(alloc: Global, allowed: &[u8], order: &[u8]) -> Result<[Option<End>; 4], AllocError> {
+/// How a login ends by this way over boxes of both methods.
+fn end_over_boxes(
+    alloc: Global,
+    way: Way,
+    allowed: &[u8],
+    order: &[u8],
+) -> Result<Option<End>, AllocError> {
     let Some(setup) = settings(allowed, order) else {
-        return Ok([None; 4]);
+        return Ok(None);
     };
-    Ok([
-        between_machines(setup.copy(), boxes(alloc)?),
-        through_pass(setup.copy(), boxes(alloc)?),
-        between_pipes(setup.copy(), boxes(alloc)?),
-        in_world(alloc, setup, boxes(alloc)?).map(|over| over.0),
-    ])
+    Ok(end_by(alloc, way, setup, boxes(alloc)?))
 }
 
-// The first of the server's order that the peer allows is taken: at once, or after its Nak (RFC 3748 section 5.3.1).
+/// A choice of methods: what the peer allows, the server's order, and the end.
+#[derive(Clone, Copy)]
+struct Choice {
+    allowed: &'static [u8],
+    order: &'static [u8],
+    end: (State, bool),
+}
+
+/// By MD5-Challenge, which gives no keys, or by EAP-PSK: at once, or after a Nak; and by none.
+const CHOICES: [Choice; 6] = [
+    Choice {
+        allowed: &[47, 4],
+        order: &[4, 47],
+        end: (State::Success, false),
+    },
+    Choice {
+        allowed: &[47, 4],
+        order: &[47, 4],
+        end: (State::Success, true),
+    },
+    Choice {
+        allowed: &[47],
+        order: &[4, 47],
+        end: (State::Success, true),
+    },
+    Choice {
+        allowed: &[4],
+        order: &[47, 4],
+        end: (State::Success, false),
+    },
+    Choice {
+        allowed: &[4],
+        order: &[47],
+        end: (State::Failure, false),
+    },
+    Choice {
+        allowed: &[47],
+        order: &[4],
+        end: (State::Failure, false),
+    },
+];
+
+// The first of the server's order that the peer allows is taken (RFC 3748 section 5.3.1).
 #[test]
 fn a_makers_method_is_refused_and_desired(rt: HostRuntime) -> Result<(), Fail> {
-    let by_md5 = both_in(State::Success, false);
-    let by_psk = both_in(State::Success, true);
-    let none = both_in(State::Failure, false);
-    let alloc = rt.alloc();
-    assert!(rt; over_boxes(alloc, &[47, 4], &[4, 47])? == [by_md5; 4]);
-    assert!(rt; over_boxes(alloc, &[47, 4], &[47, 4])? == [by_psk; 4]);
-    assert!(rt; over_boxes(alloc, &[47], &[4, 47])? == [by_psk; 4]);
-    assert!(rt; over_boxes(alloc, &[4], &[47, 4])? == [by_md5; 4]);
-    assert!(rt; over_boxes(alloc, &[4], &[47])? == [none; 4]);
-    assert!(rt; over_boxes(alloc, &[47], &[4])? == [none; 4]);
+    for choice in CHOICES {
+        let wanted = both_in(choice.end.0, choice.end.1);
+        for way in MAKERS_WAYS {
+            let end = end_over_boxes(rt.alloc(), way, choice.allowed, choice.order)?;
+            assert!(rt; end == wanted, "{way:?} {end:?}");
+        }
+    }
     Ok(())
 }
 

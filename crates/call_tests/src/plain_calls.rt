@@ -201,6 +201,35 @@ fn note_report(peer: &mut Option<Report>, server: &mut Option<Report>, named: Na
     }
 }
 
+/// True if this packet can be delivered; what is sent, and the report that an end first has, are taken up.
+fn deliver<P: PeerMethod, S: ServerMethod>(
+    world: &mut World<P, S>,
+    number: u32,
+    sent: &mut Sent,
+    peer: &mut Option<Report>,
+    server: &mut Option<Report>,
+) -> bool {
+    if !world.started() || !world.has_objects() || world.counts().events >= 7 {
+        return false;
+    }
+    let Ok(told) = world.step(&Event::Deliver { number }) else {
+        return false;
+    };
+    let packet = told.sent;
+    let named = told.named;
+    match packet {
+        None => {}
+        Some(packet) => {
+            sent.note(Some(packet.packet));
+        }
+    }
+    match named {
+        None => {}
+        Some(named) => note_report(peer, server, named),
+    }
+    true
+}
+
 /// In one world, in which the packets are delivered by their numbers.
 fn in_world<P: PeerMethod, S: ServerMethod>(
     alloc: Global,
@@ -223,23 +252,8 @@ fn in_world<P: PeerMethod, S: ServerMethod>(
     let mut peer = None;
     let mut server = None;
     for number in 1..8 {
-        if !world.started() || !world.has_objects() || world.counts().events >= 7 {
+        if !deliver(&mut world, number, &mut sent, &mut peer, &mut server) {
             return false;
-        }
-        let Ok(told) = world.step(&Event::Deliver { number }) else {
-            return false;
-        };
-        let packet = told.sent;
-        let named = told.named;
-        match packet {
-            None => {}
-            Some(packet) => {
-                sent.note(Some(packet.packet));
-            }
-        }
-        match named {
-            None => {}
-            Some(named) => note_report(&mut peer, &mut server, named),
         }
     }
     let is_over = (world.state(Party::Peer) == Some(State::Success))
