@@ -29,4 +29,6 @@ mod runs;
 #[cfg(test)]
 mod values;
 #[cfg(test)]
+mod ways;
+#[cfg(test)]
 mod worlds;

@@ -1,8 +1,8 @@
 //! A maker's own method that derives keys logs in like the others: EAP-PAX between the machines, through the pass-through,
 //! between the pipes and in a world.
 
-use crate::makers_method::{End, MAKERS_WAYS, both_in, end_by, in_world, settings};
-use crate::plain_calls::Way;
+use crate::makers_method::settings;
+use crate::ways::{Course, WAYS, Way, both_in, by_way, no_methods};
 use eap_base::{Octets, Setup};
 use eap_method::Methods;
 use eap_packet::State;
@@ -66,60 +66,46 @@ fn pax_methods(
     peer: [u8; 16],
     server: [u8; 16],
 ) -> Result<Methods<PaxPeer, PaxServer>, AllocError> {
-    let mut methods = Methods {
-        peer: Vec::new(alloc),
-        server: Vec::new(alloc),
-    };
+    let mut methods = no_methods(alloc);
     let name = Octets::from_slice(b"srv").unwrap_or(Octets::new());
     methods.peer.push(PaxPeer::new(peer, name.copy()))?;
     methods.server.push(PaxServer::new(server, name))?;
     Ok(methods)
 }
 
-/// How a login with these keys ends by this way.
-fn pax_end(
+/// How a login with these keys goes by this way.
+fn course_of(
     alloc: Global,
     way: Way,
     peer: [u8; 16],
     server: [u8; 16],
-) -> Result<Option<End>, AllocError> {
+) -> Result<Option<Course>, AllocError> {
+    let methods = pax_methods(alloc, peer, server)?;
     let Some(setup) = pax_settings() else {
         return Ok(None);
     };
-    Ok(end_by(alloc, way, setup, pax_methods(alloc, peer, server)?))
+    Ok(by_way(alloc, way, setup, methods))
 }
 
-// Under another AK the server discards PAX_STD-2, and nothing more is sent: of the ways the world alone has an end.
+// Under another AK the server discards PAX_STD-2, and nothing more is sent: of the ways a world alone has an end.
 #[test]
 fn a_makers_method_with_keys_logs_in(rt: HostRuntime) -> Result<(), Fail> {
-    let alloc = rt.alloc();
-    let success = both_in(State::Success, true);
-    for way in MAKERS_WAYS {
-        let waiting = if way == Way::World {
-            both_in(State::Idle, false)
-        } else {
-            None
+    for way in WAYS {
+        let is_alike = match course_of(rt.alloc(), way, AK, AK)? {
+            None => false,
+            Some(course) => course.ends_so(both_in(State::Success, true), Verdict::Agree),
         };
-        assert!(rt; pax_end(alloc, way, AK, AK)? == success, "{way:?}");
-        assert!(rt; pax_end(alloc, way, OTHER, AK)? == waiting, "{way:?}");
+        let waits = match course_of(rt.alloc(), way, OTHER, AK)? {
+            None => way != Way::World,
+            Some(course) => course.ends_so(both_in(State::Idle, false), Verdict::Unfinished),
+        };
+        assert!(rt; is_alike && waits, "{way:?} {is_alike} {waits}");
     }
     Ok(())
 }
 
-// Both have the same keys, and the world says so.
-#[test]
-fn a_makers_method_with_keys_agrees(rt: HostRuntime) -> Result<(), Fail> {
-    let Some(setup) = pax_settings() else {
-        panic!(rt; "no settings");
-    };
-    let over = in_world(rt.alloc(), setup, pax_methods(rt.alloc(), AK, AK)?);
-    let agreed = both_in(State::Success, true).map(|end| (end, Verdict::Agree));
-    assert!(rt; over == agreed, "{over:?}");
-    Ok(())
-}
-
 /// True if the peer answers PAX_STD-1 and PAX_STD-3 by these packets, and reports this MSK; None if something was discarded.
-fn answers_so(mut peer: PeerMachine<PaxPeer>) -> Option<bool> {
+fn answers_so(peer: &mut PeerMachine<PaxPeer>) -> Option<bool> {
     peer.deliver(b"\x01\x01\x00\x05\x01").sent?;
     let std_2 = peer.deliver(STD_1).sent?;
     let ack = peer.deliver(STD_3).sent?;
@@ -134,7 +120,7 @@ fn packets_and_keys_are_those_computed_outside(rt: HostRuntime) -> Result<(), Fa
     };
     let methods = pax_methods(rt.alloc(), AK, AK)?;
     assert!(rt; PeerMachine::takes(&setup.peer, methods.peer.as_slice()));
-    let peer = PeerMachine::new(setup.peer, methods.peer);
-    assert!(rt; answers_so(peer) == Some(true));
+    let mut peer = PeerMachine::new(setup.peer, methods.peer);
+    assert!(rt; answers_so(&mut peer) == Some(true));
     Ok(())
 }

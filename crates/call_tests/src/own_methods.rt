@@ -1,14 +1,12 @@
 //! Methods of a maker's own making, by the calls alone that one must have: four at a peer, five at a server. Each is around
-//! another, so what both ends send is known: in a box, and around any box. They go by every way of `plain_calls`.
+//! another, so what both ends send is known: in a box, and around any box. They go by every one of the `ways`.
 
-use crate::plain_calls::{LOGINS, Login, WAYS, Way, by_way};
-use eap_method::{
-    Credential, Methods, PeerMethod, PeerTurn, Report, ServerMethod, ServerSide, ServerTurn,
-    peer_pair, server_pair,
-};
+use crate::plain_calls::{LOGINS, Login, goes};
+use crate::ways::{WAYS, Way, no_methods};
+use eap_method::{Credential, PeerMethod, PeerTurn, Report, ServerMethod, ServerSide, ServerTurn};
 use gpsk_ends::{GpskPeer, GpskServer};
 use login_setup::Users;
-use octet_lists::{GPSK_KIND, Nonce, PSK_KIND, Packet};
+use octet_lists::{Nonce, Packet};
 use psk_ends::{PskPeer, PskServer};
 use std::alloc::{AllocError, Global};
 use std::test::Fail;
@@ -69,76 +67,42 @@ impl<M: ServerMethod> ServerMethod for OwnServer<M> {
     }
 }
 
+/// A peer's method around this one.
+fn own_peer<M: PeerMethod>(method: M) -> OwnPeer<M> {
+    OwnPeer { method }
+}
+
+/// A server's method around this one.
+fn own_server<M: ServerMethod>(method: M) -> OwnServer<M> {
+    OwnServer { method }
+}
+
 /// True if a login by this way goes as it must, over four boxes of one's own.
 fn goes_boxed(alloc: Global, way: Way, login: Login) -> Result<bool, AllocError> {
-    let gpsk = OwnPeer {
-        method: GpskPeer::new(),
-    };
-    let psk = OwnPeer {
-        method: PskPeer::new(),
-    };
-    let gpsk_peer: Box<dyn PeerMethod> = Box::new(alloc, gpsk)?;
-    let psk_peer: Box<dyn PeerMethod> = Box::new(alloc, psk)?;
-    let gpsk = OwnServer {
-        method: GpskServer::new(),
-    };
-    let psk = OwnServer {
-        method: PskServer::new(),
-    };
-    let gpsk_server: Box<dyn ServerMethod> = Box::new(alloc, gpsk)?;
-    let psk_server: Box<dyn ServerMethod> = Box::new(alloc, psk)?;
-    goes_over(
-        alloc,
-        way,
-        login,
-        gpsk_peer,
-        psk_peer,
-        gpsk_server,
-        psk_server,
-    )
+    let mut methods = no_methods(alloc);
+    let gpsk: Box<dyn PeerMethod> = Box::new(alloc, own_peer(GpskPeer::new()))?;
+    methods.peer.push(gpsk)?;
+    let psk: Box<dyn PeerMethod> = Box::new(alloc, own_peer(PskPeer::new()))?;
+    methods.peer.push(psk)?;
+    let gpsk: Box<dyn ServerMethod> = Box::new(alloc, own_server(GpskServer::new()))?;
+    methods.server.push(gpsk)?;
+    let psk: Box<dyn ServerMethod> = Box::new(alloc, own_server(PskServer::new()))?;
+    methods.server.push(psk)?;
+    Ok(goes(alloc, way, login, methods))
 }
 
 /// The same, over four that are around boxes.
 fn goes_around(alloc: Global, way: Way, login: Login) -> Result<bool, AllocError> {
-    let gpsk_peer: Box<dyn PeerMethod> = Box::new(alloc, GpskPeer::new())?;
-    let psk_peer: Box<dyn PeerMethod> = Box::new(alloc, PskPeer::new())?;
-    let gpsk_server: Box<dyn ServerMethod> = Box::new(alloc, GpskServer::new())?;
-    let psk_server: Box<dyn ServerMethod> = Box::new(alloc, PskServer::new())?;
-    goes_over(
-        alloc,
-        way,
-        login,
-        OwnPeer { method: gpsk_peer },
-        OwnPeer { method: psk_peer },
-        OwnServer {
-            method: gpsk_server,
-        },
-        OwnServer { method: psk_server },
-    )
-}
-
-/// The same, over these four, if each is of its method.
-fn goes_over<P: PeerMethod, S: ServerMethod>(
-    alloc: Global,
-    way: Way,
-    login: Login,
-    gpsk_peer: P,
-    psk_peer: P,
-    gpsk_server: S,
-    psk_server: S,
-) -> Result<bool, AllocError> {
-    if gpsk_peer.kind() != GPSK_KIND
-        || psk_peer.kind() != PSK_KIND
-        || gpsk_server.kind() != GPSK_KIND
-        || psk_server.kind() != PSK_KIND
-    {
-        return Ok(false);
-    }
-    let methods = Methods {
-        peer: peer_pair(alloc, gpsk_peer, psk_peer)?,
-        server: server_pair(alloc, gpsk_server, psk_server)?,
-    };
-    Ok(by_way(alloc, way, methods, login))
+    let mut methods = no_methods(alloc);
+    let gpsk: Box<dyn PeerMethod> = Box::new(alloc, GpskPeer::new())?;
+    methods.peer.push(own_peer(gpsk))?;
+    let psk: Box<dyn PeerMethod> = Box::new(alloc, PskPeer::new())?;
+    methods.peer.push(own_peer(psk))?;
+    let gpsk: Box<dyn ServerMethod> = Box::new(alloc, GpskServer::new())?;
+    methods.server.push(own_server(gpsk))?;
+    let psk: Box<dyn ServerMethod> = Box::new(alloc, PskServer::new())?;
+    methods.server.push(own_server(psk))?;
+    Ok(goes(alloc, way, login, methods))
 }
 
 #[test]

@@ -107,19 +107,29 @@ fn are_numbers(text: &str, one: u32, two: u32, three: u32) -> bool {
     })
 }
 
-/// True if the run of a block has its verdicts.
-fn is_judged(rt: &impl Abort, alloc: Global, block: &str) -> Result<bool, Fail> {
-    let (wanted, lines) = block.split_once("\n").unwrap_or((block, ""));
-    let mut scenario = String::from_str(alloc, SETTINGS)?;
-    scenario.push_str(lines)?;
-    let mut world = begun(rt, alloc, &scenario)?;
-    run(rt, &mut world, &scenario)?;
+/// True if a world has these verdicts after the events of a scenario.
+fn has_verdicts(
+    rt: &impl Abort,
+    world: &mut ObjectWorld,
+    scenario: &str,
+    wanted: &str,
+) -> Result<bool, Fail> {
+    run(rt, world, scenario)?;
     Ok(are_numbers(
         wanted,
         event_of(world.tags()),
         event_of(world.tags_either()),
         event_of(world.tags_under(GPSK_KIND)),
     ))
+}
+
+/// True if the run of a block has its verdicts.
+fn is_judged(rt: &impl Abort, alloc: Global, block: &str) -> Result<bool, Fail> {
+    let (wanted, lines) = block.split_once("\n").unwrap_or((block, ""));
+    let mut scenario = String::from_str(alloc, SETTINGS)?;
+    scenario.push_str(lines)?;
+    let mut world = begun(rt, alloc, &scenario)?;
+    has_verdicts(rt, &mut world, &scenario, wanted)
 }
 
 #[test]

@@ -60,14 +60,19 @@ fn skips_timer(rt: &impl Abort, world: &mut ObjectWorld, wanted: Skip) -> Result
     Ok(told.skip == Some(wanted) && told.path.as_slice().is_empty())
 }
 
-// The peer has no timer before its end, and is over after it; no text can say so.
+/// True if the peer has no timer before its end, and is over after it.
+fn has_no_timer(rt: &impl Abort, world: &mut ObjectWorld) -> Result<bool, Fail> {
+    let has_none = skips_timer(rt, world, Skip::NoTimer)?;
+    step(rt, world, &Event::Idle)?;
+    Ok(has_none && skips_timer(rt, world, Skip::Ended)?)
+}
+
+// No text can say so.
 #[test]
 fn a_peer_has_no_timer(rt: HostRuntime) -> Result<(), Fail> {
     let mut world = begun(&rt, rt.alloc(), WITHOUT_METHODS)?;
-    let has_none = skips_timer(&rt, &mut world, Skip::NoTimer)?;
-    step(&rt, &mut world, &Event::Idle)?;
-    let is_over = skips_timer(&rt, &mut world, Skip::Ended)?;
-    assert!(rt; has_none && is_over);
+    let has_none = has_no_timer(&rt, &mut world)?;
+    assert!(rt; has_none);
     Ok(())
 }
 
@@ -78,22 +83,32 @@ fn sent_number(sent: &Option<SentNumber>) -> u32 {
     }
 }
 
-// The server's Request is sent again after the peer's Response, and then that Response: packets 3 and 4 are
-// those of packets 1 and 2, of 5 and 10 octets.
-#[test]
-fn what_is_sent_again_is_stored_once(rt: HostRuntime) -> Result<(), Fail> {
-    let mut world = begun(&rt, rt.alloc(), WITHOUT_METHODS)?;
-    step(&rt, &mut world, &Event::Deliver { number: 1 })?;
-    assert!(rt; world.stored() == 15);
+/// True if the Request and the Response that are sent again have the numbers 3 and 4, and are those of packets 1 and 2.
+fn are_sent_again(rt: &impl Abort, world: &mut ObjectWorld) -> Result<bool, Fail> {
     let timeout = Event::Timeout {
         party: Party::Server,
     };
-    let request = step(&rt, &mut world, &timeout)?;
-    let response = step(&rt, &mut world, &Event::Deliver { number: 3 })?;
+    let request = step(rt, world, &timeout)?;
+    let response = step(rt, world, &Event::Deliver { number: 3 })?;
     let numbers = sent_number(&request.sent) == 3 && sent_number(&response.sent) == 4;
-    assert!(rt; numbers && world.stored() == 15);
     let is_first = world.packet(1) == Some(world.octets_of(&request));
     let is_second = world.packet(2) == Some(world.octets_of(&response));
-    assert!(rt; is_first && is_second && world.packet(5).is_none());
+    Ok(numbers && is_first && is_second)
+}
+
+/// True if the packets that are sent again, after those of 5 and 10 octets, take no room.
+fn stores_once(rt: &impl Abort, world: &mut ObjectWorld) -> Result<bool, Fail> {
+    step(rt, world, &Event::Deliver { number: 1 })?;
+    let is_stored = world.stored() == 15;
+    let are_again = are_sent_again(rt, world)?;
+    Ok(is_stored && are_again && world.stored() == 15 && world.packet(5).is_none())
+}
+
+// The server's Request is sent again after the peer's Response, and then that Response.
+#[test]
+fn what_is_sent_again_is_stored_once(rt: HostRuntime) -> Result<(), Fail> {
+    let mut world = begun(&rt, rt.alloc(), WITHOUT_METHODS)?;
+    let is_once = stores_once(&rt, &mut world)?;
+    assert!(rt; is_once);
     Ok(())
 }
