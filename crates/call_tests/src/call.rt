@@ -6,11 +6,10 @@ ghost use Rattle.scenario_text.specs.Valid.{IsValidSetup};
 ghost use Rattle.world_commands.specs.Replay.{HasBoth};
 
 pub(crate) use command_driver::Status;
-use eap_login::eap_login;
+use eap_login::{eap_login, methods_of};
 use eap_method::Methods;
 use eap_world::World;
 use end_objects::{PeerObject, ServerObject, peer_object, server_object};
-use login_run::methods_of;
 use login_setup::Setup;
 use octet_io::{MemSink, MemSource};
 use octet_lists::{GPSK_KIND, PSK_KIND};

@@ -1,7 +1,7 @@
 //! The run of the program, from the arguments that it is started with to its exit status.
 
 use crate::call::methods;
-use login_run::run;
+use eap_login::run;
 use octet_io::{MemSink, MemSource};
 use std::alloc::{AllocError, Global};
 use std::io;

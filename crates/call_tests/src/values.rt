@@ -1,13 +1,9 @@
-//! What values show of themselves: octets and reports no key, causes their names. What a RADIUS packet carries beside EAP.
+//! What values show of themselves: octets and reports no key, causes their names.
 
 use eap_method::Report;
 use eap_packet::{Cause, decode};
 use octet_lists::{Identity, Secret};
-use radius_carry::{attribute, read_radius, write_request};
 use std::test::Fail;
-
-/// The Type of the attribute State (RFC 2865 section 5.24).
-const STATE: u8 = 24;
 
 #[test]
 fn values_show_no_key(rt: HostRuntime) -> Result<(), Fail> {
@@ -37,18 +33,4 @@ fn causes_are_errors(rt: HostRuntime) -> Result<(), Fail> {
     };
     assert!(rt; cause == Cause::Short);
     Ok(())
-}
-
-#[test]
-fn state_is_read(rt: HostRuntime) {
-    let eap = [2, 1, 0, 4];
-    let packet = write_request(b"secret", 7, &[9; 16], b"alice", b"session", &eap);
-    match read_radius(packet.as_slice()) {
-        Err(cause) => assert!(rt; false, "{cause}"),
-        Ok(view) => {
-            assert!(rt; attribute(&view, STATE) == Some(b"session"));
-            assert!(rt; attribute(&view, 1) == Some(b"alice"));
-            assert!(rt; attribute(&view, 25).is_none());
-        }
-    }
 }

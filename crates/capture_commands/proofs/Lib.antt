@@ -2,6 +2,10 @@
 pub mod CheckQuiet
 -- What the command check keeps of the packets answers as the packets themselves do.
 pub mod Checking
+-- No line of `decode` begins as the line of the result does.
+pub mod DecodeQuiet
+-- No line of `keys` begins as the line of the result does.
+pub mod KeysQuiet
 -- A file of captured frames on its way through its records.
 pub mod PcapDriving
 -- What is kept of a file of captured frames answers as its packets themselves do.

@@ -1,5 +1,7 @@
 pub mod Check
 pub mod CheckSteps
+pub mod Decode
+pub mod Keys
 pub mod Pcap
 pub mod PcapSteps
 pub mod Radius

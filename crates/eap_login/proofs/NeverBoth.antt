@@ -17,8 +17,8 @@ use Rattle.command_driver.specs.Responding.{Asked, answer_to}
 use Rattle.command_driver.specs.declared.status.Status.{Status}
 use Rattle.command_driver.specs.declared.status.Status.TheVariants as status
 use Rattle.command_driver.proofs.Quiet.{IsQuiet}
-use Rattle.packet_commands.proofs.DecodeQuiet.{decode_quiet}
-use Rattle.packet_commands.proofs.KeysQuiet.{keys_quiet}
+use Rattle.capture_commands.proofs.DecodeQuiet.{decode_quiet}
+use Rattle.capture_commands.proofs.KeysQuiet.{keys_quiet}
 use Rattle.capture_commands.specs.Pcap.{pcap_users}
 use Rattle.capture_commands.proofs.CheckQuiet.{check_quiet}
 use Rattle.capture_commands.proofs.PcapQuiet.{pcap_quiet}

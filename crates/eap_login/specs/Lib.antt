@@ -1,1 +1,3 @@
+pub mod Exit
 pub mod Login
+pub mod Runs

@@ -8,8 +8,8 @@ use Rattle.answer_text.specs.Lines.{line_text}
 use Rattle.command_driver.specs.Answers.{Answer}
 use Rattle.world_commands.specs.Bulk.{bulk_of, bulk_answer}
 use Rattle.capture_commands.specs.Check.{check_answer}
-use Rattle.packet_commands.specs.Decode.{decode_answer}
-use Rattle.packet_commands.specs.Keys.{keys_answer}
+use Rattle.capture_commands.specs.Decode.{decode_answer}
+use Rattle.capture_commands.specs.Keys.{keys_answer}
 use Rattle.capture_commands.specs.Pcap.{pcap_users, pcap_answer}
 use Rattle.capture_commands.specs.Radius.{radius_answer}
 use Rattle.end_commands.specs.PeerCommand.{peer_answer}

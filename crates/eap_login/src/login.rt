@@ -13,14 +13,15 @@ ghost use Rattle.world_commands.specs.SmoothTraces.{SmoothTracesAgree};
 ghost use Rattle.answer_text.specs.Writes.{Appends};
 
 use answer_text::write_line;
-use capture_commands::{answer_radius, check_capture, judge_file, read_pcap};
+use capture_commands::{
+    answer_keys, answer_radius, check_capture, decode_packets, judge_file, read_pcap,
+};
 use command_driver::Status;
 use eap_method::{PeerMethod, ServerMethod};
 use eap_world::Methods;
 use end_commands::{answer_peer, answer_server};
 use login_setup::Users;
 use octet_io::{Failed, Sink, Source};
-use packet_commands::{answer_keys, decode_packets};
 use std::alloc::Global;
 use world_commands::{bulk_of, replay_scenario, run_bulk};
 

@@ -4,13 +4,13 @@
 ghost use Rattle.std.specs.Prelude.{◌≡◌, map, string_bytes, IfOk, IfErr, OnErr};
 ghost use Rattle.std.specs.IoError.{error_kind};
 ghost use Rattle.std.specs.Vec.Iter.{into_iter_items};
-ghost use Rattle.login_run.specs.Exit.{failure_number_of};
-ghost use Rattle.login_run.specs.Runs.{after_name, Exits};
+ghost use Rattle.eap_login.specs.Exit.{failure_number_of};
+ghost use Rattle.eap_login.specs.Runs.{after_name, Exits};
 
 use command_driver::Status;
+use eap_login::{methods_of, run};
 use eap_method::{PeerMethod, ServerMethod};
 use gpsk_ends::{GpskPeer, GpskServer};
-use login_run::{methods_of, run};
 use octet_io::{Sink, Source, StdSink, StdSource};
 use psk_ends::{PskPeer, PskServer};
 use std::alloc::{AllocError, Global};

@@ -1,5 +1,5 @@
 //! Tests of what is below the machines, by public calls: streams, lines and lists, copies of settings, the block
-//! cipher, MACs in pieces, captured frames and long RADIUS packets. Whole logins are in cases/.
+//! cipher, MACs in pieces, packets and messages, captured frames, RADIUS packets. Whole logins are in cases/.
 #![tactic(auto)]
 
 #[cfg(test)]
@@ -10,6 +10,10 @@ mod ciphers;
 mod lines;
 #[cfg(test)]
 mod macs;
+#[cfg(test)]
+mod messages;
+#[cfg(test)]
+mod names;
 #[cfg(test)]
 mod radius;
 #[cfg(test)]

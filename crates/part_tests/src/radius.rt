@@ -1,7 +1,10 @@
-//! RADIUS packets longer than a line of a text can spell.
+//! RADIUS packets longer than a line of a text can spell, and what a RADIUS packet carries beside EAP.
 
 use crate::row::Row;
-use radius_carry::read_radius;
+use radius_carry::{attribute, read_radius, write_request};
+
+/// The Type of the attribute State (RFC 2865 section 5.24).
+const STATE: u8 = 24;
 
 /// A packet of 4,097 octets that begins as an Access-Request of this Length, with a Message-Authenticator,
 /// an EAP packet of this even number of octets in attributes EAP-Message, and attributes of two octets.
@@ -51,5 +54,19 @@ fn reads_long(row: &str) -> bool {
 fn long_radius_packets_are_read(rt: HostRuntime) {
     for row in LONG.lines() {
         assert!(rt; reads_long(row), "{row}");
+    }
+}
+
+#[test]
+fn state_is_read(rt: HostRuntime) {
+    let eap = [2, 1, 0, 4];
+    let packet = write_request(b"secret", 7, &[9; 16], b"alice", b"session", &eap);
+    match read_radius(packet.as_slice()) {
+        Err(cause) => assert!(rt; false, "{cause}"),
+        Ok(view) => {
+            assert!(rt; attribute(&view, STATE) == Some(b"session"));
+            assert!(rt; attribute(&view, 1) == Some(b"alice"));
+            assert!(rt; attribute(&view, 25).is_none());
+        }
     }
 }

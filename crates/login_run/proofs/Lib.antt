@@ -1,2 +1,0 @@
--- Words that were answered, or for which memory was wanting before anything was read or written.
-pub mod Exiting

@@ -1,8 +1,0 @@
-use Rattle.std.proofs.Common.{◌≡◌, ◌++◌}
-use Rattle.std.specs.Vec.Iter.{into_iter_items}
-use Rattle.login_run.proofs.words.words_after_name.Given as goal
-
--- the words so far and those to come
-abbrev pub invariant-loop-word : goal.invariant-loop-word
-invariant-loop-word l =
-    l.words.items ++ into_iter_items l.word-iterator ≡ into_iter_items l.initial.word-iterator

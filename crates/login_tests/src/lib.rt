@@ -1,0 +1,14 @@
+//! Tests of whole logins by EAP-PSK and by makers' methods, over the plain calls of machines, worlds and pipes, and over the crates
+//! that makers begin with. Logins by EAP-GPSK are in cases/ and in the checks of c/.
+#![tactic(auto)]
+
+#[cfg(test)]
+mod examples;
+#[cfg(test)]
+mod makers_keys;
+#[cfg(test)]
+mod makers_method;
+#[cfg(test)]
+mod settings;
+#[cfg(test)]
+mod ways;
