@@ -6,3 +6,5 @@ mod JoinedAgreement
 mod BookDetermined
 -- Over an interleaving no end of the world begins a second conversation.
 mod OneConversation
+-- An end that runs alone is the present conversation of a world whose other end has no inputs.
+mod EndsAlone

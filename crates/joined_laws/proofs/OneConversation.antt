@@ -57,7 +57,7 @@ module _ (w : WorldNow) where
       step_started (event.Timeout party.Server) (world.to_server server_inputs.timeout) refl refl
   input_started (to_server other) fits = absurd cc
 
-run_started : (w : WorldNow) (list : List Arrives) → list_all is_input list ≡ true
+pub run_started : (w : WorldNow) (list : List Arrives) → list_all is_input list ≡ true
     → (run_after w (map event_of list)).conversations.begun ≡ w.conversations.begun
 unfolding run_after
 run_started w [] fit = refl

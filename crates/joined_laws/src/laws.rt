@@ -1,5 +1,6 @@
 //! Laws of two ends that run alone. Each is the contract of a function that does nothing.
 
+ghost use Rattle.joined_laws.specs.EndsAlone.{EndsAloneMatch};
 ghost use Rattle.joined_laws.specs.Joined.{BookIsDetermined, InterleavingsAreRuns, JoinedEndsAgree};
 
 /// Two ends that run alone, and whose packets somebody carries, are the ends of a world. Take any settings of mode alone,
@@ -23,4 +24,12 @@ pub fn book_is_determined()
 /// peer's own key, and the suite, if the method has one, is the first of the server's list that the peer allows.
 pub fn joined_ends_agree()
     ensures { JoinedEndsAgree }
+{}
+
+/// Any number of ends that run alone, each over its own inputs and with a nonce of its own, as the handles of the library for C that are
+/// peers and stand-alone servers: what `any_ends_match` of login_laws says of conversations holds of them. An end's inputs are
+/// packets, timers and indications of the lower layer, in any order and number; who carries packets between which ends isn't
+/// asked.
+pub fn ends_alone_match()
+    ensures { EndsAloneMatch }
 {}

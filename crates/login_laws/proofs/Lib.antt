@@ -59,3 +59,9 @@ pub mod SucceedingEnds
 -- A proposal that is refused between ends that read Expanded Types, computed from the definitions
 -- alone.
 mod WorkedExpanded
+-- The conversations of any number of runs match.
+pub mod AnyEnds
+-- A server by EAP-GPSK is confirmed.
+pub mod Confirmed
+-- The MAC of GPSK-2 covers the length of the peer's name first, that of GPSK-3 the peer's nonce.
+pub mod OwnTags

@@ -194,6 +194,40 @@ module _ (setup : Setup) where
       (first_in_one s.accepted p.made s.made back.tag back.more back.first back.is_made)
       p_in s_in))
 
+  -- the login of one of the peer on which one of the server in SUCCESS rests has the keys that this
+  -- reports
+  pub keys_of : (s : OfServer) → ServerKnown setup.server s → is_success s.now.vars.state ≡ true
+      → (p : OfPeer) → PeerKnown setup.peer p → RestsOn s.accepted p.made → HasSameKeys p s
+  keys_of s s_known s_in p known rests =
+      let led = resting.servers_login (peers.setup_with_nonce setup.peer (peer_nonce p))
+      (servers.setup_with_nonce setup.server (server_nonce s)) known.size s_known.size
+      p.now.vars.selected p.now.views p.accepted p.made (peer_tags known.stands) s.now
+      s.accepted s.made
+      (server_won s s_known s_in)
+      (first_in s.accepted p.made rests.tag rests.more rests.first rests.is_made) in
+      record {
+        report = led.report;
+        holds = led.holds;
+        theirs = led.results_to.theirs;
+        leads = led.results_to.leads;
+        same = led.results_to.same;
+      }
+
+  -- that of one of the server on which one of the peer in SUCCESS rests, and which rests on it, leads
+  -- to what the peer's reports
+  pub same_as_reported : (p : OfPeer) → PeerKnown setup.peer p → is_success p.now.vars.state ≡ true
+      → (s : OfServer) → ServerKnown setup.server s
+      → RestsOn p.accepted s.made → RestsOn s.accepted p.made
+      → server_login s.now.vars.current s.now.views ≡ peer_reports p.now
+  same_as_reported p known p_in s s_known rests back =
+      let led = resting.peers_login (peers.setup_with_nonce setup.peer (peer_nonce p))
+      (servers.setup_with_nonce setup.server (server_nonce s)) known.size s_known.size
+      p.now p.accepted p.made (peer_won p known p_in)
+      s.now.vars.current s.now.views s.accepted s.made (server_tags s_known.stands)
+      (first_in p.accepted s.made rests.tag rests.more rests.first rests.is_made)
+      (first_in s.accepted p.made back.tag back.more back.first back.is_made) in
+      led.login.same ∙ sym led.holds
+
 -- ---- all of them
 
 -- what is known of all conversations of a run that ends in a world
@@ -445,31 +479,9 @@ module _ (setup : Setup) (last : WorldNow) (ps : List OfPeer) (ss : List OfServe
       → RestsOn p.accepted s.made → RestsOn s.accepted p.made
       → server_login s.now.vars.current s.now.views ≡ peer_reports p.now
   servers_agree p p_is p_in s s_is rests back =
-      let known = all.peers p p_is in
-      let s_known = all.servers s s_is in
-      let led = resting.peers_login (peers.setup_with_nonce setup.peer (peer_nonce p))
-      (servers.setup_with_nonce setup.server (server_nonce s)) known.size s_known.size
-      p.now p.accepted p.made (peer_won setup p known p_in)
-      s.now.vars.current s.now.views s.accepted s.made (server_tags s_known.stands)
-      (first_in p.accepted s.made rests.tag rests.more rests.first rests.is_made)
-      (first_in s.accepted p.made back.tag back.more back.first back.is_made) in
-      led.login.same ∙ sym led.holds
+      same_as_reported setup p (all.peers p p_is) p_in s (all.servers s s_is) rests back
 
   pub same_keys : (s : OfServer) → IsOneOf s ss → is_success s.now.vars.state ≡ true → (p : OfPeer)
       → IsOneOf p ps → RestsOn s.accepted p.made → HasSameKeys p s
   same_keys s s_is s_in p p_is rests =
-      let known = all.peers p p_is in
-      let s_known = all.servers s s_is in
-      let led = resting.servers_login (peers.setup_with_nonce setup.peer (peer_nonce p))
-      (servers.setup_with_nonce setup.server (server_nonce s)) known.size s_known.size
-      p.now.vars.selected p.now.views p.accepted p.made (peer_tags known.stands) s.now
-      s.accepted s.made
-      (server_won setup s s_known s_in)
-      (first_in s.accepted p.made rests.tag rests.more rests.first rests.is_made) in
-      record {
-        report = led.report;
-        holds = led.holds;
-        theirs = led.results_to.theirs;
-        leads = led.results_to.leads;
-        same = led.results_to.same;
-      }
+      keys_of setup s (all.servers s s_is) s_in p (all.peers p p_is) rests

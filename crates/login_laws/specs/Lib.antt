@@ -8,3 +8,6 @@ pub mod SessionIds
 pub mod Forgery
 pub mod UnconditionalPsk
 pub mod NewKeys
+pub mod Confirmed
+pub mod AnyEnds
+pub mod OwnTags

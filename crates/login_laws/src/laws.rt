@@ -2,8 +2,11 @@
 
 ghost use Rattle.login_laws.specs.Agreement.{HonestEndsAgree, HonestNamesAreTheirs};
 ghost use Rattle.login_laws.specs.Alone.{OneEndImplies};
+ghost use Rattle.login_laws.specs.AnyEnds.{AnyEndsMatch};
+ghost use Rattle.login_laws.specs.Confirmed.{GpskServersConfirmed};
 ghost use Rattle.login_laws.specs.Forgery.{AgreeOrForged, EachTagIsRight};
 ghost use Rattle.login_laws.specs.Matching.{ConversationsAreAll, ConversationsMatch};
+ghost use Rattle.login_laws.specs.OwnTags.{GpskPeersAcceptNoOwnTags};
 ghost use Rattle.login_laws.specs.PresentUnderKey.{EndsAgreeUnder, OneEndImpliesUnder};
 ghost use Rattle.login_laws.specs.PskReflected.{ReflectedEndsAgree};
 ghost use Rattle.login_laws.specs.NewKeys.{KeysAreNew};
@@ -157,4 +160,26 @@ pub fn agree_or_forged()
 /// decision UNCOND_SUCC (RFC 4137 section 4.2). So what `unconditional_success_stays` of `peer_machine` says holds of it.
 pub fn psk_success_is_unconditional()
     ensures { PskSuccessIsUnconditional }
+{}
+
+/// Key confirmation to a server by EAP-GPSK: if one conversation of the peer made each tag that one of the server in SUCCESS accepted, and
+/// that made each tag that this accepted, the peer's has succeeded, with just the server's report. Both may be of any runs.
+pub fn gpsk_servers_confirmed()
+    ensures { GpskServersConfirmed }
+{}
+
+/// A peer by EAP-GPSK in SUCCESS has accepted none of its own tags, in whichever of its conversations it made them, if its nonce
+/// doesn't begin with the length of its own name in two octets, as a random one does once in 65,536.
+pub fn gpsk_peers_accept_no_own_tags()
+    ensures { GpskPeersAcceptNoOwnTags }
+{}
+
+/// Any number of ends, as a login server has them: take conversations of peers of the same settings, and of servers of the same settings,
+/// each with a nonce of its own, of whatever runs, in no order. Suppose that each tag under the peer's key that one of them accepted is
+/// among those that one of the other role made, and that no two of a role have nonces whose first 16 octets are the same. Then each
+/// server in SUCCESS of a user of that key rests on exactly one peer's conversation, whose login has the keys that it reports, and no
+/// other server in SUCCESS rests on that one; each peer in SUCCESS rests on exactly one server's, which rests on it; and two in SUCCESS
+/// of which the server rests on the peer agree.
+pub fn any_ends_match()
+    ensures { AnyEndsMatch }
 {}

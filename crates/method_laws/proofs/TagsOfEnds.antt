@@ -89,6 +89,15 @@ of_other : (own : End) (how : Use) (tags : Tags)
 of_other Peer how tags = refl
 of_other Server how tags = refl
 
+-- the tags of an event of the end itself come first
+pub own_booked : (own : End) (how : Use) (event : ℕ) (tags : Tags) (rest : List Entry)
+    → tags_by own how (entries_of event own tags ++ rest)
+    ≡ (elim how [ Accepted ↦ tags.accepted | Made ↦ tags.made ]) ++ tags_by own how rest
+own_booked own how event tags rest =
+    tags_append own how (entries_of event own tags) rest
+    ∙ ap (λ xs. xs ++ tags_by own how rest) (booked_tags own own how event tags
+    ∙ of_own own how tags)
+
 -- what holds of the lists of an end holds of them with its own event's tags, and stays at the
 -- other's event
 module _ (own : End) (P : List TagRecord → List TagRecord → Type 0) (book : List Entry) (event : ℕ)
