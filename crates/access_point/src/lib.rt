@@ -6,15 +6,17 @@ ghost use Rattle.std.specs.Prelude.{◌≡◌, ◌↔◌, [], replicate, if◌th
 ghost use Rattle.eap_packet.specs.Fault.{packet_of};
 ghost use Rattle.pass_through.specs.Inputs.{pass_accepts, start};
 ghost use Rattle.pass_through.specs.PassTable.{identity_request, initial_pass, is_started};
-ghost use Rattle.pass_through.specs.PassTable.{pass_from_backend, pass_from_peer, without_padding};
-ghost use Rattle.radius_carry.specs.Packet.{RadiusPacket, eap_of, spelled};
+ghost use Rattle.pass_through.specs.PassTable.{pass_from_backend, pass_from_peer, pass_restart};
+ghost use Rattle.pass_through.specs.PassTable.{without_padding};
+ghost use Rattle.radius_carry.specs.Packet.{RadiusPacket, eap_of, number_of, spelled};
 ghost use Rattle.radius_carry.specs.Written.{request_of};
 ghost use Rattle.access_point.specs.Naming.{name_in};
+ghost use Rattle.access_point.specs.Codes.{code_matches};
 
 use eap_packet::{Code, decode};
 use octet_lists::{IDENTITY, Identity, Injected, Octets, Packet, Secret};
 use pass_through::PassThrough;
-use radius_carry::{attribute, eap_of, read_radius, reply_good, write_request};
+use radius_carry::{RadiusKind, attribute, eap_of, read_radius, reply_good, write_request};
 
 /// The attribute State (RFC 2865 section 5.24).
 const STATE: u8 = 24;
@@ -74,6 +76,20 @@ impl AccessPoint {
         }
     }
 
+    /// The station is to log in again, in any state (reauthentication): the Identity Request for it. State is forgotten, since the
+    /// server begins another session for it.
+    #[tactic(auto, unfolding(pass_through::specs::PassTable::pass_restart))]
+    pub fn restart(&mut self) -> Packet
+        ensures sent { result ≡ identity_request self.old.pass.first_id }
+        ensures after { self.new
+            ≡ record self.old { pass = (pass_restart self.old.pass).after; state = [] } }
+    {
+        let mut packet = Packet::new();
+        self.pass.restart_step(&mut packet);
+        self.state = Octets::new();
+        packet
+    }
+
     /// A packet has come from the station: the Access-Request for the server, with this Authenticator, which is random; None if
     /// the packet is silently discarded.
     #[tactic(auto, using(crate::proofs::Forwarding::from_peer_forwards))]
@@ -104,7 +120,8 @@ impl AccessPoint {
     }
 
     /// A datagram has come from the server: the packet for the station; None if it isn't the reply to the last request, of one
-    /// who knows the secret and with a State of at most 64 octets, or if what it carries is silently discarded.
+    /// who knows the secret, with the Code of its packet and a State of at most 64 octets, or if what it carries is
+    /// silently discarded. So the Code decides the port's state (RFC 3579 section 2.6.3).
     #[tactic(auto, unfolding(radius_carry::specs::Fault::value_of), using(crate::proofs::Forwarding::from_backend_forwards))]
     pub fn from_server(&mut self, datagram: &[u8]) -> Option<Packet>
         ensures good { IsSome result → (reply : RadiusPacket)
@@ -121,9 +138,28 @@ impl AccessPoint {
         }
         let state = attribute(&reply, STATE).unwrap_or(self.state.as_slice());
         let state = Octets::from_slice(state)?;
-        let packet = self.pass.from_backend(eap_of(&reply).as_slice()).to_peer?;
+        let eap = eap_of(&reply);
+        if !code_matches(reply.kind, eap.as_slice()) {
+            return None;
+        }
+        let packet = self.pass.from_backend(eap.as_slice()).to_peer?;
         self.state = state;
         Some(packet)
+    }
+}
+
+/// Whether a reply of this kind says what its packet says.
+fn code_matches(kind: RadiusKind, packet: &[u8]) -> bool
+    ensures { result ≡ code_matches (number_of kind) (packet_of packet.now) }
+{
+    match decode(packet) {
+        Ok(view) => match view.code {
+            Code::Request => kind == RadiusKind::Challenge,
+            Code::Success => kind == RadiusKind::Accept,
+            Code::Failure => kind == RadiusKind::Reject,
+            Code::Response => false,
+        },
+        Err(_) => false,
     }
 }
 
