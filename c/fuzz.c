@@ -313,29 +313,36 @@ static void hold_packets(enum handle h)
 	same(h, 0, "asking for a packet changes the end");
 }
 
-/* Whether what the peer has sent is the first Response of a method, in either
- * form (RFC 3748 section 5.7). */
-static bool is_first(const struct packet *p)
+/* Whether it is this message of a method, in either form (RFC 3748 section 5.7): 1 is
+ * the first Request, 2 the first Response. */
+static bool is_message(const struct packet *p, uint8_t number)
 {
 	static const uint8_t wrapped[7] = { 254 };
 	const uint8_t *at = p->octets + 4;
 	bool expanded = p->len > 13 && memcmp(at, wrapped, sizeof(wrapped)) == 0;
 
 	at += expanded ? 7 : 0;
-	return p->len > 6 && ((at[0] == TUV_KIND_PSK && at[1] >> 6 == 1) ||
-			      (at[0] == TUV_KIND_GPSK && at[1] == 2));
+	return p->len > 6 && ((at[0] == TUV_KIND_PSK && at[1] >> 6 == number - 1) ||
+			      (at[0] == TUV_KIND_GPSK && at[1] == number));
 }
 
-/* The name in what the peer has sent is the peer's. */
-static void hold_name(void)
+/* The name in what an end has sent is its own, and is where it belongs alone. */
+static void hold_name(enum handle h)
 {
-	uint8_t *room = guarded(&passing, TUV_NAME_MAX);
-	size_t len = tuv_response_name(copied(sent.octets, sent.len), sent.len, room);
+	static size_t (*const ask[2])(const uint8_t *, size_t, uint8_t *) =
+		{ tuv_response_name, tuv_request_name };
+	const uint8_t *octets = copied(sent.octets, sent.len);
 
-	calls++;
-	if (len != (is_first(&sent) ? told[0].name.len : 0) ||
-	    memcmp(room, told[0].name.at, len) != 0)
-		fail("the name in a Response is another");
+	for (int i = 0; i < 2; i++) {
+		uint8_t *room = guarded(&passing, TUV_NAME_MAX);
+		size_t len = ask[i](octets, sent.len, room);
+		bool has = i == (h == SERVER) && is_message(&sent, 2 - i);
+
+		calls++;
+		if (len != (has ? told[i].name.len : 0) ||
+		    memcmp(room, told[i].name.at, len) != 0)
+			fail("the name in a packet is another");
+	}
 }
 
 /* Takes the packet of the last call. */
@@ -345,8 +352,8 @@ static void take(enum handle h, enum call c)
 	if (sent.len < 4 || (size_t) (sent.octets[2] << 8 | sent.octets[3]) != sent.len)
 		fail("a packet has another Length");
 	models[h].last = sent;
-	if (h == PEER)
-		hold_name();
+	if (h != PASS)
+		hold_name(h);
 	route(h, c);
 	kept[any(8)] = sent;
 }
@@ -527,7 +534,9 @@ static void call(enum handle h, enum call c, const uint8_t *octets, size_t len)
 	struct turn turn;
 
 	if (tuv_response_name(copied(octets, len), len,
-			      guarded(&passing, TUV_NAME_MAX)) > TUV_NAME_MAX)
+			      guarded(&passing, TUV_NAME_MAX)) > TUV_NAME_MAX ||
+	    tuv_request_name(copied(octets, len), len,
+			     guarded(&passing, TUV_NAME_MAX)) > TUV_NAME_MAX)
 		fail("a name is too long");
 	remember(h);
 	turn = call_of(h, c, copied(octets, len), len);

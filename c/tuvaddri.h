@@ -79,7 +79,7 @@ struct tuv_settings {
 	 * allows, a server's in the order of its list.  Both 0: 1, then 2. */
 	uint8_t suites[2];
 	/* 1: it reads Expanded Types (RFC 3748 section 5.7), and a server asks in
-	 * them. */
+	 * them; not a method alone. */
 	uint8_t expanded;
 	/* 1: a server's user is barred: he is known by his key and refused (RFC
 	 * 5433's Authorization Failure; R = 3 of RFC 4764). */
@@ -399,6 +399,11 @@ struct tuv_turn tuv_pass_aaa_noreq(struct tuv_end *end);
 
 /* --- a method alone, for a program with machines of its own --- */
 
+/* These machines do what RFC 4137's do.  A peer's answers a Request that comes again
+ * as it was by the Response that it sent last (tuv_end_again), and doesn't hand it on:
+ * the method would discard it.  What is discarded is left unanswered, and the login
+ * waits on; where the carrier repeats nothing, as in IKEv2, it ends the login.
+ * `expanded` has no effect: a method asks and reads in the plain form. */
 uint8_t tuv_peer_method_begin(struct tuv_end *end,
 			      const struct tuv_settings *settings,
 			      const uint8_t nonce[TUV_NONCE_LEN]);
@@ -407,6 +412,13 @@ uint8_t tuv_peer_method_begin(struct tuv_end *end,
 struct tuv_method_turn tuv_peer_method_handle(struct tuv_end *end,
 					      const uint8_t *octets,
 					      size_t len);
+
+/* The name of the server, ID_S of PSK-1 or ID_Server of GPSK-1, in a whole Request
+ * that came from it, also of Type 254, and its length; 0, with nothing written, in
+ * any other octets.  No tag stands for it, so anyone may have sent it: for a log
+ * that says which name came (TUV_CAUSE_UNKNOWN_SERVER). */
+size_t tuv_request_name(const uint8_t *octets, size_t len,
+			uint8_t room[TUV_NAME_MAX]);
 
 /* The first Request, with the Identifier `id`, is there at once:
  * tuv_end_packet. */

@@ -23,7 +23,8 @@ from . import _abi
 from ._abi import library as _library
 
 __all__ = ["PSK", "GPSK", "CMAC", "HMAC", "Backend", "Closed", "Error", "Failure", "Method", "MethodTurn", "Misplaced",
-           "PassThrough", "Peer", "Refused", "Report", "Server", "Turn", "Unsupported", "ident", "response_name"]
+           "PassThrough", "Peer", "Refused", "Report", "Server", "Turn", "Unsupported", "ident", "request_name",
+           "response_name"]
 
 PSK, GPSK = 47, 51  # the methods
 CMAC, HMAC = 1, 2  # the suites of EAP-GPSK
@@ -445,8 +446,17 @@ class Method(_End):
             return MethodTurn(packet, cause, self._state, _DECISIONS[turn.decision])
 
 
+def request_name(octets: Octets) -> Optional[bytes]:
+    """The name of the server in a whole PSK-1 or GPSK-1, which have no tag; None in any other octets."""
+    return _name(_library.tuv_request_name, octets)
+
+
 def response_name(octets: Octets) -> Optional[bytes]:
     """The name of the peer in a whole PSK-2 or GPSK-2, of which no tag was checked; None in any other octets."""
+    return _name(_library.tuv_response_name, octets)
+
+
+def _name(call: Any, octets: Octets) -> Optional[bytes]:
     room = (ctypes.c_uint8 * _abi.NAME_MAX)()
-    length = _library.tuv_response_name(*_sized(octets), room)
+    length = call(*_sized(octets), room)
     return bytes(room[:length]) if length else None

@@ -75,7 +75,7 @@ _CALLS: List[Any] = [
     (c_uint8, [_END, _TOLD], "server_user server_method_user"),
     (c_size_t, [_END, *_PACKET], "end_packet end_again"),
     (c_size_t, [_END, _ROOM], "end_session_id end_session_id_wpa"),
-    (c_size_t, [*_PACKET, _ROOM], "response_name"),
+    (c_size_t, [*_PACKET, _ROOM], "request_name response_name"),
     (c_size_t, [], "end_size"),
     (c_bool, [_END], "end_new"),
     (c_bool, [_END, POINTER(Report)], "end_report"),

@@ -695,11 +695,20 @@ impl ServerMethod {
     }
 }
 
+/// The name of the server in a whole PSK-1 or GPSK-1, which have no tag; none in any other octets.
+pub fn request_name(octets: &[u8]) -> Option<Vec<u8>> {
+    name_by(sys::tuv_request_name, octets)
+}
+
 /// The name of the peer in a whole PSK-2 or GPSK-2, of which no tag was checked; none in any other octets.
 pub fn response_name(octets: &[u8]) -> Option<Vec<u8>> {
+    name_by(sys::tuv_response_name, octets)
+}
+
+fn name_by(call: unsafe extern "C" fn(*const u8, usize, *mut u8) -> usize, octets: &[u8]) -> Option<Vec<u8>> {
     let mut room = [0; sys::NAME_MAX];
     // SAFETY: the octets are lent, and the room has those that a name may have.
-    let len = unsafe { sys::tuv_response_name(octets.as_ptr(), octets.len(), room.as_mut_ptr()) };
+    let len = unsafe { call(octets.as_ptr(), octets.len(), room.as_mut_ptr()) };
     room.get(..len).filter(|it| !it.is_empty()).map(<[u8]>::to_vec)
 }
 

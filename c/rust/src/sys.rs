@@ -117,6 +117,7 @@ extern "C" {
     pub fn tuv_server_method_begin(end: *mut End, told: *const Settings, nonce: *const u8, id: u8) -> u8;
     pub fn tuv_server_method_user(end: *mut End, told: *const Settings) -> u8;
     pub fn tuv_server_method_handle(end: *mut End, octets: *const u8, len: usize, next_id: u8) -> MethodTurn;
+    pub fn tuv_request_name(octets: *const u8, len: usize, room: *mut u8) -> usize;
     pub fn tuv_response_name(octets: *const u8, len: usize, room: *mut u8) -> usize;
     pub fn tuv_cause_word(cause: u8) -> *const c_char;
     pub fn tuv_state_word(state: u8) -> *const c_char;

@@ -126,17 +126,27 @@ fn a_method_alone() {
         let mut peer = PeerMethod::begin(&Settings { methods: &kinds, ..told_peer }, fresh()).unwrap();
         let mut request = server.again().unwrap();
         assert_eq!((request[1], request[4]), (1, kind as u8));
+        assert_eq!(request_name(&request).as_deref(), Some(&b"srv"[..]));
+        // a Request of the method without a message: the peer discards it, and its method hasn't begun (RFC 4137 section 4.2)
+        let empty = peer.handle(&[1, 9, 0, 5, kind as u8]).unwrap();
+        assert!(empty.cause.is_some());
+        assert_eq!((empty.state, empty.decision), (MethodState::None, Decision::Fail));
         let mut id = 1;
         loop {
             let response = peer.handle(&request).unwrap().packet.unwrap();
             if id == 1 {
                 assert_eq!(response_name(&response).as_deref(), Some(&b"alice"[..]));
+                assert!(request_name(&response).is_none());
                 server.give_user(&told_server).unwrap();
             }
             id += 1;
             let turn = server.handle(&response, id).unwrap();
             match turn.packet {
-                Some(packet) => request = packet,
+                Some(packet) => {
+                    // (a server that asks once more goes on, and has decided nothing)
+                    assert_eq!((turn.state, turn.decision), (MethodState::Cont, Decision::Fail));
+                    request = packet;
+                }
                 None => {
                     assert_eq!((turn.state, turn.decision), (MethodState::Done, Decision::UncondSucc));
                     break;

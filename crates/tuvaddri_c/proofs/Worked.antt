@@ -9,7 +9,7 @@ use Rattle.login_keys.specs.Gpsk.{gkdf}
 use Rattle.eap_method.specs.declared.values.Report.{Report}
 use Rattle.tuvaddri_c.specs.ByMethod.{session_id_of_report}
 use Rattle.tuvaddri_c.specs.Gpsk.{zeros, front_of}
-use Rattle.tuvaddri_c.specs.PeerName.{response_name}
+use Rattle.tuvaddri_c.specs.PeerName.{response_name, request_name}
 use Rattle.tuvaddri_c.specs.Failures.{sent_code}
 use Rattle.tuvaddri_c.specs.Reports.{EndReport}
 
@@ -37,6 +37,45 @@ expanded_psk2 = 2 ∷ 7 ∷ 0 ∷ 66 ∷ 254 ∷ 0 ∷ 0 ∷ 0 ∷ 0 ∷ 0 ∷ 0
 named_by_expanded_psk2 : response_name expanded_psk2 ≡ Some (codes "alice")
 unfolding expanded_psk2 packet_of fault spelled read_of
 named_by_expanded_psk2 = refl
+
+-- ID_S of a PSK-1 with padding behind it, also in Type 254; none in the PSK-1 that claims to be a
+-- Response, nor in a PSK-2 that claims to be a Request
+asked_psk1 : List ℕ
+asked_psk1 = 1 ∷ 7 ∷ 0 ∷ 25 ∷ 47 ∷ 0 ∷ replicate 16 1 ++ codes "srv" ++ 0 ∷ 0 ∷ []
+
+named_by_psk1 : request_name asked_psk1 ≡ Some (codes "srv")
+unfolding asked_psk1 packet_of fault read_of
+named_by_psk1 = refl
+
+expanded_psk1 : List ℕ
+expanded_psk1 = 1 ∷ 7 ∷ 0 ∷ 32 ∷ 254 ∷ 0 ∷ 0 ∷ 0 ∷ 0 ∷ 0 ∷ 0 ∷ 47 ∷ 0
+    ∷ replicate 16 1 ++ codes "srv"
+
+named_by_expanded_psk1 : request_name expanded_psk1 ≡ Some (codes "srv")
+unfolding expanded_psk1 packet_of fault spelled read_of
+named_by_expanded_psk1 = refl
+
+unnamed_by_response : request_name psk1 ≡ None
+unfolding psk1 packet_of fault
+unnamed_by_response = refl
+
+asked_psk2 : List ℕ
+asked_psk2 = 1 ∷ 7 ∷ 0 ∷ 59 ∷ 47 ∷ 64
+    ∷ replicate 16 1 ++ replicate 16 2 ++ replicate 16 3 ++ codes "alice"
+
+unnamed_by_psk2 : request_name asked_psk2 ≡ None
+unfolding asked_psk2 packet_of fault read_of
+unnamed_by_psk2 = refl
+
+-- ID_Server of a GPSK-1
+gpsk1 : List ℕ
+gpsk1 = 1 ∷ 7 ∷ 0 ∷ 51 ∷ 51 ∷ 1 ∷ 0 ∷ 3
+    ∷ codes "srv" ++ replicate 32 1 ++ 0 ∷ 6 ∷ 0 ∷ 0 ∷ 0 ∷ 0 ∷ 0 ∷ 1 ∷ []
+
+named_by_gpsk1 : request_name gpsk1 ≡ Some (codes "srv")
+unfolding gpsk1 packet_of fault gpsk.read_of gpsk.loose_of gpsk.fields_at gpsk.gpsk1_at
+    gpsk.identity_at gpsk.suites_at gpsk.sized_at gpsk.exact_at gpsk.and_then
+named_by_gpsk1 = refl
 
 -- a login of alice at srv by EAP-PSK, and one by EAP-GPSK
 report : ℕ → ℕ → Report

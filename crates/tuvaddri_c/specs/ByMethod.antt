@@ -1,6 +1,6 @@
 -- What each method has its own of: a view that has just begun, the peer's name and the Failure-Code
--- in a Response, the Failure-Code that a server sends, and the Session-Id of a login (RFC 5247
--- section 1.4).
+-- in a Response, the server's name in a Request, the Failure-Code that a server sends, and the
+-- Session-Id of a login (RFC 5247 section 1.4).
 use Rattle.std.specs.Prelude.{ℕ, List, ◌==◌, if◌then◌else◌, Option, None}
 use Rattle.octet_lists.specs.Among.{psk_kind, gpsk_kind}
 use Rattle.octet_lists.specs.Suite.{suite_numbered}
@@ -18,8 +18,8 @@ use Rattle.eap_method.specs.GpskServer as gpsk_server
 use Rattle.eap_method.specs.declared.values.Credential.{Credential}
 use Rattle.eap_method.specs.declared.values.ServerSide.{ServerSide}
 use Rattle.tuvaddri_c.specs.Reports.{EndReport}
-use Rattle.tuvaddri_c.specs.Psk.{psk_name, psk_session_id, fitting}
-use Rattle.tuvaddri_c.specs.Gpsk.{gpsk_name, repeated_code, suited_id}
+use Rattle.tuvaddri_c.specs.Psk.{psk_name, psk_server, psk_session_id, fitting}
+use Rattle.tuvaddri_c.specs.Gpsk.{gpsk_name, gpsk_server, repeated_code, suited_id}
 
 -- a peer's method that has just begun
 abbrev pub peer_fresh : ℕ → Credential → List ℕ → PeerShown
@@ -36,6 +36,13 @@ abbrev pub name_by : ℕ → List ℕ → Option (List ℕ)
 name_by kind body =
     if kind == psk_kind then psk_name (psk_reading.read_of body)
     else if kind == gpsk_kind then gpsk_name (gpsk_reading.read_of None body)
+    else None
+
+-- the server's name in a Request
+abbrev pub server_by : ℕ → List ℕ → Option (List ℕ)
+server_by kind body =
+    if kind == psk_kind then psk_server (psk_reading.read_of body)
+    else if kind == gpsk_kind then gpsk_server (gpsk_reading.read_of None body)
     else None
 
 -- the Failure-Code in a Response, by EAP-GPSK

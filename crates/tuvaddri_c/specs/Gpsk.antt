@@ -1,5 +1,5 @@
--- What is of EAP-GPSK alone: the peer's name and the Failure-Code in a Response, the shared key,
--- and the Session-Id of a login (RFC 5247 section 1.4).
+-- What is of EAP-GPSK alone: the peer's name and the Failure-Code in a Response, the server's name
+-- in a Request, the shared key, and the Session-Id of a login (RFC 5247 section 1.4).
 use Rattle.std.specs.Prelude.{ℕ, List, length, take, replicate, nat_lt, nat_le, if◌then◌else◌}
 use Rattle.std.specs.Prelude.{Option, Some, None, option_map, Result, Ok}
 use Rattle.octet_lists.specs.Among.{gpsk_kind}
@@ -8,7 +8,7 @@ use Rattle.octet_lists.specs.declared.suite.Suite.{Suite}
 use Rattle.login_setup.specs.Users.{user_of}
 use Rattle.login_setup.specs.declared.users.User.{User}
 use Rattle.eap_packet.specs.declared.cause.Cause.{Cause}
-use Rattle.gpsk_messages.specs.Message.{Message, gpsk2, fail, protected_fail}
+use Rattle.gpsk_messages.specs.Message.{Message, gpsk1, gpsk2, fail, protected_fail}
 use Rattle.login_keys.specs.Gpsk.{input_string}
 use Rattle.login_keys.specs.SessionId.{gpsk_id}
 use Rattle.tuvaddri_c.specs.Reports.{EndReport}
@@ -19,6 +19,11 @@ use Rattle.tuvaddri_c.specs.declared.session.End.TheVariants as ends
 abbrev pub gpsk_name : Result Message Cause → Option (List ℕ)
 gpsk_name (Ok (gpsk2 id_p id_s rand_p rand_s list suite pd mac)) = Some id_p
 gpsk_name read = None
+
+-- ID_Server of GPSK-1 (RFC 5433 section 9.2)
+abbrev pub gpsk_server : Result Message Cause → Option (List ℕ)
+gpsk_server (Ok (gpsk1 id_s rand_s list)) = Some id_s
+gpsk_server read = None
 
 -- a Failure-Code of the standard; 0 for any other
 abbrev pub known_code : ℕ → ℕ

@@ -12,7 +12,7 @@ pub mod Gpsk
 pub mod Borrowing
 -- The methods alone.
 pub mod Methods
--- The peer's name in a Response.
+-- The peer's name in a Response, and the server's in a Request.
 pub mod PeerName
 -- What is of EAP-PSK alone.
 pub mod Psk

@@ -1,16 +1,17 @@
-//! What each method has its own of: the peer's name and the Failure-Code in a Response, the Failure-Code that a server
-//! sends, the user of a server, and the Session-Id of a login.
+//! What each method has its own of: the peer's name and the Failure-Code in a Response, the server's name in a Request, the
+//! Failure-Code that a server sends, the user of a server, and the Session-Id of a login.
 
 ghost use Rattle.std.specs.Prelude.{◌≡◌, ◌≤◌, [], length, Some, None, IfSome};
 ghost use Rattle.octet_lists.specs.Sizes.{max_name};
 ghost use Rattle.server_machine.specs.ServerTable.{with_users};
 ghost use Rattle.end_objects.specs.Refusals.{IsSoundOther};
 ghost use Rattle.end_objects.specs.Settings.{settings_of, users_of};
-ghost use Rattle.tuvaddri_c.specs.ByMethod.{name_by, repeated_by, code_by, session_id_of_report};
+ghost use Rattle.tuvaddri_c.specs.ByMethod.{name_by, server_by, repeated_by, code_by};
+ghost use Rattle.tuvaddri_c.specs.ByMethod.{session_id_of_report};
 ghost use Rattle.tuvaddri_c.specs.Gpsk.{zeros, front_of};
 
-use crate::gpsk::{front_id, gpsk_id, gpsk_name, repeated_code};
-use crate::psk::{psk_id, psk_name};
+use crate::gpsk::{front_id, gpsk_id, gpsk_name, gpsk_server, repeated_code};
+use crate::psk::{psk_id, psk_name, psk_server};
 use crate::session_id::SessionId;
 use crate::users::HasUsers;
 use eap_method::Report;
@@ -27,6 +28,21 @@ pub fn name_by<'a>(kind: u8, body: &'a [u8]) -> Option<&'a [u8]>
         psk_name(body)
     } else if kind == GPSK_KIND {
         gpsk_name(body)
+    } else {
+        None
+    }
+}
+
+/// The server's name in a Request of this Type.
+pub fn server_by<'a>(kind: u8, body: &'a [u8]) -> Option<&'a [u8]>
+    ensures found { IfSome result (λ name. server_by kind body.now ≡ Some name.now) }
+    ensures none { result ≡ None → server_by kind body.now ≡ None }
+    ensures size { IfSome result (λ name. length name.now ≤ max_name) }
+{
+    if kind == PSK_KIND {
+        psk_server(body)
+    } else if kind == GPSK_KIND {
+        gpsk_server(body)
     } else {
         None
     }

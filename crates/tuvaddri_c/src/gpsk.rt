@@ -1,12 +1,12 @@
-//! What is of EAP-GPSK alone: the peer's name and the Failure-Code in a Response, the shared key, and the Session-Id of a
-//! login.
+//! What is of EAP-GPSK alone: the peer's name and the Failure-Code in a Response, the server's name in a Request, the shared
+//! key, and the Session-Id of a login.
 
 ghost use Rattle.std.specs.Prelude.{◌≡◌, ◌≤◌, length, Some, None, IfSome};
 ghost use Rattle.octet_lists.specs.Sizes.{max_name};
 ghost use Rattle.octet_lists.specs.Suite.{ks_of};
 ghost use Rattle.gpsk_messages.specs.Reading.{read_of};
-ghost use Rattle.tuvaddri_c.specs.Gpsk.{gpsk_name, known_code, repeated_code, key_in, end_key};
-ghost use Rattle.tuvaddri_c.specs.Gpsk.{front_of, gpsk_session_id, keyed_id};
+ghost use Rattle.tuvaddri_c.specs.Gpsk.{gpsk_name, gpsk_server, known_code, repeated_code, key_in};
+ghost use Rattle.tuvaddri_c.specs.Gpsk.{end_key, front_of, gpsk_session_id, keyed_id};
 
 use crate::session::End;
 use crate::session_id::SessionId;
@@ -25,6 +25,23 @@ pub fn gpsk_name<'a>(body: &'a [u8]) -> Option<&'a [u8]>
     match read_gpsk_message(body, None) {
         Ok(GpskMessage::M1(_)) => None,
         Ok(GpskMessage::M2(gpsk2)) => Some(gpsk2.id_p),
+        Ok(GpskMessage::M3(_)) => None,
+        Ok(GpskMessage::M4(_)) => None,
+        Ok(GpskMessage::Fail { .. }) => None,
+        Ok(GpskMessage::ProtectedFail { .. }) => None,
+        Err(_) => None,
+    }
+}
+
+/// ID_Server of GPSK-1.
+pub fn gpsk_server<'a>(body: &'a [u8]) -> Option<&'a [u8]>
+    ensures found { IfSome result (λ name. gpsk_server (read_of None body.now) ≡ Some name.now) }
+    ensures none { result ≡ None → gpsk_server (read_of None body.now) ≡ None }
+    ensures size { IfSome result (λ name. length name.now ≤ max_name) }
+{
+    match read_gpsk_message(body, None) {
+        Ok(GpskMessage::M1(gpsk1)) => Some(gpsk1.id_s),
+        Ok(GpskMessage::M2(_)) => None,
         Ok(GpskMessage::M3(_)) => None,
         Ok(GpskMessage::M4(_)) => None,
         Ok(GpskMessage::Fail { .. }) => None,
