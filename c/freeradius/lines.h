@@ -33,6 +33,14 @@ static inline char *quoted_of(TALLOC_CTX *ctx, REQUEST *request, unsigned attrib
 	return vp ? quoted(ctx, vp->vp_strvalue, vp->vp_length) : quoted(ctx, "", 0);
 }
 
+/* Why a module has failed or rejected, in its own words; null where it has none. */
+static inline char *failure_of(TALLOC_CTX *ctx, REQUEST *request)
+{
+	VALUE_PAIR *vp = fr_pair_find_by_num(request->packet->vps, PW_MODULE_FAILURE_MESSAGE, 0, TAG_ANY);
+
+	return vp ? quoted(ctx, vp->vp_strvalue, vp->vp_length) : NULL;
+}
+
 /* Where a login comes from. */
 static inline char *place_of(TALLOC_CTX *ctx, REQUEST *request)
 {

@@ -40,7 +40,7 @@ enum { SEND_KEY = 16, RECV_KEY = 17 };
 
 /* What the words say. */
 static struct {
-	const char *secret;
+	const char *secret, *station;
 	int port, kind, suite, logins, at_once, users, threads, altered, stations, type, octet;
 	bool only_begins;
 } asked = { .threads = 1 };
@@ -144,7 +144,10 @@ static void ask_by(struct slot *s, const uint8_t *eap, size_t eap_len)
 	s->len = 20;
 	put(s, USER_NAME, name, snprintf(name, sizeof(name), "user%d", s->user));
 	put(s, NAS_IP_ADDRESS, ip, sizeof(ip));
-	put(s, STATION, station, snprintf(station, sizeof(station), "02-00-%02X-%02X-%02X-%02X", asked.only_begins,
+	if (asked.station)
+		put(s, STATION, asked.station, strlen(asked.station));
+	else
+		put(s, STATION, station, snprintf(station, sizeof(station), "02-00-%02X-%02X-%02X-%02X", asked.only_begins,
 					  s->station >> 16, s->station >> 8 & 255, s->station & 255));
 	put(s, EAP_MESSAGE, eap, eap_len);
 	if (s->state_len)
@@ -446,7 +449,7 @@ static void write_user(char form, int user)
 
 static int usage(void)
 {
-	fputs("usage: load PORT SECRET KIND SUITE LOGINS AT_ONCE USERS [THREADS [ALTERED]]\n"
+	fputs("usage: load PORT SECRET KIND SUITE LOGINS AT_ONCE USERS [THREADS [ALTERED [STATION]]]\n"
 	      "       load begin PORT SECRET KIND SUITE LOGINS AT_ONCE USERS [STATIONS [TYPE OCTET]]\n"
 	      "       load keys freeradius|sql|gpsk|psk USERS\n", stderr);
 	return 2;
@@ -478,7 +481,10 @@ static void read_words(int count, char **words)
 		asked.stations = number_of(words[7], 1, 1000000);
 	else if (count > 7)
 		asked.threads = number_of(words[7], 1, 64);
-	if (count > 9) {
+	if (count > 9 && !asked.only_begins) {
+		asked.altered = number_of(words[8], 0, 100);
+		asked.station = words[9];
+	} else if (count > 9) {
 		asked.type = number_of(words[8], 3, 255);
 		asked.octet = number_of(words[9], 0, 255);
 	} else if (count > 8) {
@@ -542,7 +548,7 @@ int main(int argc, char **argv)
 	}
 	asked.only_begins = argc > 1 && strcmp(argv[1], "begin") == 0;
 	argc -= asked.only_begins, argv += asked.only_begins;
-	if (argc < 8 || argc > (asked.only_begins ? 11 : 10) || (asked.only_begins && argc == 10))
+	if (argc < 8 || argc > 11 || (asked.only_begins && argc == 10))
 		return usage();
 	read_words(argc - 1, argv + 1);
 	return run();

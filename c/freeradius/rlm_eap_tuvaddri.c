@@ -28,6 +28,9 @@
  * hand one on; and at how many one look is. */
 enum { KEYS = 2, MISSED_SECONDS = 3, LOOKED_AT = 8 };
 
+/* Of NAS-Port-Type (RFC 2865 section 5.41): a VPN gateway's, and Wi-Fi's. */
+enum { VIRTUAL_PORT = 5, WIRELESS_PORT = 19 };
+
 struct settings {
 	char const	*server_id;
 	char const	*suites;
@@ -98,8 +101,10 @@ struct session {
 	uint8_t		nonce[TUV_NONCE_LEN], id;
 	char		*server;	/* a child of the handler */
 	eap_handler_t	*handler;
-	char		*user, *place;	/* as in the log: children of the handler */
+	char		*user, *place;	/* as in the log; and */
+	char		*port;		/* where at its client: children of the handler */
 	char const	*text;		/* of the last BAD_PACKET */
+	char		*why;		/* what the virtual server has against the login: a child of the handler */
 	uint32_t	discards, timer_expire;
 	int		trips;		/* the handler's, when the module was asked last */
 	int		key, keys;	/* the key that serves, of how many */
@@ -107,7 +112,7 @@ struct session {
 	bool		is_told;	/* the log has what it came to */
 	bool		has_station, is_listed;
 	VALUE_PAIR	*reply;		/* the virtual server's, for an Access-Accept; and */
-	char		*inner;		/* the name inside, by inner_identity: children of the handler */
+	char		*name;		/* that of the method, whose key serves: children of the handler */
 };
 
 /* A conversation that has begun by this module, whichever method it goes on by: a
@@ -173,26 +178,19 @@ static char const *fault_of(struct settings *it)
 
 static int compare_places(void const *one, void const *two)
 {
-	return strcmp(((struct session const *) one)->place, ((struct session const *) two)->place);
+	struct session const *first = one, *second = two;
+	int order = strcmp(first->place, second->place);
+
+	return order ? order : strcmp(first->port, second->port);
 }
 
-/* %{eap_gpsk:WORD}, how many logins came to this since the server has begun; `all`
- * has those that aren't 0, each behind its word. */
+/* %{eap_gpsk:WORD}, how many logins came to this since the server has begun. */
 static ssize_t count_of(void *instance, REQUEST *request, char const *word, char *out, size_t room)
 {
-	bool is_all = strcmp(word, "all") == 0;
-	size_t len = 0;
-
 	*out = '\0';
-	for (int it = 0; it < REASONS && len < room; it++) {
-		uint64_t count = __atomic_load_n(&counts[it], __ATOMIC_RELAXED);
-
-		if (is_all && count)
-			len += snprintf(out + len, room - len, "%s%s=%" PRIu64, len ? " " : "", reasons[it].word, count);
-		else if (strcmp(word, reasons[it].word) == 0)
-			return snprintf(out, room, "%" PRIu64, count);
-	}
-	if (is_all) return strlen(out);
+	for (int it = 0; it < REASONS; it++)
+		if (strcmp(word, reasons[it].word) == 0)
+			return snprintf(out, room, "%" PRIu64, __atomic_load_n(&counts[it], __ATOMIC_RELAXED));
 	REDEBUG("%s: there is no count '%s'", NAME, word);
 	return -1;
 }
@@ -250,15 +248,64 @@ static size_t identity_len(eap_handler_t const *handler)
 	return talloc_array_length(handler->identity) - 1;
 }
 
+static VALUE_PAIR *attribute_of(REQUEST *request, unsigned attribute)
+{
+	return fr_pair_find_by_num(request->packet->vps, attribute, 0, TAG_ANY);
+}
+
+static bool has_port_type(REQUEST *request, uint32_t type)
+{
+	VALUE_PAIR const *vp = attribute_of(request, PW_NAS_PORT_TYPE);
+
+	return vp && vp->vp_integer == type;
+}
+
+/* Whether Calling-Station-Id is one station's: a MAC address, as 12 hex digits with
+ * or without separators. A VPN gateway has an address of IP there, behind which there
+ * may be many stations. */
+static bool has_own_station(REQUEST *request)
+{
+	VALUE_PAIR const *vp = attribute_of(request, PW_CALLING_STATION_ID);
+	size_t digits = 0;
+
+	if (!vp || has_port_type(request, VIRTUAL_PORT)) return false;
+	for (size_t at = 0; at < vp->vp_length; at++) {
+		if (isxdigit(vp->vp_octets[at])) digits++;
+		else if (!vp->vp_octets[at] || !strchr("-:.", vp->vp_octets[at])) return false;
+	}
+	return digits == 12;
+}
+
+/* Where at its client: the access point or switch, of which a proxy may have many, and
+ * the port of a switch. At another port a station may have the address of somebody
+ * else. (Wi-Fi has one air, and numbers that differ at each association.) */
+static char *port_of(TALLOC_CTX *ctx, REQUEST *request)
+{
+	static unsigned const named[] = { PW_NAS_IP_ADDRESS, PW_NAS_IPV6_ADDRESS, PW_NAS_IDENTIFIER, PW_NAS_PORT, PW_NAS_PORT_ID };
+	int count = has_port_type(request, WIRELESS_PORT) ? 3 : 5;
+	char *port = talloc_strdup(ctx, "");
+
+	for (int it = 0; it < count && port; it++) {
+		VALUE_PAIR const *vp = attribute_of(request, named[it]);
+		char *value = vp ? vp_aprints_value(ctx, vp, '"') : NULL;
+
+		if (value) port = talloc_asprintf_append_buffer(port, "%u=\"%s\" ", named[it], value);
+		talloc_free(value);
+	}
+	return port;
+}
+
 /* Who logs in, and from where. */
 static bool note(struct session *s, eap_handler_t *handler)
 {
 	REQUEST *request = handler->request;
+
 	s->handler = handler;
 	s->user = quoted(handler, handler->identity, identity_len(handler));
-	s->has_station = fr_pair_find_by_num(request->packet->vps, PW_CALLING_STATION_ID, 0, TAG_ANY) != NULL;
+	s->has_station = has_own_station(request);
 	s->place = place_of(handler, request);
-	return s->user && s->place;
+	s->port = port_of(handler, request);
+	return s->user && s->place && s->port;
 }
 
 /* Takes a login that waits for its station out of rlm_eap's list, whose mutex is
@@ -278,7 +325,7 @@ static bool take_out(rlm_eap_t *eap, eap_handler_t *handler)
 	return true;
 }
 
-/* The waiting login of the same station, access point and client is taken out; the
+/* The waiting login of the same station, access point, client and port is taken out; the
  * new one gets its place in the table. (With the mutex no login of the table is
  * given back meanwhile.) */
 static eap_handler_t *replace(rlm_eap_t *eap, struct session *s)
@@ -379,13 +426,18 @@ static bool goes_on_by_nak(eap_handler_t const *handler)
 	return false;
 }
 
+static bool is_barred(REQUEST *request)
+{
+	VALUE_PAIR const *type = fr_pair_find_by_num(request->config, PW_AUTH_TYPE, 0, TAG_ANY);
+
+	return type && type->vp_integer == PW_AUTH_TYPE_REJECT;
+}
+
 /* What the site has against a login, in the words of the module that rejects it. */
 static void tell_reject(struct session *s, REQUEST *request)
 {
-	VALUE_PAIR const *type = fr_pair_find_by_num(request->config, PW_AUTH_TYPE, 0, TAG_ANY);
-	VALUE_PAIR const *why = fr_pair_find_by_num(request->packet->vps, PW_MODULE_FAILURE_MESSAGE, 0, TAG_ANY);
-	char const *text = why ? quoted(s->handler, why->vp_strvalue, why->vp_length) : NULL;
-	enum reason reason = type && type->vp_integer == PW_AUTH_TYPE_REJECT ? BARRED : REJECTED;
+	enum reason reason = is_barred(request) ? BARRED : REJECTED;
+	char const *text = failure_of(s->handler, request);
 
 	tell(s, reason, text ? text : reasons[reason].text);
 }
@@ -498,8 +550,10 @@ static size_t key_of(VALUE_PAIR const *vp, uint8_t room[TUV_KEY_MAX])
 	size_t len = vp->vp_length;
 
 	if (vp->da->type == PW_TYPE_STRING && len > 2 && strncmp(vp->vp_strvalue, "0x", 2) == 0) {
-		size_t made = fr_hex2bin(room, TUV_KEY_MAX, vp->vp_strvalue + 2, len - 2);
+		size_t made = 0;
 
+		/* (to fr_hex2bin an octet of 0 is a digit) */
+		if (!memchr(vp->vp_strvalue, 0, len)) made = fr_hex2bin(room, TUV_KEY_MAX, vp->vp_strvalue + 2, len - 2);
 		return 2 * made == len - 2 ? made : 0;
 	}
 	if (len > TUV_KEY_MAX) return 0;
@@ -517,23 +571,40 @@ static bool is_hex_text(VALUE_PAIR const *vp)
 	return digits == vp->vp_length && digits >= 32;
 }
 
-/* Looks a name up by the virtual server's authorize section. */
-static enum reason ask_for(REQUEST **asked, REQUEST *request, struct settings const *it, char const *name, size_t len)
+/* What a check item or a rule may ask of beside the name: station, access point, port.
+ * Not EAP itself, nor what FreeRADIUS has made of the name outside (over 255). */
+static bool is_copied(DICT_ATTR const *it)
 {
-	REQUEST *inner = request_alloc_fake(request);
-	VALUE_PAIR const *type;
+	if (it->vendor) return true;
+	return it->attr <= 255 && it->attr != PW_USER_NAME && it->attr != PW_EAP_MESSAGE && it->attr != PW_STATE &&
+		it->attr != PW_MESSAGE_AUTHENTICATOR;
+}
+
+static void copy_request(REQUEST *inner, REQUEST *request)
+{
+	vp_cursor_t cursor;
+
+	for (VALUE_PAIR *vp = fr_cursor_init(&cursor, &request->packet->vps); vp; vp = fr_cursor_next(&cursor))
+		if (is_copied(vp->da)) fr_pair_add(&inner->packet->vps, fr_pair_copy(inner->packet, vp));
+}
+
+/* Looks a name up by the virtual server's authorize section. */
+static enum reason ask_for(REQUEST **asked, struct session *s, struct settings const *it, char const *name, size_t len)
+{
+	REQUEST *request = s->handler->request, *inner = request_alloc_fake(request);
 	rlm_rcode_t code;
 
 	*asked = inner;
 	if (inner) inner->username = fr_pair_afrom_num(inner->packet, PW_USER_NAME, 0);
 	if (!inner || !inner->username) return NO_STORE;
+	copy_request(inner, request);
 	fr_pair_value_bstrncpy(inner->username, name, len);
 	fr_pair_add(&inner->packet->vps, inner->username);
 	if (it->virtual_server) inner->server = it->virtual_server;
 	code = process_authorize(0, inner);
-	type = fr_pair_find_by_num(inner->config, PW_AUTH_TYPE, 0, TAG_ANY);
-	if (code == RLM_MODULE_REJECT || code == RLM_MODULE_USERLOCK) return BARRED;
-	if (type && type->vp_integer == PW_AUTH_TYPE_REJECT) return BARRED;
+	s->why = failure_of(s->handler, inner);
+	if (is_barred(inner)) return BARRED;
+	if (code == RLM_MODULE_REJECT || code == RLM_MODULE_USERLOCK) return REJECTED;
 	return code == RLM_MODULE_FAIL || code == RLM_MODULE_INVALID ? NO_STORE : PROVED;
 }
 
@@ -588,6 +659,19 @@ static enum reason try_keys(eap_handler_t *handler, struct session *s, struct tu
 	return first;
 }
 
+/* What a login that is refused before any key has been tried takes all the same: the
+ * work of a wrong key. Else the time until the answer would tell who is a user. */
+static void try_none(eap_handler_t *handler, struct session *s, struct tuv_method_turn *turn, char const *name, size_t len)
+{
+	uint8_t key[KIND == TUV_KIND_PSK ? 16 : 32];
+	struct tuv_settings told = { .size = sizeof(told), .other = { (uint8_t const *) name, len } };
+	struct tuv_octets *octets = KIND == TUV_KIND_PSK ? &told.psk_key : &told.gpsk_key;
+
+	*octets = (struct tuv_octets) { key, sizeof(key) };
+	if (getrandom(key, sizeof(key), 0) == sizeof(key) && tuv_server_method_user(&s->end, &told) == TUV_BEGUN)
+		hear(handler, s, turn);
+}
+
 /* The first Response names the user.  By a name that isn't the identity's nobody
  * is looked up: the library would answer by a GPSK-Fail, at which stations fall
  * silent, or a Failure; but nothing has been proved of that name by then. */
@@ -602,6 +686,9 @@ static enum reason hear_first(eap_handler_t *handler, struct settings const *it,
 
 	s->text = reasons[BAD_PACKET].text;
 	if (!len) return BAD_PACKET;
+	/* (what comes before it is to a store or a rule a name of its own) */
+	s->text = "the name has a zero octet";
+	if (memchr(name, 0, len)) return BAD_PACKET;
 	if (it->inner_identity) {
 		char *user = quoted(handler, name, len);
 
@@ -609,11 +696,12 @@ static enum reason hear_first(eap_handler_t *handler, struct settings const *it,
 	} else if (len != identity_len(handler) || memcmp(name, handler->identity, len) != 0) {
 		return OTHER_NAME;
 	}
-	if (it->inner_identity || it->virtual_server) reason = ask_for(&inner, request, it, name, len);
+	if (it->inner_identity || it->virtual_server) reason = ask_for(&inner, s, it, name, len);
 	if (reason == PROVED)
 		reason = try_keys(handler, s, turn, inner ? &inner->config : &request->config, it->key, name, len);
+	if (reason == NO_KEY || reason == BARRED || reason == REJECTED) try_none(handler, s, turn, name, len);
 	if (reason == PROVED && inner) s->reply = fr_pair_list_copy(handler, inner->reply->vps);
-	if (reason == PROVED && it->inner_identity) s->inner = talloc_strndup(handler, name, len);
+	if (reason == PROVED) s->name = talloc_strndup(handler, name, len);
 	talloc_free(inner);
 	return reason;
 }
@@ -625,6 +713,7 @@ static int ask_again(eap_handler_t *handler, struct settings const *it, struct s
 	REQUEST *request = handler->request;
 
 	if (reason != BAD_PACKET) s->text = reasons[reason].text;
+	if ((reason == REJECTED || reason == NO_STORE) && s->why) s->text = s->why;
 	if (s->discards++ >= it->max_discards) {
 		module_failure_msg(request, "%s: given up: %s", NAME, s->text);
 		tell(s, reason, s->text);
@@ -648,6 +737,18 @@ static void tell_proved(struct session *s, uint8_t suite)
 	tell(s, PROVED, how);
 }
 
+/* For rules, queries and the Access-Accept. False where there is no memory. */
+static bool put_name(REQUEST *request, char const *name)
+{
+	VALUE_PAIR *vp = name ? fr_pair_afrom_num(request->state_ctx, PW_USER_NAME, 0) : NULL;
+
+	if (!vp) return false;
+	/* (as it is: fr_pair_make would read \x31 as a digit) */
+	fr_pair_value_bstrncpy(vp, name, strlen(name));
+	fr_pair_replace(&request->state, vp);
+	return true;
+}
+
 /* RFC 2548 section 2.4 for the link keys, which FreeRADIUS seals; its stock site
  * copies EAP-Session-Id to EAP-Key-Name (RFC 4072) where that was asked for. */
 static int give_keys(eap_handler_t *handler, struct settings const *it, struct session *s)
@@ -657,7 +758,9 @@ static int give_keys(eap_handler_t *handler, struct settings const *it, struct s
 	uint8_t id[TUV_SESSION_ID_MAX];
 	size_t len = it->as_wpa ? tuv_end_session_id_wpa(&s->end, id) : tuv_end_session_id(&s->end, id);
 
-	if (!tuv_end_report(&s->end, &report)) return 0;
+	if (!put_name(request, s->name) || !tuv_end_report(&s->end, &report)) return 0;
+	/* (a site that asks its stores itself has put the rights of the name outside there, which nobody has proved) */
+	if (it->inner_identity) fr_pair_list_free(&request->reply->vps);
 	handler->eap_ds->request->code = PW_EAP_SUCCESS;
 	eap_add_reply(request, "MS-MPPE-Recv-Key", report.msk, 32);
 	eap_add_reply(request, "MS-MPPE-Send-Key", report.msk + 32, 32);
@@ -666,7 +769,6 @@ static int give_keys(eap_handler_t *handler, struct settings const *it, struct s
 	eap_add_reply(request, "EAP-Session-Id", id, len);
 	/* (as EAP-TTLS and PEAP by use_tunneled_reply; the site hands session-state on) */
 	fr_pair_list_mcopy_by_num(request->reply, &request->reply->vps, &s->reply, 0, 0, TAG_ANY);
-	if (s->inner) put_outcome(request, "User-Name", s->inner);
 	tell_proved(s, report.suite);
 	explicit_bzero(&report, sizeof(report));
 	return 1;

@@ -5,7 +5,10 @@
  * nothing. The file tuvaddri-server has its words. */
 #include <freeradius-devel/radiusd.h>
 #include <freeradius-devel/modules.h>
+#include "eap_types.h"
 #include "lines.h"
+
+#define ALTERED "User-Name isn't the identity: a proxy before this server has altered it (nostrip)"
 
 struct settings {
 	char const	*dictionary;
@@ -32,23 +35,35 @@ static int bootstrap(CONF_SECTION *cs, void *instance)
 	return 0;
 }
 
+/* What FreeRADIUS refuses without a word: an identity that isn't the User-Name. */
+static bool is_altered(REQUEST *request, VALUE_PAIR const *eap)
+{
+	VALUE_PAIR const *user = fr_pair_find_by_num(request->packet->vps, PW_USER_NAME, 0, TAG_ANY);
+
+	if (!user || eap->vp_length < 5 || eap->vp_octets[0] != PW_EAP_RESPONSE || eap->vp_octets[4] != PW_EAP_IDENTITY)
+		return false;
+	return eap->vp_length - 5 != user->vp_length || memcmp(eap->vp_octets + 5, user->vp_octets, user->vp_length) != 0;
+}
+
 /* A reject of the site, before the method or behind it, in the words of the module
  * that rejects. */
 static rlm_rcode_t CC_HINT(nonnull) post_auth(UNUSED void *instance, REQUEST *request)
 {
 	DICT_ATTR const *reason = dict_attrbyname("Tuvaddri-Reason");
 	VALUE_PAIR const *told = reason ? fr_pair_find_by_da(request->state, reason, TAG_ANY) : NULL;
-	VALUE_PAIR const *why = fr_pair_find_by_num(request->packet->vps, PW_MODULE_FAILURE_MESSAGE, 0, TAG_ANY);
+	VALUE_PAIR const *eap = fr_pair_find_by_num(request->packet->vps, PW_EAP_MESSAGE, 0, TAG_ANY);
 	bool is_proved = told && strcmp(told->vp_strvalue, "proved") == 0;
-	char *user, *place, *text;
+	char const *user, *place, *text;
 
 	if (request->reply->code != PW_CODE_ACCESS_REJECT || (told && !is_proved)) return RLM_MODULE_NOOP;
 	user = quoted_of(request, request, PW_USER_NAME);
 	place = place_of(request, request);
-	text = why ? quoted(request, why->vp_strvalue, why->vp_length) : NULL;
+	text = failure_of(request, request);
 	if (!user || !place) return RLM_MODULE_FAIL;
-	radlog(L_AUTH, "EAP rejected user=%s %s reason=%s: %s", user, place, is_proved ? "post-auth" : "site",
-	       text ? text : "a rule of the site");
+	if (!text) text = eap && is_altered(request, eap) ? ALTERED : "a rule of the site";
+	/* (by MAC address or password, where a site has that beside EAP) */
+	radlog(L_AUTH, "%s rejected user=%s %s reason=%s: %s", eap ? "EAP" : "Not EAP:", user, place,
+	       is_proved ? "post-auth" : "site", text);
 	put_outcome(request, "Tuvaddri-Reason", is_proved ? "post-auth" : "site");
 	return RLM_MODULE_OK;
 }

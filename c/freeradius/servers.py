@@ -50,7 +50,7 @@ def write_users(work: str) -> None:
     rows = "BEGIN;\n" + keys_of(work, "sql")
     for user, attributes in re.findall("(.*)\t(.*)", PEOPLE):
         for table, part in zip(("radcheck", "radreply"), attributes.split("; ")):
-            for name, operator, value in re.findall('([A-Z][A-Za-z-]+) (:=|[+]=|=) ("[^"]*"|[^,]*)', part):
+            for name, operator, value in re.findall('([A-Z][A-Za-z-]+) (:=|[+]=|==?) ("[^"]*"|[^,]*)', part):
                 told = (user, name, operator, value.strip('"'))
                 rows += f"INSERT INTO {table} (username, attribute, op, value) VALUES {told};\n"
     add_rows(work, pathlib.Path("/etc/freeradius/3.0/mods-config/sql/main/sqlite/schema.sql").read_text())
@@ -137,7 +137,8 @@ AUTHORIZE = {
 		}""",
 }
 # Rules in `post-auth`.
-RULES = {"": "", "old-key": "if (&session-state:Tuvaddri-Key-Number == 1) {\n\t\t\treject\n\t\t}"}
+OF_NAME = re.sub("(?m)^#", "", re.findall("(?ms)^#\t\tif .&session.*?^#\t\t}", (HERE / "raddb/sites-available/tuvaddri").read_text())[0])
+RULES = {"": "", "name": OF_NAME, "old-key": "if (&session-state:Tuvaddri-Key-Number == 1) {\n\t\t\treject\n\t\t}"}
 # What one server can differ in from another beside its site; window is in seconds.
 WORDS = {"first": "gpsk", "md5": "", "threads": "", "at": "", "rule": "", "secret": SECRET}
 WORDS |= {"timer": "60", "sessions": "24576", "window": "20"}
@@ -162,7 +163,8 @@ def freeradius(
     put_server(work, folder, told)
     put_site(work, folder, site, told)
     put_settings(folder, settings)
-    (folder / "sites-enabled/more").write_text(f"server broken {{\nauthorize {{\nfail\n}}\n}}\n{more}")
+    others = "".join(f"server {it} {{\nauthorize {{\n{by}\n}}\n}}\n" for it, by in (("broken", "fail"), ("rejects", "reject")))
+    (folder / "sites-enabled/more").write_text(others + more)
     return Searched(str(folder), "server", [*before, "freeradius", "-d", str(folder), "-f", "-l", "stdout"], READY, seconds)
 
 
@@ -195,7 +197,7 @@ def put_server(work: str, folder: pathlib.Path, told: Mapping[str, str]) -> None
 def put_site(work: str, folder: pathlib.Path, site: str, told: Mapping[str, str]) -> None:
     file = folder / "sites-enabled/tuvaddri"
     if site in AUTHORIZE:
-        edit(file, ("(?<=^\tauthorize {)\n\t\tif.*(\n\t\t.*)+", f"\n\t\t{AUTHORIZE[site]}"))
+        edit(file, ("(?<=^\tauthorize {)(\n#.*)*\n\t\tif.*(\n\t\t.*)+", f"\n\t\t{AUTHORIZE[site]}"))
     if told["rule"]:
         edit(file, ("^\tpost-auth {", f'\tpost-auth {{\n\t\t{RULES[told["rule"]]}'))
     if site in ("proxy", "pool"):
@@ -281,7 +283,9 @@ def station(work: str, words: str) -> Station:
 
 
 def octets_of(name: str) -> str:
-    return name.replace("FORGED", FORGED).encode("latin-1").hex()
+    if name.startswith("hex:"):
+        return name[4:]
+    return name.replace("FORGED", FORGED).replace("\\0", "\0").encode("latin-1").hex()
 
 
 def log_in(conf: str, words: Sequence[str] = ()) -> Station:
