@@ -31,7 +31,7 @@ from lib import common  # noqa: E402
 Failed = common.Refused
 
 # How long the program may think about a line, in seconds; what is slower has stopped.
-ANSWER_SECONDS = 20
+ANSWER_SECONDS = 60
 # The most lines that an end is told in a login. The program takes 10,000.
 MOST_INPUTS = 200
 # The most octets of a packet that the program reads.

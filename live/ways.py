@@ -20,7 +20,7 @@ KEYS = {"GPSK": bytes(range(32)).hex(), "PSK": bytes(range(16)).hex()}
 WRONG_KEYS = {"GPSK": bytes(range(1, 33)).hex(), "PSK": bytes(range(1, 17)).hex()}
 TYPES = {"GPSK": "51", "PSK": "47"}
 # How long a login may last, in seconds.
-MOST_SECONDS = 40
+MOST_SECONDS = 100
 # What logs say of the keys with -K -dd, and what our scripts say.
 THEIR_KEY = re.compile(r"EAP-G?PSK: (E?MSK) - hexdump\(len=64\):((?: [0-9a-f]{2}){64})")
 LINK_KEY = re.compile(r"^MS-MPPE-(Recv|Send)-Key.* - hexdump\(len=32\):((?: [0-9a-f]{2}){32})$", re.M)
@@ -108,14 +108,14 @@ def radius_server(folder: str, login: Login, where: Sequence[str] = ()) -> Proce
 
 
 def radius_client(folder: str, login: Login, log: str = "") -> Process:
-    words = ["127.0.0.1", PORT, "--timer", "0.7", "--tries", "8" if login.state == "SUCCESS" else "4"]
+    words = ["127.0.0.1", PORT, "--timer", "0.7", "--tries", "40" if login.state == "SUCCESS" else "4"]
     words += [word for it in login.proxies() for word in ("--proxy-state", it)]
     return ours(folder, login, "radius_client", "peer.settings", *words, log=log)
 
 
 def wired(folder: str, login: Login) -> Process:
     # (hostapd sends a Request again after three seconds)
-    return ours(folder, login, "wired", "peer.settings", Cable.NEAR, "--idle", "8" if login.state == "SUCCESS" else "2")
+    return ours(folder, login, "wired", "peer.settings", Cable.NEAR, "--idle", str(MOST_SECONDS) if login.state == "SUCCESS" else "2")
 
 
 # The other programs.
@@ -150,7 +150,7 @@ def by_eapol_test(folder: str, login: Login) -> Run:
     server = radius_server(folder, login)
     tester = eapol_test(folder, login)
     await_end(server, tester, login)
-    there = tester.ended(5 if login.state == "SUCCESS" else 0)
+    there = tester.ended(MOST_SECONDS if login.state == "SUCCESS" else 0)
     # (one that is ended by a signal writes SUCCESS as its last line, whatever came before)
     return server, [tester], tester.process.returncode == 0 and THEIR_SUCCESS in there and EQUAL_LINK_KEYS in there
 
@@ -160,15 +160,16 @@ def await_end(server: Process, other: Process, login: Login) -> None:
     end makes of it."""
     server.wait_for(login.here if login.unheard else "^login 1 ", MOST_SECONDS)
     if login.state in ("SUCCESS", "FAILURE"):
-        other.wait_for("EAP: EAP entering state (SUCCESS|FAILURE)", 5)
+        other.wait_for("EAP: EAP entering state (SUCCESS|FAILURE)", MOST_SECONDS)
     else:
-        other.wait_for(login.there or THEIR_SUCCESS, 0.5)
+        # (of a success that must not come nothing tells when to look)
+        other.wait_for(login.there or THEIR_SUCCESS, MOST_SECONDS if login.there else 0.5)
 
 
 def by_hostapd(kind: str, folder: str, login: Login) -> Run:
     server = hostapd(folder, login, kind, Cable(folder).far if kind == "wired" else ())
     peer = (wired if kind == "wired" else radius_client)(folder, login)
-    return peer, [server], server.wait_for(THEIR_SUCCESS, 2 if verdict_of(peer)[0] == "SUCCESS" else 0)
+    return peer, [server], server.wait_for(THEIR_SUCCESS, MOST_SECONDS if verdict_of(peer)[0] == "SUCCESS" else 0)
 
 
 def by_wpa_supplicant(folder: str, login: Login) -> Run:
@@ -179,7 +180,7 @@ def by_wpa_supplicant(folder: str, login: Login) -> Run:
     supplicant = Process(folder, "wpa_supplicant", ["wpa_supplicant", *words])
     await_end(server, supplicant, login)
     is_success = "CTRL-EVENT-EAP-SUCCESS" in supplicant.text()
-    is_success = is_success and authenticator.wait_for("AUTH_PAE entering state AUTHENTICATED", 2)
+    is_success = is_success and authenticator.wait_for("AUTH_PAE entering state AUTHENTICATED", MOST_SECONDS)
     return server, [supplicant, authenticator], is_success
 
 

@@ -75,9 +75,15 @@ static void *init(struct eap_sm *sm)
 	struct peer *p = os_zalloc(sizeof(*p));
 	u8 nonce[TUV_NONCE_LEN], answer;
 
-	if (!p || !settings_of(sm, &told) ||
-	    random_get_bytes(nonce, sizeof(nonce)) || !tuv_end_new(&p->end.at)) {
+	if (!settings_of(sm, &told)) {
 		wpa_printf(MSG_INFO, "EAP-" NAME ": no identity, no key, or no such cipher");
+		os_free(p);
+		return NULL;
+	}
+	if (!p || random_get_bytes(nonce, sizeof(nonce)) || !tuv_end_new(&p->end.at)) {
+		wpa_printf(MSG_INFO, "EAP-" NAME ": %s", tuv_processor_serves() ?
+			   "no memory, or no random octets" :
+			   "the library isn't for this processor");
 		os_free(p);
 		return NULL;
 	}

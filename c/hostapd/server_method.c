@@ -22,10 +22,14 @@
  * deeper, and the linker saves registers below them. */
 enum { CLEARED = TUV_STACK_MAX + 8192 };
 
+/* The most Responses with a wrong tag that are discarded in a login over EAPOL. */
+enum { BAD_TAGS_MAX = 1 };
+
 struct server {
 	struct tuv_end end;
 	struct tuv_method_turn turn;
 	bool has_asked;
+	unsigned int bad_tags;
 	/* Of a method that has succeeded; it has both keys, which are asked
 	 * for one by one. */
 	struct tuv_report report;
@@ -78,6 +82,8 @@ static void *init(struct eap_sm *sm)
 	struct server *s = os_zalloc(sizeof(*s));
 
 	if (!s || !tuv_end_new(&s->end.at)) {
+		wpa_printf(MSG_INFO, "EAP-" NAME ": %s", tuv_processor_serves() ?
+			   "no memory" : "the library isn't for this processor");
 		os_free(s);
 		return NULL;
 	}
@@ -119,12 +125,15 @@ static bool is_success(struct eap_sm *sm, void *priv)
 }
 
 /* A discard is logged. Behind RADIUS an Access-Request waits for an answer, so a
- * wrong key ends the login there, as with their own methods. */
+ * wrong key ends the login there, as with their own methods. Over EAPOL the Request
+ * is sent again, and the wrong tag that answers it ends the login: one forged packet
+ * ends none, and who has a wrong key is told. */
 static bool discard(struct eap_sm *sm, struct server *s)
 {
 	wpa_printf(MSG_INFO, "EAP-" NAME ": discarded: %s",
 		   tuv_cause_word(s->turn.cause));
-	if (s->turn.cause != TUV_CAUSE_BAD_TAG || !sm->cfg->backend_auth)
+	if (s->turn.cause != TUV_CAUSE_BAD_TAG ||
+	    (!sm->cfg->backend_auth && s->bad_tags++ < BAD_TAGS_MAX))
 		return true;
 	s->turn.state = TUV_METHOD_DONE;
 	s->turn.decision = TUV_DECISION_FAIL;
