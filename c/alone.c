@@ -69,6 +69,17 @@ static void try_heap(size_t size, size_t next)
 	holds(freed == 2, "a block isn't given back");
 }
 
+/* What malloc aligns to there is, and what it doesn't there isn't. */
+static void try_alignment(void)
+{
+	struct block block = rattle_alloc(64, _Alignof(max_align_t));
+
+	holds(block.ok == 1 && (uintptr_t) block.at % _Alignof(max_align_t) == 0, "a block isn't aligned");
+	rattle_dealloc(block.at);
+	block = rattle_alloc(64, 2 * _Alignof(max_align_t));
+	holds(block.ok == 0 && block.at, "a block is aligned by chance");
+}
+
 /* Each feature by itself: what is known of a processor is kept, so each is asked in a
  * process of its own. */
 static void try_processor(unsigned int lacks, bool serves)
@@ -120,6 +131,23 @@ PROVED(tuv_server_method_user, SETTINGS)
  * most that is read. */
 enum { FIRST = 80, MOST = 4096 };
 
+/* (where there are no octets any place does) */
+static void set_places(struct tuv_settings *settings, const uint8_t *at)
+{
+	settings->name.at = settings->other.at = settings->psk_key.at = settings->gpsk_key.at = at;
+}
+
+/* Octets that are there are handed on where they are. */
+static void try_places(void)
+{
+	static const uint8_t octets[4], nonce[TUV_NONCE_LEN];
+	struct tuv_settings told = { sizeof(told), { octets, 1 }, { octets + 1, 1 }, { octets + 2, 1 },
+				     { octets + 3, 1 }, { 0 }, { 0 }, 0, 0 };
+
+	tuv_peer_begin(NULL, &told, nonce);
+	holds(!memcmp(&handed, &told, sizeof(told)), "octets are handed on from another place");
+}
+
 /* Each call with settings of this size, which have another octet at this place. */
 static void try_settings(size_t size, size_t at, uint8_t octet)
 {
@@ -139,6 +167,7 @@ static void try_settings(size_t size, size_t at, uint8_t octet)
 	if (octet)
 		room.octets[at] = octet;
 	memcpy((uint8_t *) &wanted + sizeof(size), room.octets + sizeof(size), sizeof(wanted) - sizeof(size));
+	set_places(&wanted, NULL);
 	calls = 0;
 	memset(&handed, 'x', sizeof(handed));
 	answers[0] = tuv_peer_begin(NULL, settings, nonce);
@@ -152,6 +181,9 @@ static void try_settings(size_t size, size_t at, uint8_t octet)
 		holds(answers[i] == (is_good ? TUV_BEGUN : TUV_OTHER_SIZE),
 		      "settings are taken or refused by another size");
 	holds(calls == (is_good ? 7 : 0), "settings that are refused are handed on");
+	holds(!is_good || (handed.name.at && handed.other.at && handed.psk_key.at && handed.gpsk_key.at),
+	      "no octets are handed on as null");
+	set_places(&handed, NULL);
 	holds(!is_good || !memcmp(&handed, &wanted, sizeof(wanted)),
 	      "settings are handed on otherwise than they were given");
 }
@@ -220,6 +252,7 @@ static void try_border(void)
 	static const size_t places[] = { 8, 40, 72, 77, 79, 80, 81, 87, 88, 4087, 4094, 4095 };
 	size_t i, j;
 
+	try_places();
 	for (i = 0; i < sizeof(sizes) / sizeof(*sizes); i++) {
 		try_settings(sizes[i], 0, 0);
 		for (j = 0; j < sizeof(places) / sizeof(*places); j++)
@@ -240,6 +273,7 @@ int main(void)
 	try_processor(bit_SSE4_2, false);
 	try_processor(bit_POPCNT, false);
 #endif
+	try_alignment();
 	try_border();
 	try_reports(0, true);
 	try_reports(1, false);

@@ -23,6 +23,13 @@ static size_t size_of(const void *at)
 	return size;
 }
 
+/* Where there are no octets any place does; the proved call is never given null. */
+static void place(struct tuv_octets *octets)
+{
+	if (!octets->len)
+		octets->at = (const uint8_t *) "";
+}
+
 static bool complete(struct tuv_settings *whole, const void *settings)
 {
 	const uint8_t *octets = settings;
@@ -36,6 +43,10 @@ static bool complete(struct tuv_settings *whole, const void *settings)
 	memset(whole, 0, sizeof(*whole));
 	memcpy(whole, octets, size < sizeof(*whole) ? size : sizeof(*whole));
 	whole->size = sizeof(*whole);
+	place(&whole->name);
+	place(&whole->other);
+	place(&whole->psk_key);
+	place(&whole->gpsk_key);
 	return true;
 }
 
@@ -138,6 +149,9 @@ static bool report_by(reporter *whole_by, struct tuv_end *end, void *report)
 		return report_by(WHOLE_REPORT(name), end, report);		\
 	}
 
+/* The block that is given back is one that the proved handle owns.  A closed end owns
+ * nothing behind it (tuv_end_close ensures no_end), and with a null `at` the handle is
+ * none that a proved call takes. */
 void tuv_end_drop(struct tuv_end *end)
 {
 	if (end->at) {

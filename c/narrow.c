@@ -87,6 +87,7 @@ SIZE(tuv_end_packet, ROOM, (end, room, len))
 SIZE(tuv_end_again, ROOM, (end, room, len))
 SIZE(tuv_end_session_id, ID_ROOM, (end, room))
 SIZE(tuv_end_session_id_wpa, ID_ROOM, (end, room))
+SIZE(tuv_request_name, NAME_ROOM, (octets, len, room))
 SIZE(tuv_response_name, NAME_ROOM, (octets, len, room))
 
 /* --- a new end --- */
@@ -157,7 +158,7 @@ REPORT(tuv_server_report)
 /* --- the heap --- */
 
 void tuv_wide_alloc(uint64_t answer[2], uint64_t size, uint64_t align);
-void tuv_wide_realloc(uint64_t answer[2], void *at, uint64_t old_size, uint64_t size,
+void tuv_wide_realloc(uint64_t answer[2], void *at, uint64_t kept, uint64_t size,
 		      uint64_t align);
 
 static void tell(uint64_t answer[2], struct block block)
@@ -173,10 +174,10 @@ void tuv_wide_alloc(uint64_t answer[2], uint64_t size, uint64_t align)
 				  (size_t) align));
 }
 
-void tuv_wide_realloc(uint64_t answer[2], void *at, uint64_t old_size, uint64_t size,
+void tuv_wide_realloc(uint64_t answer[2], void *at, uint64_t kept, uint64_t size,
 		      uint64_t align)
 {
-	tell(answer, rattle_realloc(at, (size_t) old_size,
+	tell(answer, rattle_realloc(at, (size_t) kept,
 				    size > SIZE_MAX / 2 ? SIZE_MAX / 2 : (size_t) size,
 				    (size_t) align));
 }

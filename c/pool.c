@@ -30,7 +30,7 @@ static struct head *next(struct head *it)
 
 static struct block none(void)
 {
-	struct block block = { false, &pool };
+	struct block block = { 0, &pool };
 
 	return block;
 }
@@ -59,7 +59,7 @@ static void note(void)
 struct block rattle_alloc(size_t size, size_t align)
 {
 	struct head *it = &pool.first, *rest;
-	struct block block = { true, NULL };
+	struct block block = { 1, NULL };
 	uint32_t whole;
 
 	if (size > TUV_POOL || align > 8 || !tuv_processor_serves())
@@ -100,12 +100,12 @@ void rattle_dealloc(void *at)
 			it->size += next(it)->size;
 }
 
-struct block rattle_realloc(void *at, size_t old_size, size_t size, size_t align)
+struct block rattle_realloc(void *at, size_t kept, size_t size, size_t align)
 {
 	struct block block = rattle_alloc(size, align);
 
 	if (block.ok) {
-		memcpy(block.at, at, old_size < size ? old_size : size);
+		memcpy(block.at, at, kept < size ? kept : size);
 		rattle_dealloc(at);
 	}
 	return block;

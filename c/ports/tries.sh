@@ -128,7 +128,7 @@ run_on_board() {
     [ "$end" = peer ] || is_server=1
     compile_for_board "$end-code" "-nostartfiles -Wl,-e,main -DBOARD_NONE" &&
         compile_for_board "$end" "$started -DIS_SERVER=$is_server -DTUV_POOL=32768 -DTUV_POOL_MOST $here/pool.c" &&
-        timeout 60 $machine "$place/$end" >"$place/$end.said" 2>&1 || { cat "$place/$end.said"; return 1; }
+        timeout 600 $machine "$place/$end" >"$place/$end.said" 2>&1 || { cat "$place/$end.said"; return 1; }
     code=$(size "$place/$end-code" | awk 'NR == 2 { print $1 }')
     sed -n "s/^memory/$end code $code memory/p" "$place/$end.said" | tee -a "$place/figures"
     grep -q "^$end " "$place/figures"
