@@ -39,6 +39,7 @@ def at_limits() -> Iterator[bytes]:
     for case in (it for path in sorted(Path("cases").glob("*.cases")) for it in read(path)):
         if case.words == ["decode"] and case.last("=") == "0":
             yield from (packet for _, (word, *_) in lines_of(case.input()) if (packet := bytes.fromhex(word.strip("-")))[4:5] != b"\xfe")
+    yield from (bytes([code, 1, 0, 4]) for code in (0, 5, 255))
     yield from (b"\2\0" + (5 + count).to_bytes(2, "big") + b"\1" + bytes(count) for count in (1495, 1496))
 
 

@@ -20,7 +20,7 @@ from unittest import mock
 from cases.lib.small import Run
 from lib.common import ROOT
 
-FOLDERS = ("", ".ci", "bench", "c", "c/freeradius", "c/hostapd", "cases", "dev", "examples", "live", "tools")
+FOLDERS = ("", ".ci", "bench", "c", "c/freeradius", "c/hostapd", "c/strongswan", "cases", "dev", "examples", "live", "tools")
 # Its words are the program's.
 PROGRAM = ROOT / "eap_login"
 # What must not be begun: a script that does its work for --help fails at these.
@@ -47,7 +47,7 @@ def place_of(module: ModuleType) -> str:
 def answer_of(path: Path) -> tuple[int, str, str]:
     """What a script says of itself. One in Python runs here, with modules of its own, as Python's start would take the longest."""
     if not path.read_text().startswith("#!/usr/bin/env -S python3 -B\n"):
-        done = subprocess.run([path, "--help"], stdin=subprocess.DEVNULL, capture_output=True, text=True, timeout=60)
+        done = subprocess.run([path, "--help"], stdin=subprocess.DEVNULL, capture_output=True, text=True, timeout=600)
         return done.returncode, done.stdout, done.stderr
     out, errors, status = io.TextIOWrapper(io.BytesIO(), write_through=True), io.StringIO(), 0
     others = {name: it for name, it in sys.modules.items() if not place_of(it).startswith(str(ROOT))}

@@ -4,6 +4,9 @@ made octet by octet, with MACs by Python's HMAC; what is to be said follows from
 from __future__ import annotations
 
 import ast
+import contextlib
+import gzip
+import io
 import os
 import re
 import struct
@@ -88,6 +91,9 @@ def files() -> Iterator[tuple[str, bytes, str, str]]:
     yield "a frame that is shorter than it says", wire.pcap(framed(*BAD.front, broken, FAILURE)), "fragment, unseen", key
     odd_code = (STATION_FRAME, b"\1\0" + wire.sized(altered(GOOD.gpsk2, 0)))
     yield "a Code that a station doesn't send", wire.pcap(framed(*GOOD.front, odd_code, FAILURE)), "malformed, other side, made so", key
+    keys = [(STATION_FRAME[6:12] + STATION_FRAME[:6] + b"\x88\x8e", b"\1\3\0\0")] * 2
+    yield "key frames that nobody answers", wire.pcap(framed(*GOOD.whole, *keys)), "good, keys unanswered", key
+    yield "a station that moved, both ports seen", wire.pcap(moved()), REFUSED + ", good", key
     for snap in (32, 64, 96, 128):
         yield f"-s {snap}", wire.pcap(wrong, snap), "cut, unseen", key
     yield "-s 96 of a good login", wire.pcap(framed(*GOOD.whole), 96), "cut good", key
@@ -137,6 +143,16 @@ def files() -> Iterator[tuple[str, bytes, str, str]]:
     asked = wire.radius(1, 0, GOOD.named)
     yield "RADIUS, refused by another Identifier", wire.pcap(framed(asked, wire.radius(3, 0, eap(4, 9)))), "at once", key
     hops = [(head, ip[:12] + ends + ip[20:]) for it in wire.by_radius(WRONG[1:]) for head, ip in [it] for ends in passed(ip[15])]
+    yield "RADIUS in fragments", wire.pcap(framed(*(it for whole in wire.by_radius(WRONG[1:]) for it in fragments(whole)))), REFUSED, key
+    yield "RADIUS in fragments that come turned", wire.pcap(framed(*(it for whole in wire.by_radius(WRONG[1:]) for it in fragments(whole)[::-1]))), REFUSED, key
+    yield "RADIUS, a fragment that is lost", wire.pcap(framed(*wire.by_radius(WRONG[1:3]), *fragments(wire.radius(1, 2, BAD.gpsk2))[:1],
+                                                            wire.radius(3, 2, FAILURE))), "fragment, unseen", key
+    behind = [(head, ip[:6] + b"\0\x40" + ip[8:40] + b"\x11\0\1\4" + bytes(4) + ip[40:]) for head, ip in map(wire.by_ipv6, wire.by_radius(WRONG[1:]))]
+    yield "RADIUS by IPv6, options of each hop", wire.pcap(framed(*behind)), REFUSED, key
+    yield "packed by gzip", gzip.compress(wire.pcap(wrong)), REFUSED, key
+    yield "PPI", wire.pcap([(at, b"\0\0\x08\0\x69\0\0\0" + wire.in_air(it)[8:]) for at, it in wrong], link=192), REFUSED, key
+    unread = (wire.in_ip(17, struct.pack(">HHHH", 500, 500, 12, 0) + bytes(4))[:14], wire.in_ip(17, struct.pack(">HHHH", 500, 500, 12, 0) + bytes(4))[14:])
+    yield "IKEv2 beside", wire.pcap(framed(*WRONG, unread)), REFUSED + ", not read", key
     yield "RADIUS through a proxy", wire.pcap(framed(*hops)), REFUSED + ", proxy", key
     for name, items, wanted in paths():
         yield name, wire.pcap(framed(*items)), wanted, key
@@ -155,6 +171,22 @@ def files() -> Iterator[tuple[str, bytes, str, str]]:
         REFUSED + ", ignored"), key
 
 
+def fragments(item: tuple[bytes, bytes]) -> list[tuple[bytes, bytes]]:
+    """A packet of IP in two fragments (RFC 791 section 3.2)."""
+    head, ip = item
+    half, mark = 40, ip[-20:][:2]
+    parts = [(0x2000, ip[20 : 20 + half]), (half // 8, ip[20 + half :])]
+    return [(head, ip[:2] + struct.pack(">HHH", 20 + len(body), int.from_bytes(mark, "big"), place) + ip[8:20] + body) for place, body in parts]
+
+
+def moved() -> list[tuple[float, bytes]]:
+    """A good login at one port, and at once one with a wrong key at another, by a station that sends to the group."""
+    other = bytes.fromhex("020000000009")
+    found = [(STATION_FRAME[6:12], it) for it in GOOD.whole] + [(other, it) for it in [*Login(psk=OTHER_KEY, at=77).front, Login(psk=OTHER_KEY, at=77).gpsk2, eap(4, 78)]]
+    return [(100.0 + at, (GROUP + STATION_FRAME[6:12] if it[:1] == b"\2" else STATION_FRAME[6:12] + (SWITCH if by == STATION_FRAME[6:12] else by))
+             + b"\x88\x8e\1\0" + wire.sized(it)) for at, (by, it) in enumerate(found)]
+
+
 def replies() -> Iterator[tuple[str, bytes, str, str]]:
     """Replies of a RADIUS server that isn't as others are, and a station that ends its login."""
     key = "alice 51 " + KEY.hex()
@@ -166,8 +198,29 @@ def replies() -> Iterator[tuple[str, bytes, str, str]]:
             ("RADIUS, a Request that is answered anew", [asked, (head, ip), 3.0, asked, other], "anew, client again, no gpsk2, ended"),
             ("RADIUS, a reply from another address", [asked, (head, ip[:12] + b"\x0a\0\0\x09" + ip[16:])], "address, no gpsk2, ended"),
             ("RADIUS, a login that the server has forgotten", forgotten, REFUSED + ", client again, forgotten"),
+            ("RADIUS, a good MAC that the server refuses", [*wire.by_radius(GOOD.front[1:]), wire.radius(1, 2, GOOD.gpsk2), wire.radius(3, 2, FAILURE)],
+             "key or lost, behind"),
+            ("RADIUS, a reply without EAP that accepts", [asked, wire.radius(2, 1, b"")], "accepted"),
+            ("RADIUS, a Reject with a Request", [asked, wire.radius(3, 1, GOOD.gpsk1)], "conflicting"),
+            ("RADIUS, a client that is gone", [asked, (head, ip), unreached((head, ip), 3)], "client gone"),
+            ("RADIUS, a Request without Message-Authenticator", [without(asked), 3.0, without(asked)], "radius silent, unauthenticated, radius down"),
+            ("RADIUS, a reply without Message-Authenticator", [asked, without((head, ip))], "unauthenticated, not taken"),
+            ("RADIUS, the server is gone amid the login", [*wire.by_radius(GOOD.front[1:]), *[wire.radius(1, 2, GOOD.gpsk2, (24, b"x")), 3.0] * 2],
+             "radius silent, radius down, lost by server"),
+            ("RADIUS, a policy behind the method", [*wire.by_radius(GOOD.whole[1:6]), wire.radius(3, 3, eap(4, 3))], "policy, behind, forgotten too"),
+            ("RADIUS, a Reject to a GPSK-2, and the Request again", [asked, wire.radius(3, 1, b""), 3.0, asked, wire.radius(3, 1, b"")],
+             "rejected, client again, copy"),
             ("a Logoff", [*GOOD.whole[:4], (STATION_FRAME, bytes.fromhex("01020000")), 1.0, *LOGINS["later"].whole], "logoff, good")):
         yield name, wire.pcap(framed(*items)), wanted, key
+
+
+def without(item: tuple[bytes, bytes]) -> tuple[bytes, bytes]:
+    """A RADIUS packet whose last attribute, the Message-Authenticator, was taken out on its way."""
+    head, ip = item
+    at = ip.index(b"\x50\x12" + bytes(16))
+    udp, radius = ip[20:28], ip[28:at] + ip[at + 18 :]
+    radius = radius[:2] + struct.pack(">H", len(radius)) + radius[4:]
+    return head, ip[:2] + struct.pack(">H", 28 + len(radius)) + ip[4:20] + udp[:4] + struct.pack(">H", 8 + len(radius)) + udp[6:] + radius
 
 
 def at_both(packets: list[bytes], station: bytes = b"02-00-00-00-00-02", stops: int = 99) -> list[Item]:
@@ -304,10 +357,11 @@ case " $* " in *" nowhere "*) echo "tcpdump: nowhere: No such device exists" >&2
 cat "${0%/*}/file"
 case " $* " in *" any "*) exec sleep 1 ;; esac
 """
+# One that runs on until a login was told, or for minutes.
+LASTING = TCPDUMP.replace("exec sleep 1", 'at=${0%/*} turn=0; until [ -e "$at/told" ] || [ $((turn += 1)) = 3000 ]; do sleep 0.1; done; : >"$at/ended"')
 # One that has its caller stopped, and writes what it has when it is stopped.
 SLOW = """#!/bin/sh
 trap 'cat "${0%/*}/file"; exit 0' TERM
-sleep 0.5
 kill -s SIGNAL "$PPID"
 while sleep 0.1; do :; done
 """
@@ -330,6 +384,11 @@ def case_interface(run: Run) -> Iterator[Optional[str]]:
         status, out, errors = why("any", twice)
         right = status == 0 and found_in(out) == {*REFUSED.split(", "), "interfaces"} and out.count("it failed by") == 1
         yield holds(right, f"of any: {out}{errors}")
+        Path(f"{folder}/tcpdump").write_text(LASTING)
+        with contextlib.redirect_stderr(io.StringIO()), contextlib.closing(listening.logins("any", ())) as logins:
+            is_told = any(next(logins)) and not Path(f"{folder}/ended").exists()
+            Path(f"{folder}/told").touch()
+        yield holds(is_told, "a login is told when tcpdump ends")
         for name in ("INT", "TERM"):
             status, out, errors = why("eth0", twice, SLOW.replace("SIGNAL", name))
             yield holds(status == 0 and out.count("it failed by") == 1, f"stopped by {name} it ends with {status}: {out}{errors}")

@@ -75,7 +75,7 @@ class Capture:
     access point, and what was left out of a file. Of frames without a whole EAP packet: those that are cut, by number, octets kept and octets
     on the wire, how many EAPOL-Keys, the EAPOL-Starts and the EAPOL-Logoffs, by number and time, and how many other ones of several stations can be
     of this one; the numbers of all frames, with the file's first capture those that came at another interface again, and the
-    time of its last. Over RADIUS `parts` has the places of the packets of each login, and `facts` what is certain of a packet by
+    time of its last; and the numbers of the last EAPOL-Keys, which the station didn't answer. Over RADIUS `parts` has the places of the packets of each login, and `facts` what is certain of a packet by
     the others around it, by its number: a choice and its words."""
 
     packets: Packets
@@ -95,6 +95,7 @@ class Capture:
     numbers: array[int] = field(default_factory=lambda: array("I"))
     again: set[int] = field(default_factory=set)
     until: Optional[float] = None
+    unanswered: list[int] = field(default_factory=list)
 
     def text(self) -> str:
         return text_of(self.packets, self.users, self.comments)
@@ -165,7 +166,11 @@ class Reading:
     # (the last of the RADIUS packets with the same addresses, and Identifier; and what ICMP says of these, by their numbers)
     latest: dict[tuple[object, ...], int] = field(default_factory=dict)
     unreached: dict[int, tuple[str, ...]] = field(default_factory=dict)
+    sources: list[bytes] = field(default_factory=list)
     twice: frames.Twice = field(default_factory=frames.Twice)
+    fragments: frames.Fragments = field(default_factory=frames.Fragments)
+    # (of the frames without EAP, how many are of what isn't read)
+    unread: Counter[str] = field(default_factory=Counter)
     # (of frames with a whole packet, as they come again and again: the flow and the packet)
     known: dict[bytes, tuple[int, bytes]] = field(default_factory=dict)
 
@@ -177,7 +182,10 @@ class Reading:
         if octets[12:14] == EAPOL and record.link == frames.ETHERNET and interface < 0:
             self.take_eapol(record, octets[:12], octets[14:])
             return
-        frame = frames.of_record(record)
+        for whole in self.fragments.joined(record, frames.of_record(record)):
+            self.add_frame(*whole, ports)
+
+    def add_frame(self, record: frames.Record, frame: frames.Frame, ports: Sequence[int]) -> None:
         interface = frame.interface
         if frame.kind == frames.EAPOL:
             if interface < 0 or not self.twice.is_again((frame.source, frame.payload), record, interface):
@@ -188,9 +196,10 @@ class Reading:
             self.add_unreached(record.number, unreached)
         elif found is None:
             self.left["of Wi-Fi that are encrypted" if frame.kind == frames.ENCRYPTED else "without EAP"] += 1
+            self.unread[frames.unread_of(frame)] += 1
         elif interface < 0 or not self.twice.is_again((found.source[0], found.octets), record, interface):
             if found.is_cut:
-                self.cut[record.number] = len(octets), record.wire
+                self.cut[record.number] = len(record.frame), record.wire
             self.radius.append(record.number, not found.is_request, found.eap, record.at, found)
             self.latest.update({(found.source, found.to, it): record.number for it in (b"", found.octets[:2])})
 
@@ -235,6 +244,10 @@ class Reading:
             votes[source] += vote
         # (who sends as much either way is the other end of the others)
         sure = {it: vote or vote - sum(votes.values()) for it, vote in votes.items() if len(votes) > 1}
+        addresses = {*sources, *(it[:6] for it in self.flows if len(it) > 6 and not it[0] & 1)}
+        if len(sure) == len(addresses) == 2 and len({*votes.values()}) == 2 and min(votes.values()) < 0:
+            # (of two that talk with each other one is the station, whatever Codes were altered)
+            sure = {it: 1 if vote == max(votes.values()) else -1 for it, vote in votes.items()}
         for at, flow in enumerate(self.of_flow):
             if vote := sure.get(sources[flow], 0):
                 self.packets.ways[at] = vote < 0
@@ -260,6 +273,7 @@ class Reading:
     def capture(self, indices: Sequence[int], station: bytes, other: bytes) -> Capture:
         """The capture of these frames."""
         packets, whole = Packets(), self.packets
+        self.sources = [it[-6:] for it in self.flows]
         if len(indices) == len(whole) and not self.cut and not self.kinds:
             packets, indices = whole, ()
         found = Capture(packets, station=station.hex("-"), other=other.hex("-"), name=f"{station.hex('-')}_{other.hex('-')}")
@@ -273,6 +287,8 @@ class Reading:
                 packets.append(number, bool(whole.ways[at]), whole.octets[at], whole.times[at])
             elif self.kinds[at] == frames.KEY:
                 found.keys += 1
+                is_answer = self.sources[self.of_flow[at]] == station
+                found.unanswered = [] if is_answer else [*found.unanswered[-MOST_WAITING:], number]
             elif self.kinds[at] in (frames.START, frames.LOGOFF):
                 (found.starts if self.kinds[at] == frames.START else found.logoffs).append((number, whole.times[at]))
         return found
@@ -292,11 +308,17 @@ class Reading:
         waiting: dict[tuple[bytes, int], list[int]] = {}
         last: dict[bytes, dict[bytes, int]] = {}
         asked: dict[tuple[bytes, bytes], int] = {}
+        starts: dict[bytes, list[int]] = {}
         alone: Counter[bytes] = Counter()
         for at, flow in enumerate(self.of_flow):
             octets, source, others = self.packets.octets[at], flows[flow][0], meant[flow]
             if len(others) > 1 and octets[:1] in (b"\3", b"\4"):
                 others = {it for it in others if last.get(source, {}).get(it) == octets[1]}
+            if len(others) > 1 and octets[:1] == b"\2":
+                # (a station at several ports answers the one that asked)
+                others = {it for it in others if asked.get((source, it)) == octets[1]}
+            if len(others) > 1 and self.kinds.get(at) == frames.START:
+                starts.setdefault(source, []).append(at)
             if len(others) != 1:
                 alone[source] += 1
                 if len(others) > 1 and len(octets) > 4 and octets[0] == 1:
@@ -310,6 +332,10 @@ class Reading:
             found.append(at)
             if len(octets) > 4 and octets[0] == 1:
                 asked[pair] = octets[1]
+                # (what began is asked for the name)
+                begun = starts.pop(other, []) if octets[4] == 1 else []
+                alone[other] -= len(begun)
+                found += begun
             elif len(octets) > 4 and octets[0] == 2:
                 last.setdefault(other, {})[source] = octets[1]
                 may = waiting.get((other, octets[1]), []) if asked.get(pair) != octets[1] else []
@@ -354,8 +380,10 @@ class Reading:
             elif it.octets or it.radius and it.radius.octets[0] == 3:
                 whole.append(it)
             else:
+                station.facts += accepted(it, whole)
                 self.left["of RADIUS without EAP"] += 1
                 continue
+            station.facts += conflicting(it)
             station.numbers.append(it.number)
         return whole
 
@@ -367,7 +395,7 @@ class Reading:
             if it.radius:
                 it.radius.path = text
             station.packets.append(it.number, it.is_to_peer, it.octets, it.at or 0.0, it.radius)
-        station.facts += [*path.facts(), *((it.chosen.number, "unreached", self.unreached[number]) for it in path.passed
+        station.facts += [*path.facts(), *((it.chosen.number, "unreached-client" if it.is_to_peer else "unreached", self.unreached[number]) for it in path.passed
                                            for number in {seen.number for seen in it.seen.values()} & self.unreached.keys())]
         return len(kept)
 
@@ -378,7 +406,25 @@ class Reading:
         self.left["that aren't whole, being fragments or shorter than they say"] = whole
         again = len(self.twice.numbers)
         found = [f"frames that came at several interfaces, each taken once: {again} left out"] * bool(again)
-        return found + [f"left out: frames {what}: {count}" for what, count in sorted(self.left.items()) if count]
+        found += [f"left out: frames {what}: {count}" for what, count in sorted(self.left.items()) if count]
+        return found + [f"of these {what}: {count}: what it carries isn't read" for what, count in sorted(self.unread.items()) if what]
+
+
+def accepted(it: Packet, before: list[Packet]) -> list[paths.Fact]:
+    """That a packet without EAP is an Access-Accept, with the packet that it answers."""
+    if it.radius is None or it.radius.octets[0] != 2:
+        return []
+    asked = next((x for x in reversed(before) if x.radius is it.radius.request), None)
+    return [(asked.number, "accepted", (str(it.number),))] if asked else []
+
+
+def conflicting(it: Packet) -> list[paths.Fact]:
+    """That a RADIUS packet that ends a login carries a Request, or one that goes on an end (RFC 3579 section 2.6.3)."""
+    code = it.radius.octets[0] if it.radius else 0
+    if it.radius is None or it.octets[:1] not in {2: (b"\1",), 3: (b"\1",), 11: (b"\3", b"\4")}.get(code, ()):
+        return []
+    carried = {1: "a Request", 3: "a Success", 4: "a Failure"}[it.octets[0]]
+    return [(it.number, "conflicting", (it.radius.name, carried))]
 
 
 Parted = tuple[list[Capture], list[str], str]
@@ -394,6 +440,8 @@ def of_records(records: Iterable[frames.Record], ports: Sequence[int] = (), is_j
             until = record
     except Refused as fault:
         reason = str(fault)
+    for whole in reading.fragments.left():
+        reading.add_frame(*whole, ports)
     found = reading.by_eapol()
     found += reading.by_radius(found if is_joined else [])
     for it in found:

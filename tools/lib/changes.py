@@ -1,4 +1,4 @@
-"""What has another text than at a commit: of the crates, of the pages, of tests, cases and edits."""
+"""What has another text than at a commit, or than at each of several: of the crates, of the pages, of tests, cases and edits."""
 
 from __future__ import annotations
 
@@ -6,6 +6,7 @@ import io
 import re
 import subprocess
 import tarfile
+from itertools import chain
 from typing import Iterator
 
 from lib import pages
@@ -76,10 +77,10 @@ def sentences(text: str) -> Iterator[str]:
     yield from (line for _, line in pages.parts_in(plain)[0] if line.startswith("#"))
 
 
-def since(commit: str) -> Iterator[str]:
-    """What has changed since a commit, a line each."""
-    then, now = pieces(texts_at(commit)), pieces(texts_here())
-    for key in dict.fromkeys([*then, *now]):
-        was, is_now = ("".join(it.get(key, "").split()) for it in (then, now))
-        if was != is_now and (was or key[0] not in MORE):
-            yield f"{' '.join(key)} {'is new' if not was else 'is gone' if not is_now else 'has changed'}"
+def since(*commits: str) -> Iterator[str]:
+    """What has another text than at each of these commits, a line each."""
+    then, now = [pieces(texts_at(it)) for it in commits], pieces(texts_here())
+    for key in dict.fromkeys(chain(*then, now)):
+        *were, is_now = ("".join(it.get(key, "").split()) for it in (*then, now))
+        if is_now not in were and (any(were) or key[0] not in MORE):
+            yield f"{' '.join(key)} {'is new' if not any(were) else 'is gone' if not is_now else 'has changed'}"

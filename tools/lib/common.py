@@ -9,6 +9,7 @@ import shutil
 import subprocess
 import sys
 import tempfile
+import zlib
 from contextlib import contextmanager
 from pathlib import Path
 from typing import Any, Callable, Iterable, Iterator, NoReturn, Optional, Sequence, TypeVar
@@ -16,6 +17,7 @@ from typing import Any, Callable, Iterable, Iterator, NoReturn, Optional, Sequen
 ROOT = Path(__file__).resolve().parent.parent.parent
 Key = TypeVar("Key")
 Value = TypeVar("Value")
+MOST_UNPACKED = 1 << 30
 
 
 class Refused(Exception):
@@ -91,9 +93,21 @@ def octets_of(path: str) -> bytes:
     if path == "-" and sys.stdin.isatty():
         print(f"{Path(sys.argv[0]).name}: reading standard input; Ctrl-D ends it, --help says more", file=sys.stderr)
     try:
-        return sys.stdin.buffer.read() if path == "-" else Path(path).read_bytes()
+        return unpacked(sys.stdin.buffer.read() if path == "-" else Path(path).read_bytes())
     except OSError as fault:
         raise Refused(f"{path} can't be read: {fault.strerror}")
+
+
+def unpacked(octets: bytes) -> bytes:
+    """What gzip has packed, as Wireshark packs files; what isn't whole, or is over 1 GB, stays as it is."""
+    if octets[:3] != b"\x1f\x8b\x08":
+        return octets
+    reader = zlib.decompressobj(31)
+    try:
+        found = reader.decompress(octets, MOST_UNPACKED)
+    except zlib.error:
+        return octets
+    return found if reader.eof else octets
 
 
 def write_file(path: str, octets: bytes) -> None:

@@ -39,8 +39,7 @@ CALLERS = {
     "scenario_text": "world_commands::Replay::new",
     "end_pipe": "end_commands::End::new",
     "command_driver": "capture_commands::check_capture",
-    "eap_login": "login_run::answer",
-    "login_run": "eap_login_main::run_over_boxes",
+    "eap_login": "eap_login_main::run_over_boxes",
 }
 
 

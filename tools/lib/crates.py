@@ -10,6 +10,8 @@ from lib.common import ROOT
 
 # The crates, in the order of the file, each with those of them that it stands on.
 Crates = dict[str, list[str]]
+# Of each crate the seconds of its proof, its tests, its edits, and all of them.
+GateTable = dict[str, tuple[int, ...]]
 PARTS = ("src", "specs", "proofs")
 
 
@@ -46,3 +48,10 @@ def layers_of(text: str) -> dict[str, Crates]:
         head, _, lines = part.partition("\n")
         layers[head.lstrip("# ")] = {name: known[name] for name in names_of(lines)}
     return layers
+
+
+def gate_table() -> GateTable:
+    """What bench/gate.txt has of each crate."""
+    text = (ROOT / "bench/gate.txt").read_text()
+    rows = re.findall(r"^(\w+)" + r" +(\d+)" * 4 + r"(?: +\*)? *$", text.partition("crate ")[2], re.M)
+    return {name: tuple(map(int, seconds)) for name, *seconds in rows if name != "all"}

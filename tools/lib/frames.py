@@ -14,18 +14,27 @@ PAE_GROUP = bytes.fromhex("0180c2000003")
 AUTHENTICATOR = bytes.fromhex("020000000001")
 STATION = bytes.fromhex("020000000002")
 EAPOL, IPV4, IPV6 = 0x888E, 0x0800, 0x86DD
-VLANS, PPPOE, BRIDGED, ERSPAN_2, ERSPAN_3 = (0x8100, 0x88A8), 0x8864, 0x6558, 0x88BE, 0x22EB
-ETHERNET, COOKED, COOKED_2, WIFI, RADIOTAP = 1, 113, 276, 105, 127
+VLANS, PPPOE, BRIDGED, ERSPAN_2, ERSPAN_3, MPLS, MACSEC = (0x8100, 0x88A8, 0x9100), 0x8864, 0x6558, 0x88BE, 0x22EB, 0x8847, 0x88E5
+ETHERNET, COOKED, COOKED_2, WIFI, RADIOTAP, PPI = 1, 113, 276, 105, 127, 192
 # Links of IP alone, by the octets before a packet.
 IP_LINKS = {0: 4, 101: 0, 108: 4, 228: 0, 229: 0}
 # (in the place of a type, which is over 1,535)
 ENCRYPTED = 1
-ICMP, GRE, UDP, ICMP_6, IN_IP = 1, 47, 17, 58, {4: IPV4, 41: IPV6}
-VXLAN_PORTS = (4789, 8472)
+ICMP, GRE, TCP, UDP, ICMP_6, IN_IP = 1, 47, 6, 17, 58, {4: IPV4, 41: IPV6}
+# Headers of IPv6 that stand before what is carried: options of each hop and of the end, and a route (RFC 8200 section 4).
+BEFORE_6 = (0, 43, 60)
+VXLAN_PORTS, GENEVE_PORT, TZSP_PORT, CAPWAP_PORT = (4789, 8472), 6081, 37008, 5247
+# What can carry a login and isn't read.
+UNREAD = {(UDP, 5246): "CAPWAP control, which is encrypted", (UDP, 5247): "CAPWAP data that is encrypted or isn't of Wi-Fi",
+          (UDP, 500): "IKEv2, which is encrypted", (UDP, 4500): "IKEv2, which is encrypted", (UDP, 716): "PANA",
+          (UDP, 2083): "RADIUS over DTLS, which is encrypted", (TCP, 2083): "RADIUS over TLS, which is encrypted",
+          (TCP, 1812): "RADIUS over TCP", (TCP, 3868): "Diameter"}
 # The ports of RADIUS, the later one and the earlier one (RFC 2865 section 3).
 RADIUS_PORTS = (1812, 1645)
-MOST_FRAME = 262144
-MAGICS = {"a1b2c3d4": (">", 1000000), "d4c3b2a1": ("<", 1000000), "a1b23c4d": (">", 10**9), "4d3cb2a1": ("<", 10**9)}
+MOST_FRAME, MOST_FRAGMENTS = 262144, 64
+# The order of octets, the parts of a second, and the octets more of a record's header, as old systems of Red Hat have.
+MAGICS = {"a1b2c3d4": (">", 1000000, 0), "d4c3b2a1": ("<", 1000000, 0), "a1b23c4d": (">", 10**9, 0), "4d3cb2a1": ("<", 10**9, 0),
+          "a1b2cd34": (">", 1000000, 8), "34cdb2a1": ("<", 1000000, 8)}
 PCAPNG, SNOOP = "0a0d0d0a", "736e6f6f70000000"
 START, LOGOFF, KEY = 1, 2, 3
 
@@ -81,20 +90,20 @@ def of_file(file: BinaryIO) -> tuple[str, Iterator[Record]]:
         return ">", of_snoop(file, file.read(12))
     if magic.hex() not in MAGICS:
         raise Refused("it isn't a pcap file")
-    (order, parts), rest = MAGICS[magic.hex()], file.read(20)
+    (order, parts, more), rest = MAGICS[magic.hex()], file.read(20)
     if len(rest) < 20:
         raise Refused("it ends within its header")
     major, minor, _, _, _, link = struct.unpack(order + "HHiIII", rest)
     if (major, minor) != (2, 4):
         raise Refused(f"it is of version {major}.{minor}, and 2.4 is read")
     is_read(link)
-    return order, of_pcap(file, order, parts, link)
+    return order, of_pcap(file, order, parts, link, more)
 
 
 def is_read(link: int) -> None:
-    if link not in (ETHERNET, COOKED, COOKED_2, WIFI, RADIOTAP, *IP_LINKS):
+    if link not in (ETHERNET, COOKED, COOKED_2, WIFI, RADIOTAP, PPI, *IP_LINKS):
         raise Refused(f"it was captured on a link of the type {link}, and these are read: Ethernet (1), cooked links (113, 276), "
-                      "IP (0, 101, 108) and Wi-Fi (105, 127): capture at the interface of the station or of the access point")
+                      "IP (0, 101, 108) and Wi-Fi (105, 127, 192): capture at the interface of the station or of the access point")
 
 
 def taken(file: BinaryIO, size: int, number: int) -> bytes:
@@ -107,12 +116,12 @@ def taken(file: BinaryIO, size: int, number: int) -> bytes:
     return octets
 
 
-def of_pcap(file: BinaryIO, order: str, parts: int, link: int) -> Iterator[Record]:
+def of_pcap(file: BinaryIO, order: str, parts: int, link: int, more: int = 0) -> Iterator[Record]:
     """The records behind the header; one that is cut ends them with a refusal."""
-    number, read, unpack, new = 0, file.read, struct.Struct(order + "IIII").unpack, tuple.__new__
-    while header := read(16):
+    number, read, unpack, new = 0, file.read, struct.Struct(f"{order}IIII{more}x").unpack, tuple.__new__
+    while header := read(16 + more):
         number += 1
-        if len(header) < 16:
+        if len(header) < 16 + more:
             raise Refused(f"it ends within record {number}")
         seconds, part, size, wire = unpack(header)
         frame = read(size) if size <= MOST_FRAME else b""
@@ -215,7 +224,10 @@ def ip_of(kind: int, octets: bytes) -> tuple[int, bytes, bytes, bytes]:
     if kind == IPV4 and len(octets) >= 20 and not int.from_bytes(octets[6:8], "big") & 0x1FFF:
         return octets[9], octets[12:16], octets[16:20], octets[4 * (octets[0] & 15) : int.from_bytes(octets[2:4], "big")]
     if kind == IPV6 and len(octets) >= 40:
-        return octets[6], octets[8:24], octets[24:40], octets[40:]
+        carries, at = octets[6], 40
+        while carries in BEFORE_6 and at + 8 <= len(octets):
+            carries, at = octets[at], at + 8 + 8 * octets[at + 1]
+        return carries, octets[8:24], octets[24:40], octets[at:]
     return -1, b"", b"", b""
 
 
@@ -227,10 +239,67 @@ def frame_in(octets: bytes) -> Inside:
     return octets[:12], int.from_bytes(octets[12:14], "big"), octets[14:]
 
 
+def by_version(octets: bytes) -> Optional[Inside]:
+    """What begins as a packet of IP does."""
+    kind = {4: IPV4, 6: IPV6}.get(octets[0] >> 4 if octets else 0)
+    return (b"", kind, octets) if kind else None
+
+
+def in_macsec(octets: bytes) -> Optional[Inside]:
+    """What is behind a tag of MACsec, if it isn't encrypted, without its check value (IEEE 802.1AE section 9)."""
+    if len(octets) < 24 or octets[0] & 0x0C:
+        return None
+    rest = octets[14 if octets[0] & 0x20 else 6 : -16]
+    return b"", int.from_bytes(rest[:2], "big"), rest[2:]
+
+
+def in_tzsp(octets: bytes) -> Optional[Inside]:
+    """The frame in a packet of TZSP, behind its tags, of which 0 and 1 have no length."""
+    at, what = 4, int.from_bytes(octets[2:4], "big")
+    while at < len(octets) and octets[at] != 1:
+        at += 1 if octets[at] == 0 else 2 + int.from_bytes(octets[at + 1 : at + 2], "big")
+    rest = octets[at + 1 :]
+    return frame_in(rest) if what == 1 else air_in(rest) if what == 18 else None
+
+
+def air_in(octets: bytes) -> Inside:
+    to, source, kind, rest = of_wifi(octets)
+    return to + source, int.from_bytes(kind, "big"), rest
+
+
+def in_capwap(octets: bytes) -> Optional[Inside]:
+    """The frame in a whole data packet of CAPWAP, if it isn't encrypted: of Wi-Fi or of Ethernet (RFC 5415 section 4.3). (not each
+    access point says by the bit T which it is, and some turn the octets of a frame's control)"""
+    head = int.from_bytes(octets[:4], "big")
+    if len(octets) < 8 or head >> 24 or head & 0x80:
+        return None
+    rest = octets[4 * (head >> 19 & 31) :]
+    its = (air_in(rest), air_in(rest[1::-1] + rest[2:]), frame_in(rest))
+    return next((it for it in its if it[1] == EAPOL), None)
+
+
+def in_udp(octets: bytes) -> Optional[Inside]:
+    """What VXLAN (RFC 7348), GENEVE (RFC 8926), TZSP or CAPWAP carries."""
+    ports, rest = (int.from_bytes(octets[:2], "big"), int.from_bytes(octets[2:4], "big")), octets[8:]
+    if ports[1] in VXLAN_PORTS:
+        return frame_in(rest[8:])
+    if ports[1] == GENEVE_PORT and len(rest) >= 8:
+        inner, kind = rest[8 + 4 * (rest[0] & 63) :], int.from_bytes(rest[2:4], "big")
+        return frame_in(inner) if kind == BRIDGED else (b"", kind, inner)
+    if ports[1] == TZSP_PORT:
+        return in_tzsp(rest)
+    return in_capwap(rest) if CAPWAP_PORT in ports else None
+
+
 def inside(kind: int, octets: bytes) -> Optional[Inside]:
-    """What a VLAN, PPPoE (RFC 2516), GRE (RFC 2784), ERSPAN, VXLAN (RFC 7348) or IP in IP carries."""
+    """What a VLAN, PPPoE (RFC 2516), MPLS (RFC 3032), MACsec, GRE (RFC 2784), ERSPAN, what UDP carries, or IP in IP has inside."""
     if kind in VLANS:
         return b"", int.from_bytes(octets[2:4], "big"), octets[4:]
+    if kind == MPLS:
+        bottom = next((at for at in range(0, len(octets) - 3, 4) if octets[at + 2] & 1), len(octets))
+        return by_version(octets[bottom + 4 :])
+    if kind == MACSEC:
+        return in_macsec(octets)
     if kind == PPPOE:
         protocol, octets = int.from_bytes(octets[6:8], "big"), octets[8:]
         eapol = b"\1\0" + octets[2:4] + octets if protocol == 0xC227 else octets
@@ -238,8 +307,8 @@ def inside(kind: int, octets: bytes) -> Optional[Inside]:
     carries, _, _, rest = ip_of(kind, octets)
     if carries in IN_IP:
         return b"", IN_IP[carries], rest
-    if carries == UDP and int.from_bytes(rest[2:4], "big") in VXLAN_PORTS:
-        return frame_in(rest[16:])
+    if carries == UDP:
+        return in_udp(rest)
     if carries != GRE or len(rest) < 4:
         return None
     # (a sum, a key and a number may follow; ERSPAN of type I has no number, and no header)
@@ -264,7 +333,7 @@ def of_record(record: Record) -> Frame:
         rest = octets[IP_LINKS[record.link] :]
         kind = b"\x86\xdd" if rest[:1] >= b"\x60" else b"\x08\0"
     else:
-        at = int.from_bytes(octets[2:4], "little") if record.link == RADIOTAP else 0
+        at = int.from_bytes(octets[2:4], "little") if record.link in (RADIOTAP, PPI) else 0
         to, source, kind, rest = of_wifi(octets[at:])
     number, is_inside = int.from_bytes(kind, "big"), False
     while found := inside(number, rest):
@@ -272,6 +341,55 @@ def of_record(record: Record) -> Frame:
         is_inside = True
         to, source = (addresses[:6], addresses[6:]) if addresses else (to, source)
     return Frame(source, b"" if to and to[0] & 1 else to, number, rest, is_inside, interface)
+
+
+def unread_of(frame: Frame) -> str:
+    """What a frame is that can carry a login and isn't read."""
+    if frame.kind == MACSEC:
+        return "by MACsec, which is encrypted"
+    protocol, _, _, octets = ip_of(frame.kind, frame.payload)
+    ports = (int.from_bytes(octets[at : at + 2], "big") for at in (2, 0))
+    port = next((it for it in ports if (protocol, it) in UNREAD), 0)
+    return f"by {'TCP' if protocol == TCP else 'UDP'} {port} ({UNREAD[protocol, port]})" if port else ""
+
+
+class Fragments:
+    """The fragments of IPv4 packets, which are joined when all are there (RFC 791 section 3.2)."""
+
+    def __init__(self) -> None:
+        self.parts: dict[bytes, dict[int, tuple[Record, Frame]]] = {}
+
+    def joined(self, record: Record, frame: Frame) -> list[tuple[Record, Frame]]:
+        """A frame that is whole; of fragments nothing, the whole packet, or where too many wait, the first one as it is."""
+        octets, flags = frame.payload, int.from_bytes(frame.payload[6:8], "big")
+        if frame.kind != IPV4 or len(octets) < 20 or not flags & 0x3FFF:
+            return [(record, frame)]
+        key = octets[4:6] + octets[9:10] + octets[12:20]
+        its = self.parts.setdefault(key, {})
+        its[8 * (flags & 0x1FFF)] = record, frame
+        whole = whole_of(its)
+        if whole:
+            del self.parts[key]
+            return [(record, its[0][1]._replace(payload=whole))]
+        return self.left(MOST_FRAGMENTS)
+
+    def left(self, most: int = 0) -> list[tuple[Record, Frame]]:
+        """The first fragments of the packets that wait, over so many."""
+        gone = [self.parts.pop(it) for it in list(self.parts)[: max(0, len(self.parts) - most)]]
+        return [its[0] for its in gone if 0 in its]
+
+
+def whole_of(its: dict[int, tuple[Record, Frame]]) -> bytes:
+    """The packet of IP in fragments that are all there, by the places of their first octets."""
+    found, is_last = b"", False
+    for at, (_, frame) in sorted(its.items()):
+        octets, flags = frame.payload, int.from_bytes(frame.payload[6:8], "big")
+        body = octets[4 * (octets[0] & 15) : int.from_bytes(octets[2:4], "big")]
+        if at != len(found):
+            return b""
+        found, is_last = found + body, not flags & 0x2000
+    head = its[0][1].payload[: 4 * (its[0][1].payload[0] & 15)] if is_last and 0 in its else b""
+    return head[:2] + struct.pack(">HHH", len(head) + len(found), 0, 0) + head[8:] + found if head else b""
 
 
 def plain(record: Record) -> bytes:
@@ -310,7 +428,7 @@ class Twice:
 # ---- RADIUS (RFC 2865, RFC 3579).
 
 CODES = {1: "Access-Request", 2: "Access-Accept", 3: "Access-Reject", 11: "Access-Challenge"}
-USER_NAME, NAS_ADDRESS, STATE, CALLING_STATION, NAS_NAME, EAP_MESSAGE, ERROR_CAUSE = 1, 4, 24, 31, 32, 79, 101
+USER_NAME, NAS_ADDRESS, STATE, CALLING_STATION, NAS_NAME, EAP_MESSAGE, MESSAGE_AUTHENTICATOR, ERROR_CAUSE = 1, 4, 24, 31, 32, 79, 80, 101
 # Error-Cause 202, Invalid EAP Packet (Ignored) (RFC 3579 section 2.6.3).
 IGNORED = (202).to_bytes(4, "big")
 
@@ -344,6 +462,11 @@ class Radius:
     @property
     def is_cut(self) -> bool:
         return len(self.octets) < int.from_bytes(self.octets[2:4], "big")
+
+    @property
+    def is_authenticated(self) -> bool:
+        """Whether it has a Message-Authenticator, or may have one in what is cut."""
+        return self.is_cut or bool(self.get(MESSAGE_AUTHENTICATOR))
 
     @property
     def eap(self) -> bytes:

@@ -95,6 +95,8 @@ def users_of(given: list[str], users_file: Optional[str]) -> tuple[list[User], s
         users = [(line[1], line[2], line[3]) for line in lines]
         if not users:
             raise Refused(f"{users_file} has no line `user NAME K HEX`")
+        if wrong := refusals.of_users([word for user in users for word in user]):
+            raise Refused(f"{users_file}: {'; '.join(wrong)}")
     if is_key(given):
         return users, given[0]
     wrong = refusals.of_users(given)

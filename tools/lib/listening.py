@@ -2,6 +2,7 @@
 
 from __future__ import annotations
 
+import contextlib
 import os
 import queue
 import signal
@@ -30,30 +31,48 @@ def filter_of(interface: str, ports: Sequence[int]) -> str:
     return " or ".join(["ether proto 0x888e", *radius, *icmp, *vlan])
 
 
+@contextlib.contextmanager
+def started(words: Sequence[str]) -> Iterator[subprocess.Popen[bytes]]:
+    """tcpdump, which ends with this. A signal ends it from its first moment on."""
+    begun: list[subprocess.Popen[bytes]] = []
+    stopped: list[int] = []
+
+    def stop(*_: object) -> None:
+        stopped.append(1)
+        for it in begun:
+            it.terminate()
+
+    before = {it: signal.signal(it, stop) for it in (signal.SIGINT, signal.SIGTERM)}
+    try:
+        try:
+            begun.append(subprocess.Popen(words, stdout=subprocess.PIPE, stderr=subprocess.PIPE, env={**os.environ, "PATH": PATH}))
+        except OSError as fault:
+            raise Refused(f"tcpdump can't be run: {fault.strerror}: install it, or give a file that was captured elsewhere")
+        if stopped:
+            begun[0].terminate()
+        yield begun[0]
+    finally:
+        for one in begun:
+            one.terminate()
+            one.wait()
+        for it, handler in before.items():
+            signal.signal(it, handler)
+
+
 def records_of(interface: str, ports: Sequence[int]) -> Iterator[Optional[frames.Record]]:
     """The records of tcpdump as they come, and None where none came for a moment. A signal ends tcpdump, whose last records
     come then."""
     words = ["tcpdump", "-i", interface, "-n", "-U", "--immediate-mode", "-s", "0", "-w", "-", filter_of(interface, ports)]
-    try:
-        begun = subprocess.Popen(words, stdout=subprocess.PIPE, stderr=subprocess.PIPE, env={**os.environ, "PATH": PATH})
-    except OSError as fault:
-        raise Refused(f"tcpdump can't be run: {fault.strerror}: install it, or give a file that was captured elsewhere")
     found: queue.Queue[Optional[frames.Record]] = queue.Queue(MOST_RECORDS)
     said: list[str] = []
-    reader = threading.Thread(target=read, args=(begun, found, said), daemon=True)
-    reader.start()
-    before = {it: signal.signal(it, lambda *_: begun.terminate()) for it in (signal.SIGINT, signal.SIGTERM)}
-    try:
+    with started(words) as begun:
+        reader = threading.Thread(target=read, args=(begun, found, said), daemon=True)
+        reader.start()
         while reader.is_alive() or not found.empty():
             try:
                 yield found.get(timeout=TICK_SECONDS)
             except queue.Empty:
                 yield None
-    finally:
-        begun.terminate()
-        begun.wait()
-        for it, handler in before.items():
-            signal.signal(it, handler)
     if begun.returncode > 0:
         text = (begun.stderr.read() if begun.stderr else b"").decode("utf-8", "replace")
         lines = [it for it in text.splitlines() if it.startswith("tcpdump: ") and "listening on" not in it]

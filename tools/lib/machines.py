@@ -373,8 +373,8 @@ class Next:
         here = [it for it in seen if it.turn >= self.world.begun]
         first = next((it.turn for it in here if it.is_down), f.turn)
         starts = [it for it in seen if it.message in ("Start", "Logoff")]
-        asked = [it for it in starts if it.turn > max(first, self.world.begun) and (it.turn > server.turn or f.at - it.at < ANSWERED)
-                 and not any(x.message == it.message and x.turn < it.turn and it.at - x.at <= DOUBLED for x in starts)]
+        begins = [it for it in starts if it.turn > max(first, self.world.begun) and (it.turn > server.turn or f.at - it.at < ANSWERED)]
+        asked = [it for it in begins if not any(x.message == it.message and x.turn < it.turn and it.at - x.at <= DOUBLED for x in starts)]
         fresh = self.anew(self.on.server)
         if server.is_idle:
             is_soon = server.message and (f.at - server.at < SOON or any(f.at - it.at < DOUBLED for it in self.before)) and not asked
@@ -390,6 +390,8 @@ class Next:
             # (what was restarted doesn't begin at once)
             is_soon = server.message != "Identity" and f.at - server.at < SOON
             yield fresh, [token("restart-server", f.place, cost=8 if is_soon else None)]
+            # (of one that may be the first again it isn't known whether it asked)
+            yield from ((fresh, [token("restart-peer", it.place)]) for it in begins[:1] if it.message == "Start")
             if server.message != "Identity":
                 yield fresh, [*self.unseen("the end of the login before", True), *[self.token("soon")] * (is_soon and not self.is_cut())]
 
@@ -557,7 +559,8 @@ class Next:
             yield [token("some-key", it.place)] if it.stage == 2 and f"given-key {it.read.identity}" in self.world.facts else []
         elif it.stage == 2:
             is_other = self.outer() not in ("", it.read.identity) and it.word in ("tag-good", "no-key")
-            name = {"tag-good": "server-key", "no-context": "unjudged"}.get(it.word, "some-key") if not is_other else "outer-name"
+            key = "server-key-or-lost" if self.frame.radius else "server-key"
+            name = {"tag-good": key, "no-context": "unjudged"}.get(it.word, "some-key") if not is_other else "outer-name"
             # (the name is told of where it is given)
             yield [] if is_other and it.word == "no-key" else [token(name, it.place, *[self.outer()] * is_other)]
             yield from [[other]] * (it.word == "tag-good")
@@ -602,6 +605,8 @@ class Next:
             yield fresh, [] if self.server.is_idle else [self.token("restart-peer")]
             return
         other = self.other_answer()
+        if other and other.message == "Nak" and self.is_explained(*self.asked(f.id)):
+            other = None  # (another Request was refused, which came in this one's place)
         if other and (f.stage == 4 or "Nak" in (f.message, other.message) or not self.asked(f.id, other.turn)):
             return
         more = [self.token("restart-peer")] * bool(other)
@@ -625,12 +630,15 @@ class Next:
         if not f.radius:
             if asked or len(self.asked(f.id)) > len(self.before):
                 yield []
+            elif f.at - was.at > DOUBLED and self.server.message in ENDS and self.server.turn > was.turn:
+                # (behind the end nobody asks for it)
+                yield [self.token("copy", was.number, self.since(was.at))]
             elif f.at - was.at > DOUBLED:
                 yield [] if self.tap.hides_server else [self.token("asked-behind")]
         elif asked and was.radius and was.radius.octets[:20] != f.radius.octets[:20]:
             yield []
         elif f.at - was.at > DOUBLED:
-            replies = [it for it in self.near(True) if it.turn > was.turn]
+            replies = [it for it in self.world.seen[::-1] if it.turn > was.turn and it.is_down and it.radius]
             if replies and all(it.radius and it.radius.request is None for it in replies):
                 yield []  # (they came from another address, and are told so)
             elif replies:

@@ -13,7 +13,8 @@ from lib.words import tables_of
 
 CODES = {1: "Request", 2: "Response", 3: "Success", 4: "Failure"}
 TYPES = {1: "Identity", 2: "Notification", 3: "Nak", 4: "MD5-Challenge", 13: "EAP-TLS", 47: "EAP-PSK", 51: "EAP-GPSK"}
-TYPES[254] = "Expanded Types"
+TYPES.update({6: "EAP-GTC", 18: "EAP-SIM", 21: "EAP-TTLS", 23: "EAP-AKA", 25: "PEAP", 26: "EAP-MSCHAPv2", 43: "EAP-FAST",
+              50: "EAP-AKA'", 52: "EAP-pwd", 55: "TEAP", 254: "Expanded Types"})
 OP_CODES = {1: "GPSK-1", 2: "GPSK-2", 3: "GPSK-3", 4: "GPSK-4", 5: "GPSK-Fail", 6: "GPSK-Protected-Fail"}
 FAILURES = {1: "PSK Not Found", 2: "Authentication Failure", 3: "Authorization Failure"}
 # The octets of the MAC by the suites of RFC 5433 section 6.

@@ -110,8 +110,18 @@ class Path:
                 yield number, "not-passed", (self.who(high), self.server(high + 1))
             elif it.is_to_peer and low - 1 in paired:
                 yield number, "not-passed", (self.who(low - 1), self.client(low - 1) if low > 1 else "the station")
-            if it.is_to_peer and high in paired and (high or it.octets[4:5] != b"\1"):
+            if it.is_to_peer and high and self.is_from_elsewhere(it.seen.get(high)):
+                yield number, "other-address", ()
+            elif it.is_to_peer and high in paired and (high or it.octets[4:5] != b"\1"):
                 yield number, "by-itself", (self.who(high), self.server(high + 1))
+
+    def is_from_elsewhere(self, it: Optional[Packet]) -> bool:
+        """Whether a reply at some hop comes from another address than that to which the Request of its Identifier went."""
+        reply = it.radius if it else None
+        if reply is None or reply.request is not None:
+            return False
+        asked = (x.radius for passed in self.passed for x in passed.seen.values() if x.radius and x.radius.is_request)
+        return any(x.source == reply.to and x.to[0] != reply.source[0] and x.octets[1] == reply.octets[1] for x in asked)
 
     def is_answered(self, it: Passed, then: Optional[Passed], rank: int) -> bool:
         """Whether the next packet shows that one went on, or came from there, where that isn't captured."""

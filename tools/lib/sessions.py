@@ -94,7 +94,9 @@ class Sessions:
             self.join(at, asked)
             return
         self.replies[it.exchange] = at
-        self.join(at, self.near(at, it))
+        # (a later reply to what was asked once is of that login, though what asked for it isn't here)
+        is_late = asked is not None and self.at(at) - self.at(asked) < PAUSE
+        self.join(at, asked if is_late else self.near(at, it))
 
     def near(self, at: int, it: frames.Radius) -> Optional[int]:
         """A packet just before a reply without a Request that is of its login: a Request to another address, else what has the

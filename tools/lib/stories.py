@@ -7,7 +7,7 @@ import re
 from collections import Counter
 from typing import Callable, Iterable, Iterator, Optional, Sequence
 
-from lib import frames, macs, observed, packets, words, worlds
+from lib import frames, macs, observed, packets, tls, words, worlds
 from lib.captures import Capture
 from lib.common import grouped
 from lib.ladder import Ladder, Row
@@ -18,7 +18,8 @@ from lib.reasons import SENTENCES, Reason, Story, code_said, named, of_replay, s
 
 # The cut packets that are listed, those of one reason, and the seconds after which no answer comes any more.
 MOST_CUT, MOST_LISTED, LONG_SECONDS = 4, 12, 5
-# What says nothing of an end, and what is told together whatever the message.
+# Behind which nothing is said of an answer; what says nothing of an end, and what is told together whatever the message.
+STOPPED = ("not-passed", "unreached", "unreached-client", "accepted", "conflicting")
 NOT_SENT, OF_ANY = ("forged", "twice", "copy", "stray"), ("twice", "copy", "order", "uncaptured")
 OF_MAC = ("wrong-key", "given-key", "other-key", "altered")
 NONCES = {"GPSK-1": "RAND_Server", "PSK-1": "RAND_S", "GPSK-2": "RAND_Peer", "PSK-2": "RAND_P"}
@@ -34,7 +35,7 @@ class Login:
         places = {it.number: it.place for it in self.frames}
         found.sure += [token(name, places[number], *words) for number, name, words in capture.facts if number in places]
         # (where it is told where a packet stopped, nothing more is known of its answer)
-        stopped = {self.places[it.place].octets for it in found.sure if it.name in ("not-passed", "unreached")}
+        stopped = {self.places[it.place].octets for it in found.sure if it.name in STOPPED}
         found.sure = [it for it in found.sure if it.name != "no-answer" or self.places[it.place].octets not in stopped]
         out = {it.place for it in (*found.sure, *(it for group in found.groups for it in group[0])) if it.name in NOT_SENT}
         self.own = [it for it in self.frames if it.octets and it.place not in out]
@@ -85,9 +86,14 @@ class Login:
 
     def front(self) -> str:
         user, kind, first, last = self.user, self.kind, self.frames[0].number, self.frames[-1].number
-        front = (f"the login of {user}" if user else "a login") + (f" by {words.METHODS[kind]}" if kind else "")
+        front = (f"the login of {quoted(user)}" if user else "a login") + (f" by {words.METHODS[kind]}" if kind else "")
         path = next((it.radius.path for it in self.frames if it.radius), "")
         return front + (f", packet {first}" if first == last else f", packets {first} to {last}") + path
+
+
+def quoted(name: str) -> str:
+    """A name as it can be read, also where spaces are at its ends."""
+    return f"`{name}`" if name != name.strip() else name
 
 
 # ---- Choices in words.
@@ -104,6 +110,11 @@ def sentence_of(login: Login, it: Token) -> str:
     elif it.name == "no-answer":
         names["silence"] = silence(login, frame)
     text = CHOICES[it.name].sentence.format(*it.words, **names)
+    if it.name == "unjudged" and frame.kind not in ("47", "51", "254", ""):
+        # (an alert is told of its packet, whether the server refuses or not)
+        text = said("other method refused") if not tls.alert_of(frame.octets) else said("alert answered")
+    if it.name in ("some-key", "policy", "unjudged") and frame.radius:
+        text += said("or forgotten")
     if it.name == "no-user":
         text += users_given(login, frame.read.identity, False)
     return text
@@ -137,11 +148,22 @@ def silence(login: Login, last: Frame) -> str:
         again = sum(it.octets == last.octets for it in login.frames)
         text = said("no reply", again=again, s="s" * (again > 1))
         is_known = any(it.radius and it.radius.verdict == "tag-bad" for it in login.frames)
-        return text + (said("no reply, why") + (said("or ended") if again == 1 and not is_over else "")) * (not is_known)
+        more = said("no reply, login") if last.radius.get(frames.STATE) else ""
+        more += said("no Message-Authenticator", packet=last.number) if not last.radius.is_authenticated else ""
+        return text + (said("no reply, why", more=more) + (said("or ended") if again == 1 and not is_over else "")) * (not is_known)
+    if last.radius and not last.radius.is_authenticated:
+        return said("not taken")
+    return no_answer(login, last, said("lost by client", lost=lost) if last.radius else lost)
+
+
+def no_answer(login: Login, last: Frame, lost: str) -> str:
+    """Why the other end doesn't answer a packet outside of RADIUS, or a RADIUS client the server."""
     if last.message in FIRST:
         suites = f"{said('no suites')} " * (last.message == "GPSK-1")
         return said("no second", suites=suites, server=last.read.identity, lost=lost)
     by_peer = any(not it.is_down for it in login.own)
+    if last.message == "Identity" and last.is_down and (by_peer or login.capture.starts):
+        return said("no name", lost=lost)
     return said("no server" if not last.is_down else "no peer" if by_peer else "no supplicant", lost=lost)
 
 
@@ -240,11 +262,13 @@ def of_tags(login: Login, named_places: set[int]) -> Iterator[tuple[int, str]]:
             yield it.place, said("no context")
         if it.radius and it.radius.get(frames.ERROR_CAUSE) == frames.IGNORED:
             yield it.place, said("ignored")
+        if alert := tls.alert_of(it.octets):
+            yield it.place, said("alert", by="server" if it.is_down else "peer", alert=alert)
 
 
 def plain(name: str) -> str:
     """A name without what is often put around it: quotes, a realm, a domain, its case."""
-    return name.strip("\"'").split("@")[0].split("\\")[-1].lower()
+    return name.strip("\"' ").split("@")[0].split("\\")[-1].lower()
 
 
 def without_key(login: Login, reading: Reading) -> str:
@@ -302,6 +326,16 @@ def of_nonces(login: Login, nonces: Nonces) -> Iterator[tuple[int, str]]:
     nonces.update({key: it for key, it in own.items() if key not in nonces})
 
 
+def of_keys(login: Login) -> Iterator[Reason]:
+    """The EAPOL-Keys behind a Success that the station doesn't answer."""
+    end, following = login.end, login.found.next
+    if end is None or end.message != "Success":
+        return
+    numbers = [it for it in login.capture.unanswered if it > end.number and (following is None or it < following)]
+    if len(numbers) > 1:
+        yield Reason(None, said("keys", count=len(numbers), first=numbers[0], last=numbers[-1]))
+
+
 def of_others(login: Login) -> Iterator[Reason]:
     """Methods that aren't judged here, and RADIUS packets whose authenticators are wrong."""
     types = {it.read.number.get("Type", 0) for it in login.own if not it.is_down} - {0, 1, 2, 3, 47, 51}
@@ -311,6 +345,8 @@ def of_others(login: Login) -> Iterator[Reason]:
         yield Reason(None, said("expanded"))
     for it in login.frames:
         verdict = it.radius.verdict if it.radius else ""
+        if it.radius and it.octets and not it.radius.is_authenticated and verdict != "NoAuthenticator":
+            yield Reason(None, said("not authenticated", name=it.radius.name), it.called)
         if it.radius and verdict == "tag-bad":
             yield Reason(None, said("authenticator", name=it.radius.name), it.called)
         elif verdict not in ("", "good", "no-request"):
@@ -341,7 +377,11 @@ def reasons_of(login: Login, nonces: list[tuple[int, str]]) -> list[Reason]:
     certain = [*of_tags(login, {it.place for it in shown_tokens(login.found) if it.name in OF_MAC}), *of_repeats(login), *nonces]
     of_places += [(place, Reason(None, text, login.places[place].called)) for place, text in certain]
     ordered = [it for _, it in sorted(of_places, key=lambda it: it[0])]
-    return folded([*of_missing(login), *ordered, *of_others(login)])
+    return folded([*of_missing(login), *ordered, *of_keys(login), *of_others(login)])
+
+
+def ending_name(end: Frame) -> str:
+    return end.read.name if end.octets else "Access-Reject"
 
 
 def story_of(login: Login, nonces: Nonces, is_brief: bool = False) -> Story:
@@ -355,14 +395,14 @@ def story_of(login: Login, nonces: Nonces, is_brief: bool = False) -> Story:
     words_found = {it.word for it in login.own} & {"tag-good", "tag-bad", "malformed"}
     failed = next((it for it in login.own if "Failure-Code" in it.read.number and it.is_down), None) if not end else end
     if end and not login.is_end_sure:
-        kind, outcome = "open", said("unsure end", end=f"packet {end.number}, {end.read.name}")
+        kind, outcome = "open", said("unsure end", end=f"packet {end.number}, {ending_name(end)}")
     elif end and end.message == "Success":
         what = "wrong" if words_found & {"tag-bad", "malformed"} else "good" if words_found else "none judged"
         kind = "good" if what == "good" and not is_odd else "open"
         outcome = said("success", said=said(what))
     else:
         kind = "bad" if failed or words_found & {"tag-bad", "malformed"} else "open"
-        outcome = said("failed", end=f"packet {failed.number}, {failed.read.name if failed.octets else 'Access-Reject'}") if failed else said("no end")
+        outcome = said("failed", end=f"packet {failed.number}, {ending_name(failed)}") if failed else said("no end")
     kind = "bad" if has_nonce else kind
     return Story(kind, f"{verdict}: {login.front()}: {outcome}", reasons, login.tries, verdict=verdict, user=login.user,
                  at=login.frames[0].at, until=login.frames[-1].at)

@@ -11,7 +11,7 @@ import time
 from concurrent.futures import ThreadPoolExecutor
 from functools import lru_cache
 from pathlib import Path
-from typing import Iterator, NamedTuple
+from typing import NamedTuple
 
 from lib import pages
 from lib.common import ROOT, Refused, grouped, said_by
@@ -20,6 +20,8 @@ LIST = "wrong/scripts.lines"
 SHARE, SECONDS = 3, 1200
 # Who is stopped begins no more tries.
 stopped = threading.Event()
+# What a command says that can try nothing here.
+OVER = ": not run: "
 
 
 class Wrong(NamedTuple):
@@ -34,6 +36,13 @@ class Wrong(NamedTuple):
     @property
     def name(self) -> str:
         return f"{LIST}:{self.number}: {self.file}: {self.new.strip() or 'nothing'}"
+
+
+class Tried(NamedTuple):
+    """The lines that were seen, and what is wrong."""
+
+    seen: list[str]
+    faults: list[str]
 
 
 def read() -> list[Wrong]:
@@ -79,30 +88,36 @@ def program() -> str:
     return str(kept) if kept.exists() else os.environ.get("EAP_LOGIN") or str(ROOT / "eap_login")
 
 
-def sees(seer: str, folder: Path) -> bool:
-    """Whether a command fails there."""
+def run_by(seer: str, folder: Path) -> tuple[bool, str]:
+    """Whether a command fails there, and its last line."""
     (folder / "out/tmp").mkdir(parents=True, exist_ok=True)
     # (a seer may be one that runs dev/claims with its commands)
-    return pages.run(f"unset CLAIMS; EAP_LOGIN={shlex.quote(program())} TMPDIR=$PWD/out/tmp {seer}", str(folder), SECONDS)[0] != 0
+    words = f"unset CLAIMS; EAP_LOGIN={shlex.quote(program())} TMPDIR=$PWD/out/tmp {seer}"
+    status, output, _ = pages.run(words, str(folder), SECONDS)
+    return status != 0, output.strip().rpartition("\n")[2]
 
 
-def unseen_by(seer: str, lines: list[Wrong]) -> Iterator[str]:
-    """The lines of a seer that it doesn't see, one after the other in a copy."""
+def try_by(seer: str, lines: list[Wrong]) -> Tried:
+    """A seer's lines, one after the other in a copy. One that lacks a program says so in its last line, and is passed over."""
+    tried = Tried([], [])
     with tempfile.TemporaryDirectory(prefix="wrong-") as room:
         folder = Path(room)
         copy_to(folder)
-        if sees(seer, folder):
-            yield f"{seer} fails by itself"
-            return
-        for it in lines:
+        fails, last = run_by(seer, folder)
+        if fails:
+            tried.faults.append(f"{seer} fails by itself")
+        elif OVER in last:
+            print(f"wrong lines{OVER}{len(lines)} by {seer}: {last.partition(OVER)[2]}", flush=True)
+        for it in [] if fails or OVER in last else lines:
             if stopped.is_set():
-                return
+                break
             file = folder / it.file
             whole = file.read_text()
             file.write_text(whole.replace(it.old, it.new))
-            if not sees(seer, folder):
-                yield f"{it.name}: {seer} doesn't see it"
+            sees = run_by(seer, folder)[0]
+            (tried.seen if sees else tried.faults).append(it.name if sees else f"{it.name}: {seer} doesn't see it")
             file.write_text(whole)
+    return tried
 
 
 def some_of(lines: list[Wrong]) -> list[Wrong]:
@@ -111,13 +126,14 @@ def some_of(lines: list[Wrong]) -> list[Wrong]:
     return [it for its in grouped((it.seer, it) for it in lines).values() for at, it in enumerate(its) if (at + day) % SHARE == 0]
 
 
-def unseen(lines: list[Wrong]) -> list[str]:
-    """Those that nothing sees of these lines."""
+def try_all(lines: list[Wrong]) -> Tried:
+    """What comes of these lines."""
     if wrong := faults():
         raise Refused(wrong[0])
     groups = grouped((it.seer, it) for it in lines)
     with ThreadPoolExecutor(len(os.sched_getaffinity(0))) as pool:
         try:
-            return [it for found in pool.map(lambda seer: list(unseen_by(seer, groups[seer])), groups) for it in found]
+            tried = list(pool.map(lambda seer: try_by(seer, groups[seer]), groups))
+            return Tried([name for it in tried for name in it.seen], [fault for it in tried for fault in it.faults])
         finally:
             stopped.set()

@@ -135,8 +135,14 @@ def in_tunnels(frame: bytes) -> dict[str, bytes]:
            "ERSPAN II": "100088be00000001" + "1001000000000000", "ERSPAN III": "100022eb00000001" + "2001000000000000" + "00000001" + "00" * 8}
     vxlan = struct.pack(">HHHH", 50000, 4789, 16 + len(frame), 0) + b"\x08" + bytes(7) + frame
     found = {name: in_ip(47, bytes.fromhex(head) + frame) for name, head in gre.items()}
+    udp = {"GENEVE": (6081, "0100655800000000" + "00" * 4), "TZSP": (37008, "010000010a020000" + "01"), "CAPWAP": (5247, "0010030000000000")}
+    air = in_air(frame)[8:]
+    others = {name: in_ip(17, struct.pack(">HHHH", 50000, port, 8 + len(body), 0) + body) for name, (port, head) in udp.items()
+              for body in [bytes.fromhex(head) + (air if name == "CAPWAP" else frame)]}
     pppoe = struct.pack(">HBBHHH", 0x8864, 0x11, 0, 1, len(frame) - 16, 0xC227) + frame[18:]
-    return {**found, "VXLAN": in_ip(17, vxlan), "GRE in IP in IP": in_ip(4, found["GRE"][14:]), "PPPoE": frame[:12] + pppoe}
+    others |= {"MPLS": frame[:12] + bytes.fromhex("8847000640400000c140") + in_ip(47, bytes.fromhex("00006558") + frame)[14:],
+               "MACsec": frame[:12] + bytes.fromhex("88e5000000000001") + frame[12:] + bytes(16)}
+    return {**found, **others, "VXLAN": in_ip(17, vxlan), "GRE in IP in IP": in_ip(4, found["GRE"][14:]), "PPPoE": frame[:12] + pppoe}
 
 
 def in_air(frame: bytes, has_qos: bool = False) -> bytes:
