@@ -20,7 +20,7 @@ prove_all() {
         "$here/crates/eap_login_main/proofs/run_over_boxes/Answers.antt" >proofs/login_of/Answers.antt
     echo 0 >stdout && cd "$work" && rt ci
 }
-make_program login_count 'login_setup eap_method psk_ends gpsk_ends eap_world scenario_text world_commands login_run' "$crates" prove_all
+make_program login_count 'login_setup eap_method psk_ends gpsk_ends eap_world scenario_text world_commands eap_login' "$crates" prove_all
 
 printf '%-24s %14s\n' 'a login, both ends' instructions
 for kind in gpsk psk gpsk2; do
