@@ -20,7 +20,7 @@ int __real_main(void);
 int __wrap_main(int argc, char **argv);
 int64_t rattle_arg(uint64_t which, uint8_t *room, uint64_t size);
 struct block rattle_alloc(uint64_t size, uint64_t align);
-struct block rattle_realloc(void *at, uint64_t old_size, uint64_t size, uint64_t align);
+struct block rattle_realloc(void *at, uint64_t kept, uint64_t size, uint64_t align);
 void rattle_dealloc(void *at);
 int rattle_errno(void);
 void rattle_set_errno(int number);
@@ -65,10 +65,10 @@ struct block rattle_alloc(uint64_t size, uint64_t align)
 	return block_at(malloc(size ? size : align));
 }
 
-/* The octets up to the smaller of both sizes stay.  Without memory the old block stays as it was. */
-struct block rattle_realloc(void *at, uint64_t old_size, uint64_t size, uint64_t align)
+/* The `kept` octets in use stay, as all that fit do.  Without memory the old block stays as it was. */
+struct block rattle_realloc(void *at, uint64_t kept, uint64_t size, uint64_t align)
 {
-	(void) old_size;
+	(void) kept;
 	return block_at(realloc(at, size ? size : align));
 }
 

@@ -18085,6 +18085,158 @@
 .Lfunc_end2f8f8:
 	.size	"tuvaddri_c::name::write_name_in", .Lfunc_end2f8f8-"tuvaddri_c::name::write_name_in"
 
+	.section	".text.tuvaddri_c::name::write_server_in","ax",@progbits
+	.p2align	2
+	.type	"tuvaddri_c::name::write_server_in",@function
+"tuvaddri_c::name::write_server_in":
+	sub	sp, sp, #208
+	cmp	x1, #4
+	stp	x29, x30, [sp, #176]
+	add	x29, sp, #176
+	str	x19, [sp, #192]
+	b.hs	.LBBe6481_3
+	mov	x0, xzr
+.LBBe6481_2:
+	ldp	x29, x30, [sp, #176]
+	ldr	x19, [sp, #192]
+	add	sp, sp, #208
+	ret
+.LBBe6481_3:
+	ldrb	w10, [x0]
+	sub	w8, w10, #5
+	cmn	w8, #4
+	b.hs	.LBBe6481_5
+.LBBe6481_4:
+	mov	x0, xzr
+	ldp	x29, x30, [sp, #176]
+	ldr	x19, [sp, #192]
+	add	sp, sp, #208
+	ret
+.LBBe6481_5:
+	ldrh	w8, [x0, #2]
+	mov	x9, x0
+	mov	x0, xzr
+	rev16	w8, w8
+	cmp	x8, #4
+	cset	w11, hi
+	cset	w12, eq
+	cmp	w10, #3
+	csel	w11, w11, w12, lo
+	cmp	w10, #1
+	b.ne	.LBBe6481_2
+	cbz	w11, .LBBe6481_2
+	cmp	x1, x8
+	b.lo	.LBBe6481_2
+	cmp	x8, #1500
+	b.hi	.LBBe6481_2
+	ldrb	w10, [x9, #4]
+	cmp	w10, #3
+	b.eq	.LBBe6481_4
+	cmp	w10, #47
+	sub	x8, x8, #5
+	b.eq	.LBBe6481_14
+	cmp	w10, #51
+	b.ne	.LBBe6481_4
+	movi	v0.2d, #0000000000000000
+	mov	x19, x2
+	mov	x0, sp
+	add	x1, x9, #5
+	mov	x2, x8
+	mov	w3, wzr
+	mov	w4, wzr
+	str	xzr, [sp, #160]
+	stp	q0, q0, [sp]
+	stp	q0, q0, [sp, #32]
+	stp	q0, q0, [sp, #64]
+	stp	q0, q0, [sp, #96]
+	stp	q0, q0, [sp, #128]
+	bl	"gpsk_messages::reading::read_gpsk_message"
+	ldrb	w8, [sp, #8]
+	ldrb	w9, [sp]
+	and	w8, w8, #0xff
+	orr	w8, w9, w8
+	cbnz	w8, .LBBe6481_4
+	ldp	x1, x0, [sp, #16]
+	b	.LBBe6481_16
+.LBBe6481_14:
+	movi	v0.2d, #0000000000000000
+	mov	x19, x2
+	mov	x0, sp
+	add	x1, x9, #5
+	mov	x2, x8
+	stp	q0, q0, [sp, #16]
+	stp	q0, q0, [sp, #48]
+	str	q0, [sp]
+	bl	"psk_messages::reading::read_psk_message"
+	ldrb	w8, [sp, #8]
+	ldrb	w9, [sp]
+	and	w8, w8, #0xff
+	orr	w8, w9, w8
+	cbnz	w8, .LBBe6481_4
+	ldp	x1, x0, [sp, #32]
+.LBBe6481_16:
+	sub	x10, x19, x1
+	mov	x8, x19
+	cmp	x10, x0
+	b.hs	.LBBe6481_21
+	cmp	x0, #8
+	mov	x9, xzr
+	b.lo	.LBBe6481_28
+	cmp	x10, #32
+	b.lo	.LBBe6481_28
+	cmp	x0, #32
+	b.hs	.LBBe6481_22
+	mov	x9, xzr
+	b	.LBBe6481_26
+.LBBe6481_21:
+	mov	x19, x0
+	mov	x0, x8
+	mov	x2, x19
+	bl	memmove
+	mov	x0, x19
+	ldp	x29, x30, [sp, #176]
+	ldr	x19, [sp, #192]
+	add	sp, sp, #208
+	ret
+.LBBe6481_22:
+	and	x10, x0, #0x18
+	and	x9, x0, #0xffffffffffffffe0
+	add	x11, x1, #16
+	add	x12, x8, #16
+	and	x13, x0, #0xffffffffffffffe0
+.LBBe6481_23:
+	ldp	q0, q1, [x11, #-16]
+	subs	x13, x13, #32
+	add	x11, x11, #32
+	stp	q0, q1, [x12, #-16]
+	add	x12, x12, #32
+	b.ne	.LBBe6481_23
+	cmp	x0, x9
+	b.eq	.LBBe6481_2
+	cbz	x10, .LBBe6481_28
+.LBBe6481_26:
+	mov	x12, x9
+	and	x9, x0, #0xfffffffffffffff8
+	sub	x10, x12, x9
+	add	x11, x1, x12
+	add	x12, x8, x12
+.LBBe6481_27:
+	ldr	d0, [x11], #8
+	adds	x10, x10, #8
+	str	d0, [x12], #8
+	b.ne	.LBBe6481_27
+	b	.LBBe6481_29
+.LBBe6481_28:
+	ldrb	w10, [x1, x9]
+	strb	w10, [x8, x9]
+	add	x9, x9, #1
+.LBBe6481_29:
+	cmp	x0, x9
+	b.ne	.LBBe6481_28
+	b	.LBBe6481_2
+.Lfunc_ende6481:
+	.size	"tuvaddri_c::name::write_server_in", .Lfunc_ende6481-"tuvaddri_c::name::write_server_in"
+
 	.section	.text.tuv_backend_begin,"ax",@progbits
 	.globl	tuv_backend_begin
 	.p2align	2
@@ -23608,6 +23760,142 @@ tuv_response_name:
 	ret
 .Lfunc_end575ed:
 	.size	tuv_response_name, .Lfunc_end575ed-tuv_response_name
+
+	.section	.text.tuv_request_name,"ax",@progbits
+	.globl	tuv_request_name
+	.p2align	2
+	.type	tuv_request_name,@function
+tuv_request_name:
+	mov	w8, #4096
+	cmp	x0, #0
+	csel	x8, x8, xzr, eq
+	cmp	x1, #4
+	b.hs	.LBB2dc08_2
+	mov	x0, xzr
+	ret
+.LBB2dc08_2:
+	stp	x29, x30, [sp, #-48]!
+	stp	x28, x21, [sp, #16]
+	mov	x29, sp
+	stp	x20, x19, [sp, #32]
+	sub	sp, sp, #1568
+	str	xzr, [sp]
+	add	x19, x0, x8
+	ldrb	w11, [x19]
+	sub	w8, w11, #5
+	cmn	w8, #4
+	b.hs	.LBB2dc08_5
+	mov	x0, xzr
+.LBB2dc08_4:
+	add	sp, sp, #1568
+	ldp	x20, x19, [sp, #32]
+	ldp	x28, x21, [sp, #16]
+	ldp	x29, x30, [sp], #48
+	ret
+.LBB2dc08_5:
+	ldrh	w8, [x19, #2]
+	mov	x0, xzr
+	rev16	w9, w8
+	subs	x8, x9, #5
+	cset	w10, lo
+	cmp	x9, #4
+	cset	w12, ne
+	cmp	w11, #3
+	csel	w10, w10, w12, lo
+	tbnz	w10, #0, .LBB2dc08_4
+	cmp	x1, x9
+	b.lo	.LBB2dc08_4
+	cmp	x9, #1500
+	b.hi	.LBB2dc08_4
+	cmp	w11, #2
+	b.eq	.LBB2dc08_12
+	cmp	w11, #1
+	b.ne	.LBB2dc08_15
+	ldrb	w10, [x19, #4]
+	cmp	w10, #3
+	b.ne	.LBB2dc08_16
+	mov	x0, xzr
+	add	sp, sp, #1568
+	ldp	x20, x19, [sp, #32]
+	ldp	x28, x21, [sp, #16]
+	ldp	x29, x30, [sp], #48
+	ret
+.LBB2dc08_12:
+	ldrb	w10, [x19, #4]
+	subs	x8, x9, #5
+	b.ne	.LBB2dc08_17
+	cmp	w10, #3
+	b.ne	.LBB2dc08_17
+	mov	x0, xzr
+	add	sp, sp, #1568
+	ldp	x20, x19, [sp, #32]
+	ldp	x28, x21, [sp, #16]
+	ldp	x29, x30, [sp], #48
+	ret
+.LBB2dc08_15:
+	cmp	w11, #3
+	mov	w9, #2
+	ldrb	w11, [x19, #1]
+	mov	x20, x2
+	mov	x21, x1
+	mov	w10, wzr
+	mov	x8, xzr
+	cinc	w12, w9, ne
+	adrp	x13, .Lstatic.0
+	add	x13, x13, :lo12:.Lstatic.0
+	mov	w9, #4
+	stur	wzr, [x29, #-8]
+	b	.LBB2dc08_18
+.LBB2dc08_16:
+	ldrb	w11, [x19, #1]
+	mov	x20, x2
+	mov	x21, x1
+	mov	w12, wzr
+	stur	wzr, [x29, #-8]
+	add	x13, x19, #5
+	b	.LBB2dc08_18
+.LBB2dc08_17:
+	ldrb	w11, [x19, #1]
+	mov	x20, x2
+	mov	x21, x1
+	stur	wzr, [x29, #-8]
+	add	x13, x19, #5
+	mov	w12, #1
+.LBB2dc08_18:
+	sturb	wzr, [x29, #-4]
+	sturb	w11, [x29, #-47]
+	ldur	w11, [x29, #-8]
+	add	x0, sp, #8
+	sturb	w10, [x29, #-46]
+	and	w10, wzr, #0xff
+	mov	w1, wzr
+	mov	w2, #1512
+	sturb	w12, [x29, #-48]
+	stur	w11, [x29, #-45]
+	sturb	w10, [x29, #-41]
+	stp	x13, x8, [x29, #-40]
+	stp	x19, x9, [x29, #-24]
+	bl	memset
+	sub	x0, x29, #48
+	add	x1, sp, #8
+	bl	"eap_packet::expanded::write_plain"
+	cbz	w0, .LBB2dc08_20
+	ldr	x1, [sp, #1512]
+	add	x0, sp, #8
+	b	.LBB2dc08_21
+.LBB2dc08_20:
+	mov	x0, x19
+	mov	x1, x21
+.LBB2dc08_21:
+	mov	x2, x20
+	bl	"tuvaddri_c::name::write_server_in"
+	add	sp, sp, #1568
+	ldp	x20, x19, [sp, #32]
+	ldp	x28, x21, [sp, #16]
+	ldp	x29, x30, [sp], #48
+	ret
+.Lfunc_end2dc08:
+	.size	tuv_request_name, .Lfunc_end2dc08-tuv_request_name
 
 	.type	.Lstatic.0,@object
 	.section	.rodata..Lstatic.0,"a",@progbits

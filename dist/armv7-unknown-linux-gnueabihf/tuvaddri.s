@@ -22540,6 +22540,155 @@
 	.cantunwind
 	.fnend
 
+	.section	".text.tuvaddri_c::name::write_server_in","ax",%progbits
+	.p2align	2
+	.type	"tuvaddri_c::name::write_server_in",%function
+	.code	32
+"tuvaddri_c::name::write_server_in":
+	.fnstart
+	.save	{r4, r5, r6, r7, r8, r9, r10, lr}
+	push	{r4, r5, r6, r7, r8, r9, r10, lr}
+	.pad	#224
+	sub	sp, sp, #224
+	mov	r1, r0
+	add	r0, sp, #8
+	vmov.i32	q8, #0x0
+	mov	r7, r0
+	vst1.64	{d16, d17}, [r7]!
+	vst1.64	{d16, d17}, [r7]!
+	vst1.64	{d16, d17}, [r7]
+	bl	"eap_packet::packet::decode"
+	ldrb	r0, [sp, #8]
+	cmp	r0, #1
+	beq	.LBBe6481_6
+	ldrb	r0, [sp, #16]
+	cmp	r0, #0
+	bne	.LBBe6481_6
+	ldrb	r0, [sp, #18]
+	ldr	r4, [sp, #36]
+	ldr	r5, [sp, #32]
+	cmp	r0, #51
+	ldr	r6, [sp, #24]
+	beq	.LBBe6481_7
+	cmp	r0, #47
+	bne	.LBBe6481_6
+	add	r0, sp, #56
+	vmov.i32	q8, #0x0
+	mov	r2, r5
+	mov	r3, r4
+	mov	r7, r0
+	vst1.64	{d16, d17}, [r7]!
+	vst1.64	{d16, d17}, [r7]!
+	mov	r1, r7
+	vst1.64	{d16, d17}, [r1]!
+	vst1.64	{d16, d17}, [r1]!
+	vst1.64	{d16, d17}, [r1]
+	mov	r1, r6
+	bl	"psk_messages::reading::read_psk_message"
+	ldrb	r1, [sp, #64]
+	ldrb	r0, [sp, #56]
+	uxtb	r1, r1
+	orrs	r0, r0, r1
+	mov	r0, #0
+	mov	r1, #0
+	bne	.LBBe6481_18
+	ldr	lr, [r7]
+	ldr	r1, [sp, #100]
+	ldr	r0, [sp, #96]
+	b	.LBBe6481_9
+.LBBe6481_6:
+	mov	r0, #0
+	mov	r1, #0
+	add	sp, sp, #224
+	pop	{r4, r5, r6, r7, r8, r9, r10, pc}
+.LBBe6481_7:
+	add	r8, sp, #56
+	mov	r1, #0
+	mov	r2, #168
+	mov	r7, #0
+	mov	r0, r8
+	bl	memset
+	mov	r0, r8
+	mov	r1, r6
+	mov	r2, r5
+	mov	r3, r4
+	str	r7, [sp]
+	str	r7, [sp, #4]
+	bl	"gpsk_messages::reading::read_gpsk_message"
+	ldrb	r2, [sp, #64]
+	mov	r0, #0
+	ldrb	r1, [sp, #56]
+	uxtb	r2, r2
+	orrs	r1, r1, r2
+	mov	r1, #0
+	bne	.LBBe6481_18
+	ldr	r1, [sp, #84]
+	ldr	r0, [sp, #80]
+	ldr	lr, [sp, #72]
+.LBBe6481_9:
+	ldr	r12, [sp, #256]
+	mov	r7, #0
+	subs	r6, r12, lr
+	sbc	r5, r7, #0
+	subs	r6, r6, r0
+	sbcs	r6, r5, r1
+	bhs	.LBBe6481_15
+	subs	r6, r0, #16
+	sbcs	r6, r1, #0
+	blo	.LBBe6481_16
+	sub	r6, r12, lr
+	cmp	r6, #16
+	mov	r6, #0
+	blo	.LBBe6481_17
+	bic	r7, r0, #15
+	mov	r5, #0
+	mov	r6, r1
+	mov	r4, #0
+.LBBe6481_13:
+	add	r3, lr, r4
+	vld1.8	{d16, d17}, [r3]
+	add	r3, r12, r4
+	adds	r4, r4, #16
+	adc	r5, r5, #0
+	vst1.8	{d16, d17}, [r3]
+	eor	r3, r4, r7
+	eor	r2, r5, r1
+	orrs	r2, r3, r2
+	bne	.LBBe6481_13
+	eor	r2, r0, r7
+	eor	r3, r1, r1
+	orrs	r2, r2, r3
+	bne	.LBBe6481_17
+	b	.LBBe6481_18
+.LBBe6481_15:
+	mov	r4, r0
+	mov	r5, r1
+	mov	r0, r12
+	mov	r1, lr
+	mov	r2, r4
+	bl	memmove
+	mov	r1, r5
+	mov	r0, r4
+	add	sp, sp, #224
+	pop	{r4, r5, r6, r7, r8, r9, r10, pc}
+.LBBe6481_16:
+	mov	r6, #0
+.LBBe6481_17:
+	ldrb	r2, [lr, r7]
+	strb	r2, [r12, r7]
+	adds	r7, r7, #1
+	adc	r6, r6, #0
+	subs	r2, r7, r0
+	sbcs	r2, r6, r1
+	blo	.LBBe6481_17
+.LBBe6481_18:
+	add	sp, sp, #224
+	pop	{r4, r5, r6, r7, r8, r9, r10, pc}
+.Lfunc_ende6481:
+	.size	"tuvaddri_c::name::write_server_in", .Lfunc_ende6481-"tuvaddri_c::name::write_server_in"
+	.cantunwind
+	.fnend
+
 	.section	.text.tuv_backend_begin,"ax",%progbits
 	.globl	tuv_backend_begin
 	.p2align	4
@@ -24979,7 +25128,7 @@ tuv_end_session_id:
 	ldr	r2, .LCPI5aec3_0
 	stmib	sp, {r0, r9}
 	add	r0, sp, #1728
-.LPC184_0:
+.LPC185_0:
 	add	r2, pc, r2
 	str	r3, [sp]
 	str	r7, [sp, #12]
@@ -25035,7 +25184,7 @@ tuv_end_session_id:
 	pop	{r4, r5, r6, r7, r8, r9, r10, r11, pc}
 	.p2align	2
 .LCPI5aec3_0:
-	.long	.Lstatic.14-(.LPC184_0+8)
+	.long	.Lstatic.14-(.LPC185_0+8)
 .Lfunc_end5aec3:
 	.size	tuv_end_session_id, .Lfunc_end5aec3-tuv_end_session_id
 	.cantunwind
@@ -25526,6 +25675,65 @@ tuv_response_name:
 	pop	{r4, r5, r6, r7, r8, r9, r11, pc}
 .Lfunc_end575ed:
 	.size	tuv_response_name, .Lfunc_end575ed-tuv_response_name
+	.cantunwind
+	.fnend
+
+	.section	.text.tuv_request_name,"ax",%progbits
+	.globl	tuv_request_name
+	.p2align	2
+	.type	tuv_request_name,%function
+	.code	32
+tuv_request_name:
+	.fnstart
+	.save	{r4, r5, r6, r7, r8, r9, r11, lr}
+	push	{r4, r5, r6, r7, r8, r9, r11, lr}
+	.pad	#1568
+	sub	sp, sp, #1568
+	vmov.i32	q8, #0x0
+	add	r7, sp, #8
+	mov	r6, r0
+	cmp	r6, #0
+	mov	r0, r7
+	addeq	r6, r6, #4096
+	vst1.64	{d16, d17}, [r0]!
+	mov	r4, r3
+	mov	r1, r6
+	mov	r5, r2
+	vst1.64	{d16, d17}, [r0]!
+	vst1.64	{d16, d17}, [r0]
+	mov	r0, r7
+	bl	"eap_packet::packet::decode"
+	ldrb	r1, [sp, #8]
+	mov	r0, #0
+	cmp	r1, #1
+	mov	r1, #0
+	beq	.LBB2dc08_5
+	add	r8, sp, #56
+	movw	r2, #1512
+	ldr	r9, [sp, #1600]
+	mov	r0, r8
+	bl	memset
+	add	r0, r7, #8
+	mov	r1, r8
+	bl	"eap_packet::expanded::write_plain"
+	cmp	r0, #0
+	beq	.LBB2dc08_3
+	ldr	r2, [sp, #1560]
+	add	r0, sp, #56
+	ldr	r3, [sp, #1564]
+	b	.LBB2dc08_4
+.LBB2dc08_3:
+	mov	r0, r6
+	mov	r2, r5
+	mov	r3, r4
+.LBB2dc08_4:
+	str	r9, [sp]
+	bl	"tuvaddri_c::name::write_server_in"
+.LBB2dc08_5:
+	add	sp, sp, #1568
+	pop	{r4, r5, r6, r7, r8, r9, r11, pc}
+.Lfunc_end2dc08:
+	.size	tuv_request_name, .Lfunc_end2dc08-tuv_request_name
 	.cantunwind
 	.fnend
 

@@ -28899,6 +28899,103 @@ tuvaddri_c.name.write_name_in:
 .Lfunc_end8eedb:
 	.size	tuvaddri_c.name.write_name_in, .Lfunc_end8eedb-tuvaddri_c.name.write_name_in
 
+	.section	".text.tuvaddri_c::name::write_server_in","ax",@progbits
+	.p2align	1
+	.type	tuvaddri_c.name.write_server_in,@function
+tuvaddri_c.name.write_server_in:
+	addi	sp, sp, -256
+	sd	ra, 248(sp)
+	sd	s0, 240(sp)
+	sd	s1, 232(sp)
+	sd	s2, 224(sp)
+	mv	s0, a2
+	mv	a2, a1
+	mv	a1, a0
+	sd	zero, 40(sp)
+	sd	zero, 48(sp)
+	sd	zero, 8(sp)
+	sd	zero, 16(sp)
+	sd	zero, 24(sp)
+	sd	zero, 32(sp)
+	addi	a0, sp, 8
+	call	eap_packet.packet.decode
+	lbu	a0, 8(sp)
+	li	a1, 1
+	beq	a0, a1, .LBBf762c_11
+	lbu	a0, 16(sp)
+	bnez	a0, .LBBf762c_11
+	lbu	a0, 18(sp)
+	ld	s1, 24(sp)
+	ld	s2, 32(sp)
+	li	a1, 51
+	beq	a0, a1, .LBBf762c_8
+	li	a1, 47
+	bne	a0, a1, .LBBf762c_11
+	addi	a0, sp, 56
+	li	a2, 80
+	li	a1, 0
+	call	memset
+	addi	a0, sp, 56
+	mv	a1, s1
+	mv	a2, s2
+	call	psk_messages.reading.read_psk_message
+	lbu	a0, 64(sp)
+	lbu	a1, 56(sp)
+	zext.b	a0, a0
+	or	a0, a0, a1
+	bnez	a0, .LBBf762c_11
+	ld	a1, 88(sp)
+	ld	a0, 96(sp)
+	sub	a2, s0, a1
+	bgeu	a2, a0, .LBBf762c_10
+.LBBf762c_6:
+	add	a2, a1, a0
+.LBBf762c_7:
+	lbu	a3, 0(a1)
+	addi	a1, a1, 1
+	sb	a3, 0(s0)
+	addi	s0, s0, 1
+	bne	a1, a2, .LBBf762c_7
+	j	.LBBf762c_12
+.LBBf762c_8:
+	addi	a0, sp, 56
+	li	a2, 168
+	li	a1, 0
+	call	memset
+	addi	a0, sp, 56
+	mv	a1, s1
+	mv	a2, s2
+	li	a3, 0
+	li	a4, 0
+	call	gpsk_messages.reading.read_gpsk_message
+	lbu	a0, 64(sp)
+	lbu	a1, 56(sp)
+	zext.b	a0, a0
+	or	a0, a0, a1
+	bnez	a0, .LBBf762c_11
+	ld	a1, 72(sp)
+	ld	a0, 80(sp)
+	sub	a2, s0, a1
+	bltu	a2, a0, .LBBf762c_6
+.LBBf762c_10:
+	mv	s1, a0
+	mv	a0, s0
+	mv	a2, s1
+	call	memmove
+	mv	a0, s1
+	j	.LBBf762c_12
+.LBBf762c_11:
+	li	a0, 0
+.LBBf762c_12:
+	ld	ra, 248(sp)
+	ld	s0, 240(sp)
+	ld	s1, 232(sp)
+	ld	s2, 224(sp)
+	addi	sp, sp, 256
+	ret
+.Lfunc_endf762c:
+	.size	tuvaddri_c.name.write_server_in, .Lfunc_endf762c-tuvaddri_c.name.write_server_in
+
 	.section	.text.tuv_backend_begin,"ax",@progbits
 	.globl	tuv_backend_begin
 	.p2align	1
@@ -36067,6 +36164,65 @@ tuv_response_name:
 	ret
 .Lfunc_end575ed:
 	.size	tuv_response_name, .Lfunc_end575ed-tuv_response_name
+
+	.section	.text.tuv_request_name,"ax",@progbits
+	.globl	tuv_request_name
+	.p2align	1
+	.type	tuv_request_name,@function
+tuv_request_name:
+	addi	sp, sp, -1616
+	sd	ra, 1608(sp)
+	sd	s0, 1600(sp)
+	sd	s1, 1592(sp)
+	sd	s2, 1584(sp)
+	sd	s3, 1576(sp)
+	mv	s2, a2
+	mv	s1, a1
+	seqz	a1, a0
+	sd	zero, 48(sp)
+	sd	zero, 56(sp)
+	slli	a1, a1, 12
+	add	s0, a0, a1
+	sd	zero, 16(sp)
+	sd	zero, 24(sp)
+	sd	zero, 32(sp)
+	sd	zero, 40(sp)
+	addi	a0, sp, 16
+	mv	a1, s0
+	mv	a2, s1
+	call	eap_packet.packet.decode
+	lbu	a1, 16(sp)
+	li	a2, 1
+	li	a0, 0
+	beq	a1, a2, .LBB2dc08_5
+	addi	s3, sp, 24
+	addi	a0, sp, 64
+	li	a2, 1512
+	li	a1, 0
+	call	memset
+	addi	a1, sp, 64
+	mv	a0, s3
+	call	eap_packet.expanded.write_plain
+	beqz	a0, .LBB2dc08_3
+	ld	a1, 1568(sp)
+	addi	a0, sp, 64
+	j	.LBB2dc08_4
+.LBB2dc08_3:
+	mv	a0, s0
+	mv	a1, s1
+.LBB2dc08_4:
+	mv	a2, s2
+	call	tuvaddri_c.name.write_server_in
+.LBB2dc08_5:
+	ld	ra, 1608(sp)
+	ld	s0, 1600(sp)
+	ld	s1, 1592(sp)
+	ld	s2, 1584(sp)
+	ld	s3, 1576(sp)
+	addi	sp, sp, 1616
+	ret
+.Lfunc_end2dc08:
+	.size	tuv_request_name, .Lfunc_end2dc08-tuv_request_name
 
 	.type	.Lstatic.0,@object
 	.section	.rodata..Lstatic.0,"a",@progbits

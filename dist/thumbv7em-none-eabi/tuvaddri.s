@@ -23413,6 +23413,159 @@
 	.cantunwind
 	.fnend
 
+	.section	".text.tuvaddri_c::name::write_server_in","ax",%progbits
+	.p2align	2
+	.type	"tuvaddri_c::name::write_server_in",%function
+	.code	16
+	.thumb_func
+"tuvaddri_c::name::write_server_in":
+	.fnstart
+	.save	{r4, r5, r6, r7, r8, r9, lr}
+	push.w	{r4, r5, r6, r7, r8, r9, lr}
+	.pad	#228
+	sub	sp, #228
+	add	r7, sp, #8
+	mov	r6, r0
+	mov	r0, r7
+	movs	r1, #48
+	mov	r4, r3
+	mov	r5, r2
+	bl	__aeabi_memclr8
+	mov	r0, r7
+	mov	r1, r6
+	mov	r2, r5
+	mov	r3, r4
+	bl	"eap_packet::packet::decode"
+	ldrb.w	r0, [sp, #8]
+	cmp	r0, #1
+	beq	.LBBe6481_6
+	ldrb.w	r0, [sp, #16]
+	cbnz	r0, .LBBe6481_6
+	ldrb.w	r0, [sp, #18]
+	ldrd	r5, r4, [sp, #32]
+	ldr	r6, [sp, #24]
+	cmp	r0, #51
+	beq	.LBBe6481_7
+	cmp	r0, #47
+	bne	.LBBe6481_6
+	add	r7, sp, #56
+	mov	r0, r7
+	movs	r1, #80
+	bl	__aeabi_memclr8
+	mov	r0, r7
+	mov	r1, r6
+	mov	r2, r5
+	mov	r3, r4
+	bl	"psk_messages::reading::read_psk_message"
+	ldrb.w	r0, [sp, #64]
+	ldrb.w	r1, [sp, #56]
+	uxtb	r0, r0
+	orrs	r0, r1
+	bne	.LBBe6481_6
+	ldr.w	r9, [sp, #88]
+	ldrd	r0, r1, [sp, #96]
+	b	.LBBe6481_9
+.LBBe6481_6:
+	movs	r0, #0
+	movs	r1, #0
+	add	sp, #228
+	pop.w	{r4, r5, r6, r7, r8, r9, pc}
+.LBBe6481_7:
+	add.w	r8, sp, #56
+	mov	r0, r8
+	movs	r1, #168
+	bl	__aeabi_memclr8
+	movs	r7, #0
+	mov	r0, r8
+	mov	r1, r6
+	mov	r2, r5
+	mov	r3, r4
+	str	r7, [sp]
+	mov	r4, r7
+	str	r7, [sp, #4]
+	bl	"gpsk_messages::reading::read_gpsk_message"
+	ldrb.w	r0, [sp, #64]
+	ldrb.w	r1, [sp, #56]
+	uxtb	r0, r0
+	orrs	r0, r1
+	bne	.LBBe6481_13
+	ldr.w	r9, [sp, #72]
+	ldrd	r0, r1, [sp, #80]
+.LBBe6481_9:
+	ldr.w	r8, [sp, #256]
+	movs	r6, #0
+	subs.w	r7, r8, r9
+	sbc	r6, r6, #0
+	subs	r7, r7, r0
+	sbcs.w	r7, r6, r1
+	bhs	.LBBe6481_12
+	subs	r7, r0, #4
+	sbcs	r7, r1, #0
+	and	r12, r0, #3
+	bhs	.LBBe6481_15
+	movs	r6, #0
+	b	.LBBe6481_18
+.LBBe6481_12:
+	mov	r4, r0
+	mov	r0, r8
+	mov	r5, r1
+	mov	r1, r9
+	mov	r2, r4
+	bl	__aeabi_memmove
+	mov	r1, r5
+	b	.LBBe6481_14
+.LBBe6481_13:
+	movs	r1, #0
+.LBBe6481_14:
+	mov	r0, r4
+	add	sp, #228
+	pop.w	{r4, r5, r6, r7, r8, r9, pc}
+.LBBe6481_15:
+	bic	lr, r0, #3
+	movs	r6, #0
+	movs	r4, #0
+	.p2align	2
+.LBBe6481_16:
+	ldrb.w	r7, [r9, r6]
+	strb.w	r7, [r8, r6]
+	orr	r7, r6, #1
+	ldrb.w	r5, [r9, r7]
+	strb.w	r5, [r8, r7]
+	orr	r5, r6, #2
+	ldrb.w	r7, [r9, r5]
+	strb.w	r7, [r8, r5]
+	orr	r5, r6, #3
+	adds	r6, #4
+	adc	r4, r4, #0
+	ldrb.w	r7, [r9, r5]
+	eor.w	r3, r6, lr
+	eor.w	r2, r4, r1
+	orrs	r2, r3
+	strb.w	r7, [r8, r5]
+	bne	.LBBe6481_16
+	cmp.w	r12, #0
+	beq	.LBBe6481_21
+.LBBe6481_18:
+	ldrb.w	r2, [r9, r6]
+	cmp.w	r12, #1
+	strb.w	r2, [r8, r6]
+	beq	.LBBe6481_21
+	adds	r2, r6, #1
+	ldrb.w	r3, [r9, r2]
+	cmp.w	r12, #2
+	strb.w	r3, [r8, r2]
+	beq	.LBBe6481_21
+	adds	r2, r6, #2
+	ldrb.w	r3, [r9, r2]
+	strb.w	r3, [r8, r2]
+.LBBe6481_21:
+	add	sp, #228
+	pop.w	{r4, r5, r6, r7, r8, r9, pc}
+.Lfunc_ende6481:
+	.size	"tuvaddri_c::name::write_server_in", .Lfunc_ende6481-"tuvaddri_c::name::write_server_in"
+	.cantunwind
+	.fnend
+
 	.section	.text.tuv_backend_begin,"ax",%progbits
 	.globl	tuv_backend_begin
 	.p2align	2
@@ -25848,6 +26001,69 @@ tuv_response_name:
 	pop.w	{r4, r5, r6, r7, r8, r9, pc}
 .Lfunc_end575ed:
 	.size	tuv_response_name, .Lfunc_end575ed-tuv_response_name
+	.cantunwind
+	.fnend
+
+	.section	.text.tuv_request_name,"ax",%progbits
+	.globl	tuv_request_name
+	.p2align	2
+	.type	tuv_request_name,%function
+	.code	16
+	.thumb_func
+tuv_request_name:
+	.fnstart
+	.save	{r4, r5, r6, r7, r8, r9, lr}
+	push.w	{r4, r5, r6, r7, r8, r9, lr}
+	.pad	#1572
+	subw	sp, sp, #1572
+	add	r7, sp, #8
+	mov	r6, r0
+	cmp	r0, #0
+	mov	r0, r7
+	mov.w	r1, #48
+	mov	r4, r3
+	mov	r5, r2
+	it	eq
+	addeq.w	r6, r6, #4096
+	bl	__aeabi_memclr8
+	mov	r0, r7
+	mov	r1, r6
+	mov	r2, r5
+	mov	r3, r4
+	bl	"eap_packet::packet::decode"
+	ldrb.w	r0, [sp, #8]
+	cmp	r0, #1
+	bne	.LBB2dc08_2
+	movs	r0, #0
+	movs	r1, #0
+	addw	sp, sp, #1572
+	pop.w	{r4, r5, r6, r7, r8, r9, pc}
+.LBB2dc08_2:
+	add.w	r8, sp, #56
+	ldr.w	r9, [sp, #1600]
+	mov	r0, r8
+	mov.w	r1, #1512
+	adds	r7, #8
+	bl	__aeabi_memclr8
+	mov	r0, r7
+	mov	r1, r8
+	bl	"eap_packet::expanded::write_plain"
+	cbz	r0, .LBB2dc08_4
+	ldr.w	r2, [sp, #1560]
+	ldr.w	r3, [sp, #1564]
+	add	r0, sp, #56
+	b	.LBB2dc08_5
+.LBB2dc08_4:
+	mov	r0, r6
+	mov	r2, r5
+	mov	r3, r4
+.LBB2dc08_5:
+	str.w	r9, [sp]
+	bl	"tuvaddri_c::name::write_server_in"
+	addw	sp, sp, #1572
+	pop.w	{r4, r5, r6, r7, r8, r9, pc}
+.Lfunc_end2dc08:
+	.size	tuv_request_name, .Lfunc_end2dc08-tuv_request_name
 	.cantunwind
 	.fnend
 

@@ -19809,6 +19809,169 @@
 .Lfunc_end2f8f8:
 	.size	"tuvaddri_c::name::write_name_in", .Lfunc_end2f8f8-"tuvaddri_c::name::write_name_in"
 
+	.section	".text.tuvaddri_c::name::write_server_in","ax",@progbits
+	.p2align	4
+	.type	"tuvaddri_c::name::write_server_in",@function
+"tuvaddri_c::name::write_server_in":
+	pushq	%rbx
+	subq	$224, %rsp
+	movq	%rdx, %rbx
+	movq	%rsi, %rdx
+	movq	%rdi, %rsi
+	xorps	%xmm0, %xmm0
+	movaps	%xmm0, 32(%rsp)
+	movaps	%xmm0, 16(%rsp)
+	movaps	%xmm0, (%rsp)
+	movq	%rsp, %rdi
+	callq	"eap_packet::packet::decode"
+	cmpb	$1, (%rsp)
+	je	.LBBe6481_6
+	cmpb	$0, 8(%rsp)
+	jne	.LBBe6481_6
+	movq	16(%rsp), %rsi
+	movq	24(%rsp), %rdx
+	movzbl	10(%rsp), %eax
+	cmpl	$51, %eax
+	je	.LBBe6481_7
+	cmpl	$47, %eax
+	jne	.LBBe6481_6
+	xorps	%xmm0, %xmm0
+	movaps	%xmm0, 112(%rsp)
+	movaps	%xmm0, 96(%rsp)
+	movaps	%xmm0, 80(%rsp)
+	movaps	%xmm0, 64(%rsp)
+	movaps	%xmm0, 48(%rsp)
+	leaq	48(%rsp), %rdi
+	callq	"psk_messages::reading::read_psk_message"
+	movzbl	56(%rsp), %eax
+	orb	48(%rsp), %al
+	jne	.LBBe6481_6
+	movq	80(%rsp), %rsi
+	movq	88(%rsp), %rax
+	movq	%rbx, %rdx
+	subq	%rsi, %rdx
+	cmpq	%rax, %rdx
+	jae	.LBBe6481_28
+.LBBe6481_10:
+	xorl	%ecx, %ecx
+	cmpq	$4, %rax
+	jb	.LBBe6481_21
+	cmpq	$32, %rdx
+	jb	.LBBe6481_21
+	cmpq	$32, %rax
+	jae	.LBBe6481_14
+	xorl	%ecx, %ecx
+	jmp	.LBBe6481_18
+.LBBe6481_6:
+	xorl	%eax, %eax
+.LBBe6481_26:
+	addq	$224, %rsp
+	popq	%rbx
+	retq
+.LBBe6481_7:
+	xorps	%xmm0, %xmm0
+	movaps	%xmm0, 192(%rsp)
+	movaps	%xmm0, 176(%rsp)
+	movaps	%xmm0, 160(%rsp)
+	movaps	%xmm0, 144(%rsp)
+	movaps	%xmm0, 128(%rsp)
+	movaps	%xmm0, 112(%rsp)
+	movaps	%xmm0, 96(%rsp)
+	movaps	%xmm0, 80(%rsp)
+	movaps	%xmm0, 64(%rsp)
+	movaps	%xmm0, 48(%rsp)
+	movq	$0, 208(%rsp)
+	leaq	48(%rsp), %rdi
+	xorl	%ecx, %ecx
+	xorl	%r8d, %r8d
+	callq	"gpsk_messages::reading::read_gpsk_message"
+	movzbl	56(%rsp), %eax
+	orb	48(%rsp), %al
+	jne	.LBBe6481_27
+	movq	64(%rsp), %rsi
+	movq	72(%rsp), %rax
+	movq	%rbx, %rdx
+	subq	%rsi, %rdx
+	cmpq	%rax, %rdx
+	jb	.LBBe6481_10
+.LBBe6481_28:
+	movq	%rbx, %rdi
+	movq	%rax, %rdx
+	movq	%rax, %rbx
+	callq	memmove@PLT
+	movq	%rbx, %rax
+	addq	$224, %rsp
+	popq	%rbx
+	retq
+.LBBe6481_27:
+	xorl	%eax, %eax
+	addq	$224, %rsp
+	popq	%rbx
+	retq
+.LBBe6481_14:
+	movq	%rax, %rcx
+	andq	$-32, %rcx
+	xorl	%edx, %edx
+	.p2align	4
+.LBBe6481_15:
+	movups	(%rsi,%rdx), %xmm0
+	movups	16(%rsi,%rdx), %xmm1
+	movups	%xmm0, (%rbx,%rdx)
+	movups	%xmm1, 16(%rbx,%rdx)
+	addq	$32, %rdx
+	cmpq	%rdx, %rcx
+	jne	.LBBe6481_15
+	cmpq	%rcx, %rax
+	je	.LBBe6481_26
+	testb	$28, %al
+	je	.LBBe6481_21
+.LBBe6481_18:
+	movq	%rcx, %rdx
+	movq	%rax, %rcx
+	andq	$-4, %rcx
+	.p2align	4
+.LBBe6481_19:
+	movl	(%rsi,%rdx), %edi
+	movl	%edi, (%rbx,%rdx)
+	addq	$4, %rdx
+	cmpq	%rdx, %rcx
+	jne	.LBBe6481_19
+	cmpq	%rcx, %rax
+	je	.LBBe6481_26
+.LBBe6481_21:
+	movq	%rax, %rdi
+	movq	%rcx, %rdx
+	andq	$3, %rdi
+	je	.LBBe6481_24
+	movq	%rcx, %rdx
+	.p2align	4
+.LBBe6481_23:
+	movzbl	(%rsi,%rdx), %r8d
+	movb	%r8b, (%rbx,%rdx)
+	incq	%rdx
+	decq	%rdi
+	jne	.LBBe6481_23
+.LBBe6481_24:
+	subq	%rax, %rcx
+	cmpq	$-4, %rcx
+	ja	.LBBe6481_26
+	.p2align	4
+.LBBe6481_25:
+	movzbl	(%rsi,%rdx), %ecx
+	movb	%cl, (%rbx,%rdx)
+	movzbl	1(%rsi,%rdx), %ecx
+	movb	%cl, 1(%rbx,%rdx)
+	movzbl	2(%rsi,%rdx), %ecx
+	movb	%cl, 2(%rbx,%rdx)
+	movzbl	3(%rsi,%rdx), %ecx
+	movb	%cl, 3(%rbx,%rdx)
+	addq	$4, %rdx
+	cmpq	%rdx, %rax
+	jne	.LBBe6481_25
+	jmp	.LBBe6481_26
+.Lfunc_ende6481:
+	.size	"tuvaddri_c::name::write_server_in", .Lfunc_ende6481-"tuvaddri_c::name::write_server_in"
+
 	.section	.text.tuv_backend_begin,"ax",@progbits
 	.globl	tuv_backend_begin
 	.p2align	4
@@ -25317,6 +25480,68 @@ tuv_response_name:
 	retq
 .Lfunc_end575ed:
 	.size	tuv_response_name, .Lfunc_end575ed-tuv_response_name
+
+	.section	.text.tuv_request_name,"ax",@progbits
+	.globl	tuv_request_name
+	.p2align	4
+	.type	tuv_request_name,@function
+tuv_request_name:
+	pushq	%r15
+	pushq	%r14
+	pushq	%r13
+	pushq	%r12
+	pushq	%rbx
+	subq	$1568, %rsp
+	movq	%rdx, %rbx
+	movq	%rsi, %r14
+	xorl	%r15d, %r15d
+	testq	%rdi, %rdi
+	sete	%r15b
+	shll	$12, %r15d
+	addq	%rdi, %r15
+	xorps	%xmm0, %xmm0
+	movaps	%xmm0, 32(%rsp)
+	movaps	%xmm0, 16(%rsp)
+	movaps	%xmm0, (%rsp)
+	movq	%rsp, %rdi
+	movq	%r15, %rsi
+	movq	%r14, %rdx
+	callq	"eap_packet::packet::decode"
+	cmpb	$1, (%rsp)
+	jne	.LBB2dc08_2
+	xorl	%eax, %eax
+	jmp	.LBB2dc08_6
+.LBB2dc08_2:
+	leaq	8(%rsp), %r12
+	leaq	56(%rsp), %r13
+	movl	$1512, %edx
+	movq	%r13, %rdi
+	xorl	%esi, %esi
+	callq	memset@PLT
+	movq	%r12, %rdi
+	movq	%r13, %rsi
+	callq	"eap_packet::expanded::write_plain"
+	testb	%al, %al
+	je	.LBB2dc08_4
+	movq	1560(%rsp), %rsi
+	leaq	56(%rsp), %rdi
+	jmp	.LBB2dc08_5
+.LBB2dc08_4:
+	movq	%r15, %rdi
+	movq	%r14, %rsi
+.LBB2dc08_5:
+	movq	%rbx, %rdx
+	callq	"tuvaddri_c::name::write_server_in"
+.LBB2dc08_6:
+	addq	$1568, %rsp
+	popq	%rbx
+	popq	%r12
+	popq	%r13
+	popq	%r14
+	popq	%r15
+	retq
+.Lfunc_end2dc08:
+	.size	tuv_request_name, .Lfunc_end2dc08-tuv_request_name
 
 	.type	.Lstatic.0,@object
 	.section	.rodata..Lstatic.0,"a",@progbits
