@@ -57,7 +57,7 @@ struct tuv_octets {
 #endif
 
 /* What an end is told.  `size` is sizeof(struct tuv_settings), and nothing behind
- * so many octets is read: a program whose struct is an older one goes on working.
+ * that many octets is read: a program whose struct is an older one goes on working.
  * A field that is 0, or has no octets, has the default that is written beside it
  * (no octets may be a null pointer). */
 struct tuv_settings {
@@ -305,13 +305,13 @@ size_t tuv_end_session_id_wpa(struct tuv_end *end,
 /* Why the login has failed. */
 struct tuv_failure tuv_end_failure(struct tuv_end *end);
 
-/* Octets come: to a peer, to a stand-alone server that has started, or to a
- * backend. */
+/* Delivers a received packet to a peer, to a stand-alone server that has started,
+ * or to a backend. */
 struct tuv_turn tuv_end_deliver(struct tuv_end *end, const uint8_t *octets,
 				size_t len);
 
-/* The same of a peer alone, and of a stand-alone server or a backend alone; at any
- * other end they are misplaced.  A program that calls of tuv_.._deliver,
+/* As tuv_end_deliver, for a peer alone, and for a stand-alone server or a backend
+ * alone; at any other end they are misplaced.  A program that calls of tuv_.._deliver,
  * tuv_.._restart and tuv_.._report those of one role, and is linked by
  * -Wl,--gc-sections, has no code of the other. */
 struct tuv_turn tuv_peer_deliver(struct tuv_end *end, const uint8_t *octets,
@@ -333,7 +333,8 @@ struct tuv_turn tuv_server_deliver(struct tuv_end *end, const uint8_t *octets,
 struct tuv_turn tuv_end_restart(struct tuv_end *end,
 				const uint8_t nonce[TUV_NONCE_LEN]);
 
-/* The same of a peer alone, and of a stand-alone server or a backend alone. */
+/* As tuv_end_restart, for a peer alone, and for a stand-alone server or a backend
+ * alone. */
 struct tuv_turn tuv_peer_restart(struct tuv_end *end,
 				 const uint8_t nonce[TUV_NONCE_LEN]);
 struct tuv_turn tuv_server_restart(struct tuv_end *end,
@@ -373,8 +374,8 @@ uint8_t tuv_backend_begin(struct tuv_end *end,
 
 /* Gives a stand-alone server or a backend its one user: `other`, the keys and
  * `barred` of the settings, in place of the user that it had; of the others `size`
- * alone counts.  At any time: the user counts from the next Response on.  It
- * answers as a begin, and 0 if it has taken the user. */
+ * alone counts.  It may be called at any time, and takes effect with the next
+ * Response.  It answers as a begin, and 0 if it has taken the user. */
 uint8_t tuv_server_user(struct tuv_end *end, const struct tuv_settings *settings);
 
 /* --- the pass-through (section 7) --- */
@@ -446,17 +447,17 @@ struct tuv_method_turn tuv_server_method_handle(struct tuv_end *end,
 
 /* --- written in C --- */
 
-/* Clears so many octets of the stack below the caller, and the vector registers that
+/* Clears that many octets of the stack below the caller, and the vector registers that
  * a call needn't keep: in both the calls above have left octets of keys.  After the
  * last call of a login, in the thread that made it, from no deeper than the calls were
- * made; of at least TUV_STACK_MAX octets, and so many more as the calls were made
+ * made; of at least TUV_STACK_MAX octets, and as many more as the calls were made
  * deeper than this one is.  A signal leaves what a call had in registers on the stack
  * of its handler: on one of its own (sigaltstack) this clears nothing.  Block signals
  * from the first call to the clear, or clear that stack too. */
 void tuv_clear_stack_of(size_t octets);
 
-/* The same of TUV_STACK_MAX octets: for the function that made the calls, or one above
- * it, if the frames of both and of all between have at most 2,000 octets. */
+/* Clears TUV_STACK_MAX octets, as above: for the function that made the calls, or one
+ * above it, if the frames of both and of all between have at most 2,000 octets. */
 void tuv_clear_stack(void);
 
 /* Whether the processor has what the library was built for (README.md). */
