@@ -165,17 +165,31 @@ class Page:
             done = self.station(self.as_another(conf, it))
             is_refused = not done.is_good and self.last("refused .* reason=(no-key|bad-packet)")
             self.that(f"{name}: {user}'s key is none of {ascii(it)}", bool(is_refused), done.said)
+        self.blank_inside(name, user, conf)
         self.store(name, row(name, user, "Auth-Type", ":=", "Reject"))
         done = self.station(conf)
         self.that(f"{name}: {user} is barred", not done.is_good and bool(self.last("reason=barred: ")), done.said)
 
+    def blank_inside(self, name: str, user: str, conf: str) -> None:
+        """By inner_identity a name inside that the store may take for the user's."""
+        method = servers.RADDB / "mods-available/tuvaddri"
+        text = method.read_text()
+        servers.edit(method, ("^#\tinner_identity = no", "\tinner_identity = yes"))
+        subprocess.run(["systemctl", "restart", "freeradius"], check=True)
+        for inside, is_good in ((user, True), (f"{user} ", False)):
+            done = self.station(self.as_another(conf, inside, "anonymous"))
+            is_so = done.is_good == is_good and self.last("proved user=" if is_good else "reason=rejected: .*whitespace")
+            self.that(f"{name}: {user}'s key by the name {inside!r} inside", bool(is_so), done.said)
+        method.write_text(text)
+        subprocess.run(["systemctl", "restart", "freeradius"], check=True)
+
     def key(self, conf: str) -> str:
         return re.findall("\tpassword=(.*)", (PLACE / conf).read_text())[0]
 
-    def as_another(self, conf: str, name: str) -> str:
-        """A network with the key of another one, and this name."""
-        told = re.sub("\tidentity=.*", f"\tidentity={name.encode().hex()}", (PLACE / conf).read_text())
-        (PLACE / "another.conf").write_text(told)
+    def as_another(self, conf: str, name: str, outside: str = "") -> str:
+        """A network with the key of another one, and this name, which perhaps isn't that outside."""
+        told = f"\tidentity={name.encode().hex()}" + (f'\n\tanonymous_identity="{outside}"' if outside else "")
+        (PLACE / "another.conf").write_text(re.sub("\tidentity=.*", told, (PLACE / conf).read_text()))
         return "another.conf"
 
     def closed(self) -> None:
