@@ -104,7 +104,7 @@ struct session {
 	char		*user, *place;	/* as in the log; and */
 	char		*port;		/* where at its client: children of the handler */
 	char const	*text;		/* of the last BAD_PACKET */
-	char		*why;		/* what the virtual server has against the login: a child of the handler */
+	char const	*why;		/* what the virtual server has against the login: a child of the handler */
 	uint32_t	discards, timer_expire;
 	int		trips;		/* the handler's, when the module was asked last */
 	int		key, keys;	/* the key that serves, of how many */
@@ -603,6 +603,8 @@ static enum reason ask_for(REQUEST **asked, struct session *s, struct settings c
 	if (it->virtual_server) inner->server = it->virtual_server;
 	code = process_authorize(0, inner);
 	s->why = failure_of(s->handler, inner);
+	/* (so answers expiration, which has words of its own, and logintime, which has none) */
+	if (!s->why && code == RLM_MODULE_USERLOCK) s->why = "not within the user's Login-Time";
 	if (is_barred(inner)) return BARRED;
 	if (code == RLM_MODULE_REJECT || code == RLM_MODULE_USERLOCK) return REJECTED;
 	return code == RLM_MODULE_FAIL || code == RLM_MODULE_INVALID ? NO_STORE : PROVED;
