@@ -166,6 +166,8 @@ class Page:
             is_refused = not done.is_good and self.last("refused .* reason=(no-key|bad-packet)")
             self.that(f"{name}: {user}'s key is none of {ascii(it)}", bool(is_refused), done.said)
         self.blank_inside(name, user, conf)
+        if name == "LDAP":
+            self.shown(conf)
         self.store(name, row(name, user, "Auth-Type", ":=", "Reject"))
         done = self.station(conf)
         self.that(f"{name}: {user} is barred", not done.is_good and bool(self.last("reason=barred: ")), done.said)
@@ -182,6 +184,14 @@ class Page:
             self.that(f"{name}: {user}'s key by the name {inside!r} inside", bool(is_so), done.said)
         method.write_text(text)
         subprocess.run(["systemctl", "restart", "freeradius"], check=True)
+
+    def shown(self, conf: str) -> None:
+        """-X prints keys of LDAP, as the page says."""
+        subprocess.run(["systemctl", "stop", "freeradius"], check=True)
+        with servers.Server(str(PLACE), "debug", ["freeradius", "-X"], servers.READY) as server:
+            done = self.station(conf)
+        self.that("-X prints keys of LDAP", done.is_good and bool(servers.keys_in(server.text())), done.said)
+        subprocess.run(["systemctl", "start", "freeradius"], check=True)
 
     def key(self, conf: str) -> str:
         return re.findall("\tpassword=(.*)", (PLACE / conf).read_text())[0]
