@@ -1,15 +1,15 @@
 /* Logs many users in over RADIUS, by the library's peer, and compares the link keys that come with the peer's MSK.
  *
- *	load PORT SECRET KIND SUITE LOGINS AT_ONCE USERS [THREADS [ALTERED]]
+ *	load PORT SECRET KIND SUITE LOGINS AT_ONCE USERS [THREADS [ALTERED [STATION]]]
  *	load begin PORT SECRET KIND SUITE LOGINS AT_ONCE USERS [STATIONS [TYPE OCTET]]
  *	load keys FORM USERS
  *
  * The server is at 127.0.0.1; the users are user0, user1, .., with the keys that the last form writes, for `users` of
  * FreeRADIUS (freeradius), for SQL (sql), or for hostapd's eap_user_file (gpsk, psk). Of a hundred EAP packets of a
- * method ALTERED have one octet altered. Each login has a Calling-Station-Id of its own. With `begin` each login stops at
- * the method's first Request, and is left open; they come from as many STATIONS, by default from as many as there are
- * logins, and from none of the other form. With a TYPE that Request is answered by a Response of this Type with one octet,
- * a Nak (3) to the method of this number, say, and no answer is waited for.
+ * method ALTERED have one octet altered. Each login has a Calling-Station-Id of its own, or all have that of STATION. With
+ * `begin` each login stops at the method's first Request, and is left open; they come from as many STATIONS, by default from
+ * as many as there are logins, and from none of the other form. With a TYPE that Request is answered by a Response of this
+ * Type with one octet, a Nak (3) to the method of this number, say, and no answer is waited for.
  *
  * The line at the end has, after the counts and the rate, load's own processor time, and in milliseconds the median of
  * a login, what 99 of a hundred stay below, and the longest. The status is 0 where all are good. */
