@@ -244,11 +244,11 @@ class Page:
 
     def keys_end(self) -> None:
         """Expiration, with its Session-Timeout."""
-        for day, ends in (("1 Jan 2020", True), ("1 Jan 2037", False)):
+        for day, is_over in (("1 Jan 2020", True), ("1 Jan 2037", False)):
             self.store("PostgreSQL", row("PostgreSQL", "carol", "Expiration", ":=", day))
             done = self.station("more/carol.conf")
-            told = self.last('reason=rejected: "expiration: ') if ends else re.search("(Session-Timeout)", done.said)
-            self.that(f"Expiration on {day}", done.is_good != ends and bool(told), done.said)
+            told = self.last('reason=rejected: "expiration: ') if is_over else re.search("(Session-Timeout)", done.said)
+            self.that(f"Expiration on {day}", done.is_good != is_over and bool(told), done.said)
             self.store("PostgreSQL", row("PostgreSQL", "carol", "Expiration", ":=", day, verb="delete"))
 
     def ask(self, user: str, password: str, more: str = "Message-Authenticator = 0x00") -> str:

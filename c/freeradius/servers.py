@@ -318,7 +318,7 @@ def flood(work: str, named: str, count: int, at_once: int = 100) -> Load:
     return load(work, "GPSK 1", count, at_once, *((count, *words) if words else ()), begins=True)
 
 
-def load(work: str, method: str, count: int, at_once: int, *words: int, begins: bool = False) -> Load:
+def load(work: str, method: str, count: int, at_once: int, *words: object, begins: bool = False) -> Load:
     """Logins by load, by a method with its suite, or such as are only begun; the words are those behind the users."""
     name, _, suite = method.partition(" ")
     told = (ways.TYPES[name], suite or 0, count, at_once, USERS, *words)
