@@ -75,9 +75,23 @@ unsigned int user_after;
 bool keys_agree;
 static unsigned long calls, logins, again, discarded, misplaced, refused, failed;
 static uint64_t state;
+/* What is drawn first: a fuzzer's input (fuzz/library.c), or nothing. */
+static const uint8_t *input;
+static size_t input_len;
+
+static uint32_t of_input(uint32_t below)
+{
+	uint32_t most, n = 0;
+
+	for (most = below - 1; most && input_len; most >>= 8, input_len--)
+		n = n << 8 | *input++;
+	return n % below;
+}
 
 static uint32_t any(uint32_t below)
 {
+	if (input_len)
+		return of_input(below);
 	state = state * 6364136223846793005u + 1442695040888963407u;
 	return (uint32_t) (state >> 33) % below;
 }

@@ -1,5 +1,6 @@
 # Builds `pairs`, for check: wpa_supplicant's and hostapd's machines with their methods and with the library's, and the
-# library's own ends. SOURCE is their unpacked source, HERE this file's folder, LIBRARY the library's.
+# library's own ends; for ../fuzz/run the `machines` alone. SOURCE is their unpacked source, HERE this file's folder, LIBRARY
+# the library's, CC the compiler.
 
 # What of their source the logins stand on.
 theirs := $(addsuffix .o,common wpabuf os_unix wpa_debug eap_common eap_gpsk_common eap_psk_common eap eap_methods \
@@ -9,9 +10,12 @@ theirs := $(addsuffix .o,common wpabuf os_unix wpa_debug eap_common eap_gpsk_com
 # What stands between their machines and the library.
 between := supplicant_peer.o hostapd_server.o peer_47.o peer_51.o server_47.o server_51.o
 ours := library_ends.o pairs.o
+CC := gcc
 
 pairs: $(theirs) $(between) $(ours)
-	gcc -O2 -Wl,--gc-sections,-z,lazy -o $@ $^ $(LIBRARY)/libtuvaddri.a
+	$(CC) -O2 -Wl,--gc-sections,-z,lazy -o $@ $^ $(LIBRARY)/libtuvaddri.a
+
+machines: $(theirs) $(between)
 
 vpath %.c $(addprefix $(SOURCE)/src/,utils eap_common eap_peer eap_server crypto) $(HERE)
 settings := -DIEEE8021X_EAPOL -DEAP_PSK -DEAP_GPSK -DEAP_GPSK_SHA256 -DEAP_SERVER -DEAP_SERVER_IDENTITY \
@@ -26,12 +30,12 @@ $(between): flags := -Wall -Werror $(settings)
 $(ours): flags := -std=c11 -Wall -Wextra -Werror -I$(HERE)/..
 
 %.o: %.c
-	gcc -O2 $(flags) -c $< -o $@
+	$(CC) -O2 $(flags) -c $< -o $@
 
 # (the library's methods have a name beside theirs)
 name_47 := psk
 name_51 := gpsk
 peer_%.o: peer_method.c
-	gcc -O2 $(flags) -DMETHOD=$* -Deap_peer_$(name_$*)_register=our_peer_$(name_$*)_register -c $< -o $@
+	$(CC) -O2 $(flags) -DMETHOD=$* -Deap_peer_$(name_$*)_register=our_peer_$(name_$*)_register -c $< -o $@
 server_%.o: server_method.c
-	gcc -O2 $(flags) -DMETHOD=$* -Deap_server_$(name_$*)_register=our_server_$(name_$*)_register -c $< -o $@
+	$(CC) -O2 $(flags) -DMETHOD=$* -Deap_server_$(name_$*)_register=our_server_$(name_$*)_register -c $< -o $@
