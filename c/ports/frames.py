@@ -1,5 +1,6 @@
-"""How deep the calls of the library go into the stack at most: by the frames that the compilers tell (-fstack-usage), along
-all calls that the objects name (there are none by address). ROOM is left for the functions of the C library.
+"""How deep the calls of the library go into the stack at most: by the frames that the compilers tell (-fstack-usage), or, for
+x86-64 and 64-bit Arm, those that the code makes, along all calls that the objects name (there are none by address). ROOM is
+left for the functions of the C library, with the 128 octets below the stack of x86-64.
 """
 
 import os
@@ -9,12 +10,21 @@ import subprocess
 ROOM = 1024
 HEAD = re.compile(r"^Relocation section '\.rela?\.text\.(.+)' at offset", re.M)
 NAMED = re.compile(r"^[0-9a-f]+ +[0-9a-f]+ (?:R_\w+) +[0-9a-f]+ +(.+?)(?: [+-] [0-9a-f]+)?$", re.M)
+# Of an object's code: where a function begins, the room that an instruction makes, of any size too, calls by a pointer, and the
+# names of addresses.
+OF_CODE = re.compile(r"^[0-9a-f]+ <(.+)>:$", re.M)
+ROOM_MADE = re.compile(r"\t(?:sub +\$|sub\tsp, sp, #|st[rp]\t.*\[sp, #-)(\w+)(?:,%rsp|\]!|(?:, lsl #(\d+))?$)", re.M)
+OF_ANY_SIZE = re.compile(r"\tsub(?: +%\w+,%rsp|\tsp, [sx]\w+, x\w+)")
+BY_POINTER = re.compile(r"\t(?:callq? +\*.*|blr\t.*)")
+ADDRESS = re.compile(r": R_\w+\t(.+?)(?:[+-]0x[0-9a-f]+)?$", re.M)
 # (gcc's names for parts and copies of a function)
 PART = re.compile(r"\.(?:part|isra|constprop|cold)\b.*$")
 # What calls itself does so for each method of an end, of which there are two.
 AGAIN = 3
 # Of machine.c: its room is what it clears, TUV_STACK_MAX or what the program says.
 CLEARS = "clear_room"
+# Of border.c: it calls by a pointer what its callers name.
+CALLS_GIVEN = "report_by"
 BY_METHODS = re.compile(
     r"(?:eap_method::(?:peer|server)_objects::(?:call_(?:peer|server)_method|start_each|offer_method)"
     r"|(?:peer|server)_machine::machine::(?:object_of|has_object)"
@@ -78,6 +88,14 @@ def deepest(frames, calls):
     return {name: depth(name, ()) for name in frames}
 
 
+def exported(frames, calls):
+    """Of each call of the library how deep it goes."""
+    if not frames or not any(calls.values()):
+        raise Unbounded("no frames or no calls are known")
+    found = deepest(frames, calls)
+    return {name: found[name] for name in found if name.startswith("tuv_") and not name.startswith("tuv_clear_stack")}
+
+
 def bounds(parts, renamed):
     """Of each call of the library how deep it goes. Parts are objects with their frames beside them (.su), the module first;
     its calls that a file of C stands before are the renamed ones."""
@@ -89,7 +107,28 @@ def bounds(parts, renamed):
             frames[known(name)] = size
         for name, named in calls_of(path).items():
             calls[known(name)] = {known(it) for it in named}
-    if not frames or not any(calls.values()):
-        raise Unbounded("no frames or no calls are known")
-    found = deepest(frames, calls)
-    return {name: found[name] for name in found if name.startswith("tuv_") and not name.startswith("tuv_clear_stack")}
+    return exported(frames, calls)
+
+
+def bounds_of_code(archive, objdump):
+    """The same of an archive for x86-64 or 64-bit Arm, by its code: each instruction of a function that makes room counts, and
+    each address that it names."""
+    said = subprocess.run([*objdump, "-drw", "--no-show-raw-insn", archive], capture_output=True, text=True, check=True).stdout
+    on_x86 = "file format elf64-x86-64" in said
+    _, *parts = OF_CODE.split(said)
+    frames, calls = {}, {}
+    for name, text in zip(parts[::2], parts[1::2]):
+        name = PART.sub("", name)
+        if (by_pointer := BY_POINTER.search(text)) and name != CALLS_GIVEN:
+            raise Unbounded(f"{name} has a `{by_pointer[0].strip()}`")
+        if OF_ANY_SIZE.search(text) and name != CLEARS:
+            raise Unbounded(f"the frame of {name} has no fixed size")
+        sizes = [int(size, 0) << int(shift or 0) for size, shift in ROOM_MADE.findall(text)]
+        frames[name] = frames.get(name, 0) + sum(sizes) + 8 * (on_x86 + len(re.findall(r"\tpush\b", text)))
+        named = {re.sub(r"^\.text\.", "", PART.sub("", it)) for it in ADDRESS.findall(text)}
+        if name in named and not BY_METHODS.fullmatch(name):
+            raise Unbounded(f"{name} calls itself")
+        calls.setdefault(name, set()).update(it for it in named if not it.startswith("."))
+    given = {it for named in calls.values() if CALLS_GIVEN in named for it in named}
+    calls.get(CALLS_GIVEN, set()).update(given - {CALLS_GIVEN})
+    return exported(frames, calls)
