@@ -42,9 +42,11 @@ class Process:
     """A program whose output goes into a file of the folder, and its limit, if nobody stops it before."""
 
     limit: Sequence[str] = ("timeout", "-k", "5", "120")
+    # When the last one began, by the clock of `time.monotonic`.
+    began = 0.0
 
     def __init__(self, folder: str, name: str, words: Sequence[str], where: Sequence[str] = ()) -> None:
-        self.name, self.log = name, f"{folder}/{name}.log"
+        self.name, self.log, Process.began = name, f"{folder}/{name}.log", time.monotonic()
         words = [*where, *self.limit, *words]
         with open(self.log, "wb") as log:
             self.process = subprocess.Popen(words, stdin=subprocess.DEVNULL, stdout=log, stderr=subprocess.STDOUT, cwd=folder)

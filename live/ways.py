@@ -6,6 +6,7 @@ from __future__ import annotations
 
 import dataclasses
 import re
+import time
 from functools import partial
 from string import Template
 from typing import Any, Callable, Dict, List, Optional, Sequence, Tuple
@@ -21,6 +22,8 @@ WRONG_KEYS = {"GPSK": bytes(range(1, 33)).hex(), "PSK": bytes(range(1, 17)).hex(
 TYPES = {"GPSK": "51", "PSK": "47"}
 # How long a login may last, in seconds.
 MOST_SECONDS = 100
+# How long it may last until somebody with a wrong key is told, with the start of his program.
+TOLD_SECONDS = 10
 # What logs say of the keys with -K -dd, and what our scripts say.
 THEIR_KEY = re.compile(r"EAP-G?PSK: (E?MSK) - hexdump\(len=64\):((?: [0-9a-f]{2}){64})")
 LINK_KEY = re.compile(r"^MS-MPPE-(Recv|Send)-Key.* - hexdump\(len=32\):((?: [0-9a-f]{2}){32})$", re.M)
@@ -233,8 +236,8 @@ def reason_against(way: str, script_words: Sequence[str]) -> Optional[str]:
 @dataclasses.dataclass
 class Outcome:
     """How both ends stand after a login: what ours has said, its state and the names of its (MSK, EMSK); what the other has
-    said, whether it succeeded, and the names of its keys; and the name of the link keys as the access point has them, None
-    where the way has none."""
+    said, whether it succeeded, and the names of its keys; the name of the link keys as the access point has them, None
+    where the way has none; and how long it was from the start of the peer's program until both had come to this."""
 
     trace: str
     state: str
@@ -243,17 +246,20 @@ class Outcome:
     is_success: bool
     their_keys: Optional[ends.Names]
     link: Optional[str]
+    seconds: float
 
 
 def log_in(way: str, folder: str, login: Login) -> Outcome:
     """A login, after which nothing of it runs on."""
     try:
         end, others, is_success = WAYS[way][0](folder, login)
+        # (the peer's program begins last)
+        seconds = time.monotonic() - Process.began
     finally:
         started.close()
     here, there = end.text(), "".join(it.text() for it in others)
     link = None if way == "hostapd-wired" else link_in(here + there)
-    return Outcome(here, *verdicts(here)[0], there, is_success, keys_in(there), link)
+    return Outcome(here, *verdicts(here)[0], there, is_success, keys_in(there), link, seconds)
 
 
 def complaints(login: Login, outcome: Outcome) -> List[str]:
@@ -264,6 +270,7 @@ def complaints(login: Login, outcome: Outcome) -> List[str]:
         "the other end succeeds" if fails else "the other end doesn't succeed": outcome.is_success != fails,
         f"our end doesn't say {login.here}": re.search(login.here, outcome.trace, re.M),
         f"the other end doesn't say {login.there}": re.search(login.there, outcome.their_text, re.M),
+        f"a wrong key is told after {outcome.seconds:.1f} s": not login.wrong_key or outcome.seconds < TOLD_SECONDS,
         "link keys come without a success": not fails or not link,
         "our end tells no keys": fails or ours,
         "the other end tells no keys": fails or theirs,

@@ -164,6 +164,7 @@ extern rlm_eap_module_t MODULE;
 static char const *fault_of(struct settings *it)
 {
 	if (tuv_version() != TUV_VERSION) return "the library isn't that of tuvaddri.h";
+	if (!tuv_processor_serves()) return "the library isn't for this processor";
 	if (strcmp(it->suites, "1") == 0) it->suites_told[0] = TUV_SUITE_CMAC;
 	else if (strcmp(it->suites, "2") == 0) it->suites_told[0] = TUV_SUITE_HMAC;
 	else if (strcmp(it->suites, "both") != 0) return "suites is 1, 2 or both";

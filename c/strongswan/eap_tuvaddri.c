@@ -554,7 +554,7 @@ plugin_t *eap_tuvaddri_plugin_create(void)
 	plugin_t *it;
 
 	if (!tuv_processor_serves()) {
-		DBG1(DBG_LIB, "eap-tuvaddri: the processor lacks what the library was built for");
+		DBG1(DBG_LIB, "eap-tuvaddri: the library isn't for this processor");
 		return NULL;
 	}
 	DBG1(DBG_LIB, "eap-tuvaddri: %s", tuv_ident);
