@@ -1,7 +1,7 @@
 /* The server and the peer of docs/EMBEDDING.md.  Under a stranger who sends one bad
  * packet each 0.3 seconds the server ends as it does in silence, after as many
- * Requests and as long; and it tells apart why a login fails.  The peer logs in each
- * time that a server asks anew.  The clock is one that `receive` sets, and heap.c is
+ * Requests and as long; and it tells apart why a login fails, a wrong key within five
+ * seconds.  The peer logs in each time that a server asks anew.  The clock is one that `receive` sets, and heap.c is
  * compiled with -Dmalloc=flood_malloc.  The exit status is 0 where all of this
  * holds. */
 #include <stdio.h>
@@ -106,6 +106,12 @@ static bool answered(const char *name, const char *key, const char *word)
 	return good;
 }
 
+static bool in_time(void)
+{
+	printf("flood: a wrong key is told after %.1f s\n", clock);
+	return clock <= 5;
+}
+
 static bool flooded(void)
 {
 	unsigned int in_silence;
@@ -185,7 +191,7 @@ int main(void)
 		return 5;
 	good = flooded() &&
 		answered("alice", "32 octets that both ends share..", NULL) &&
-		answered("alice", "32 octets, and of another one ..", "BadTag") &&
+		answered("alice", "32 octets, and of another one ..", "BadTag") && in_time() &&
 		answered("bob", "32 octets that both ends share..", "UnknownUser") &&
 		ends("", "32 octets that both ends share..", "BadName") &&
 		ends("srv", "a short key", "BadKey") &&

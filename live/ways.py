@@ -23,7 +23,7 @@ TYPES = {"GPSK": "51", "PSK": "47"}
 # How long a login may last, in seconds.
 MOST_SECONDS = 100
 # How long it may last until somebody with a wrong key is told, with the start of his program.
-TOLD_SECONDS = 10
+TOLD_SECONDS = 20
 # What logs say of the keys with -K -dd, and what our scripts say.
 THEIR_KEY = re.compile(r"EAP-G?PSK: (E?MSK) - hexdump\(len=64\):((?: [0-9a-f]{2}){64})")
 LINK_KEY = re.compile(r"^MS-MPPE-(Recv|Send)-Key.* - hexdump\(len=32\):((?: [0-9a-f]{2}){32})$", re.M)
@@ -162,7 +162,7 @@ def await_end(server: Process, other: Process, login: Login) -> None:
     """Waits for the verdict of our server, or for what it is to show where it comes to none, and then for what the real
     end makes of it."""
     server.wait_for(login.here if login.unheard else "^login 1 ", MOST_SECONDS)
-    if login.state in ("SUCCESS", "FAILURE"):
+    if login.state in ("SUCCESS", "FAILURE") or login.wrong_key:
         other.wait_for("EAP: EAP entering state (SUCCESS|FAILURE)", MOST_SECONDS)
     else:
         # (of a success that must not come nothing tells when to look)
