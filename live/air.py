@@ -9,6 +9,8 @@ import re
 from pathlib import Path
 from typing import Any, Dict, List, Mapping, Tuple
 
+import ends
+import programs
 from guest import Guest
 from ways import KEYS
 
@@ -120,6 +122,29 @@ class Air:
     def pings(self, count: int = 2) -> bool:
         self.station("ip addr add 10.9.0.2/24 dev wlan2 2>/dev/null")
         return f"{count} packets received" in self.station(f"ping -c {count} -i 0.2 -W 5 10.9.0.1")
+
+    def record(self) -> None:
+        """Begins to record the air: what comes behind it is recorded."""
+        # (the log of an earlier recording would say too soon that it listens; the buffer holds all frames of a row)
+        self.guest.run("rm -f /tmp/air.pcap /tmp/tcpdump.log; ip link set hwsim0 up")
+        self.guest.run("tcpdump -Z root -i hwsim0 -B 8192 -U -w /tmp/air.pcap 2>/tmp/tcpdump.log & echo $! >/run/tcpdump.pid")
+        if not self.guest.wait("grep -q \"listening on\" /tmp/tcpdump.log"):
+            raise ends.Failed(f"the air isn't recorded: {self.guest.output('cat /tmp/tcpdump.log')}")
+
+    def recorded(self) -> str:
+        """Ends the recording, air.pcap in the folder shared, once it has the last frame of a station that was stopped; says what it
+        lacks. (tcpdump comes to a frame up to a second late, and not at all if it is ended before.)"""
+        last = f"type mgt subtype deauth and wlan addr2 {STATION}"
+        has_last = self.guest.wait(f"tcpdump -Z root -r /tmp/air.pcap {last} 2>/dev/null | grep -q .")
+        self.guest.run("kill $(cat /run/tcpdump.pid); wait $(cat /run/tcpdump.pid); cp /tmp/air.pcap /share/air.pcap")
+        there = programs.answer(["tcpdump", "--count", "-r", f"{self.guest.share}/air.pcap"])[1]
+        told = f"{self.guest.output('cat /tmp/tcpdump.log')}\n{there}"
+        count = {what: int(it) for it, what in re.findall("^([0-9]+) packets?( captured| dropped by kernel|)$", told, re.M)}
+        if not has_last:
+            return "the recording lacks the station's last frame"
+        if count.get(" dropped by kernel"):
+            return f"the recorder lost {count[' dropped by kernel']} frames"
+        return f"the recording has {count.get('')} of {count.get(' captured')} frames" if count.get("") != count.get(" captured") else ""
 
     def logs(self) -> Tuple[str, str]:
         return self.guest.output("cat /tmp/ap.log"), self.guest.output("cat /tmp/sta.log")
