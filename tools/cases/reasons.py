@@ -18,7 +18,7 @@ from unittest import mock
 from cases.lib import wire
 from cases.lib.small import Run, holds
 from cases.lib.wire import GROUP, KEY, OTHER_KEY, START, SWITCH, Item, Login, altered, eap
-from lib import listening, observed, reasons, stories
+from lib import frames, listening, observed, reasons, stories
 from lib.cases import spelled
 from lib.machines import CHOICES, Token
 
@@ -164,6 +164,7 @@ def files() -> Iterator[tuple[str, bytes, str, str]]:
     yield "RADIUS is down", wire.pcap(framed(asked, 3.0, asked)), "radius silent, radius down", key
     yield "RADIUS, one request", wire.pcap(framed(asked)), "radius silent, ended", key
     yield from replies()
+    yield from handshakes()
     first, answer, *_ = wire.by_radius([GOOD.named, GOOD.gpsk1])
     ignored = wire.radius(11, 2, GOOD.gpsk1, (101, struct.pack(">I", 202)))
     last = [wire.radius(1, 3, BAD.gpsk2), wire.radius(3, 3, FAILURE)]
@@ -212,6 +213,26 @@ def replies() -> Iterator[tuple[str, bytes, str, str]]:
              "rejected, client again, copy"),
             ("a Logoff", [*GOOD.whole[:4], (STATION_FRAME, bytes.fromhex("01020000")), 1.0, *LOGINS["later"].whole], "logoff, good")):
         yield name, wire.pcap(framed(*items)), wanted, key
+
+
+def handshakes() -> Iterator[tuple[str, bytes, str, str]]:
+    """What a radio heard of logins at hostapd 2.10 by a wpa_supplicant 2.10 with the library's methods, with a 4-way handshake behind
+    each; and such handshakes altered, cut, and put behind another login."""
+    key = f"alice@example.org 51 {KEY.hex()} psk@example.org 47 {KEY[:16].hex()}"
+    heard = [(it.at, it.frame) for it in frames.of_file(io.BytesIO(Path("tools/cases/handshakes.pcap").read_bytes()))[1]]
+    # (of each its seven EAP packets, and the four messages)
+    logins = [heard[at : at + 11] for at in range(0, len(heard), 11)]
+    for name, its in zip(("1", "1 again", "5", "12"), logins):
+        yield f"Wi-Fi, AKM {name}", wire.pcap(its, link=127), "good, pmk", key
+    (*front, one, two, three, four), other, *_ = logins
+    of_ft = (two[0], two[1].replace(bytes.fromhex("000fac04" "0100" "000fac01"), bytes.fromhex("000fac04" "0100" "000fac03")))
+    for name, its, wanted in (
+            ("another PMK at the access point", [*front, one, two, one, two], "good, other pmk at ap"),
+            ("another PMK at the station", [*front, one, (two[0], altered(two[1], -1))], "good, other pmk at station"),
+            ("the keys of another login", [*front, *other[-4:]], "good, pmk of both"),
+            ("the keys of another login, not taken", [*front, *other[-4:-2]], "good, other pmk at station"),
+            ("FT", [*front, one, of_ft, three, four], "good, akm")):
+        yield f"Wi-Fi, {name}", wire.pcap(its, link=127), wanted, key
 
 
 def without(item: tuple[bytes, bytes]) -> tuple[bytes, bytes]:

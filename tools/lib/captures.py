@@ -73,7 +73,7 @@ class Packets:
 class Capture:
     """Packets in their order; the users, as the words NAME, KIND and KEY; what the text says of itself; the station, its
     access point, and what was left out of a file. Of frames without a whole EAP packet: those that are cut, by number, octets kept and octets
-    on the wire, how many EAPOL-Keys, the EAPOL-Starts and the EAPOL-Logoffs, by number and time, and how many other ones of several stations can be
+    on the wire, the EAPOL-Keys by number, the EAPOL-Starts and the EAPOL-Logoffs, by number and time, and how many other ones of several stations can be
     of this one; the numbers of all frames, with the file's first capture those that came at another interface again, and the
     time of its last; and the numbers of the last EAPOL-Keys, which the station didn't answer. Over RADIUS `parts` has the places of the packets of each login, and `facts` what is certain of a packet by
     the others around it, by its number: a choice and its words."""
@@ -85,7 +85,7 @@ class Capture:
     other: str = ""
     notes: list[str] = field(default_factory=list)
     cut: list[tuple[int, int, int]] = field(default_factory=list)
-    keys: int = 0
+    keys: list[tuple[int, bytes]] = field(default_factory=list)
     starts: list[tuple[int, float]] = field(default_factory=list)
     logoffs: list[tuple[int, float]] = field(default_factory=list)
     parts: list[list[int]] = field(default_factory=list)
@@ -151,7 +151,7 @@ def of_packets(octets: bytes) -> Capture:
 @dataclass
 class Reading:
     """What is read of a file: the EAPOL frames in columns, each with its flow, which is to whom and by whom it goes, and
-    with its EAP packet; the kinds of those without; the RADIUS packets; of what is cut the octets kept and on the wire, by
+    with its EAP packet; the kinds of those without, and the EAPOL-Keys; the RADIUS packets; of what is cut the octets kept and on the wire, by
     the record's number; and what is left out."""
 
     packets: Packets = field(default_factory=Packets)
@@ -160,6 +160,7 @@ class Reading:
     votes: list[int] = field(default_factory=list)
     of_flow: array[int] = field(default_factory=lambda: array("i"))
     kinds: dict[int, int] = field(default_factory=dict)
+    keys: dict[int, bytes] = field(default_factory=dict)
     radius: Packets = field(default_factory=Packets)
     cut: dict[int, tuple[int, int]] = field(default_factory=dict)
     left: Counter[str] = field(default_factory=Counter)
@@ -218,6 +219,7 @@ class Reading:
         eap = payload[4 : 4 + size] if kind == 0 else b""
         if kind:
             self.kinds[len(self.of_flow)] = kind
+            self.keys.update({len(self.of_flow): payload} if kind == frames.KEY else {})
             self.votes[flow] += kind in (frames.START, frames.LOGOFF)
         elif len(eap) < size or len(payload) < 4 or size > MOST_OCTETS:
             self.cut[record.number] = len(record.frame), record.wire
@@ -286,7 +288,7 @@ class Reading:
             elif at not in self.kinds:
                 packets.append(number, bool(whole.ways[at]), whole.octets[at], whole.times[at])
             elif self.kinds[at] == frames.KEY:
-                found.keys += 1
+                found.keys.append((number, self.keys[at]))
                 is_answer = self.sources[self.of_flow[at]] == station
                 found.unanswered = [] if is_answer else [*found.unanswered[-MOST_WAITING:], number]
             elif self.kinds[at] in (frames.START, frames.LOGOFF):
@@ -466,7 +468,7 @@ def starts_said(it: Capture) -> str:
 
 
 def keys_note(it: Capture) -> str:
-    return (f"station {it.station} exchanged keys with {it.other} ({it.keys} EAPOL-Keys) without EAP: both have a key already, as by "
+    return (f"station {it.station} exchanged keys with {it.other} ({len(it.keys)} EAPOL-Keys) without EAP: both have a key already, as by "
             "a password of Wi-Fi (WPA-PSK) or from an earlier login, or the login is before the capture")
 
 

@@ -5,9 +5,10 @@ from __future__ import annotations
 
 import re
 from collections import Counter
+from functools import cached_property
 from typing import Callable, Iterable, Iterator, Optional, Sequence
 
-from lib import frames, macs, observed, packets, tls, words, worlds
+from lib import frames, handshake, macs, observed, packets, tls, words, worlds
 from lib.captures import Capture
 from lib.common import grouped
 from lib.ladder import Ladder, Row
@@ -79,6 +80,17 @@ class Login:
         """Whether a frame that an alternative has from elsewhere is sent by its end in another that is said."""
         of_groups = [[any(it.place == frame.place and it.name in NOT_SENT for it in its) for its in group[:2]] for group in self.found.groups]
         return any(any(it) and (len(it) == 1 or not all(it)) for it in of_groups)
+
+    @cached_property
+    def pmk(self) -> Optional[handshake.Judged]:
+        """What the 4-way handshake behind a Success says of the PMK, where the user's key is known."""
+        second = next((it.read for it in reversed(self.own) if it.message in SECOND), None)
+        if not second or not self.end or self.end.message != "Success":
+            return None
+        key = next((key for user, kind, key in self.capture.users if (user, kind) == (second.user, second.kind)), "")
+        behind = (it for it in self.capture.keys if it[0] > self.end.number and (not self.found.next or it[0] < self.found.next))
+        keys, ends = [handshake.Key(*it) for it in behind], (self.capture.station, self.capture.other)
+        return handshake.judged(keys, handshake.msk_of(second, key), [bytes.fromhex(it.replace("-", "")) for it in ends]) if key and keys else None
 
     def is_whole(self) -> bool:
         """Whether what isn't among the frames isn't in the capture either."""
@@ -334,6 +346,8 @@ def of_keys(login: Login) -> Iterator[Reason]:
     numbers = [it for it in login.capture.unanswered if it > end.number and (following is None or it < following)]
     if len(numbers) > 1:
         yield Reason(None, said("keys", count=len(numbers), first=numbers[0], last=numbers[-1]))
+    if login.pmk:
+        yield Reason(None, login.say(login.pmk.name, akm=login.pmk.akm), f"packet {login.pmk.number}, message 2 of the 4-way handshake")
 
 
 def of_others(login: Login) -> Iterator[Reason]:
@@ -391,6 +405,8 @@ def story_of(login: Login, nonces: Nonces, is_brief: bool = False) -> Story:
     verdict, end = verdict_of(login), login.end
     if has_nonce:
         verdict = verdict.replace(said("verdict Success"), said("verdict nonce"))
+    if login.pmk and login.pmk.name in handshake.FAULTS:
+        verdict = verdict.replace(said("verdict Success"), said(f"verdict {login.pmk.name}"))
     is_odd = verdict != said("verdict Success")
     words_found = {it.word for it in login.own} & {"tag-good", "tag-bad", "malformed"}
     failed = next((it for it in login.own if "Failure-Code" in it.read.number and it.is_down), None) if not end else end
