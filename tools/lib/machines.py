@@ -7,14 +7,13 @@ from dataclasses import dataclass, field
 from typing import Iterator, NamedTuple, Optional
 
 from lib import words
+from lib.limits import ALIKE, SEEN
 from lib.observed import ENDS, Frame, is_near
 from lib.packets import ECHOES, FIRST, THIRD
 
 # Seconds: within which a frame is captured or sent twice, or one has overtaken another; after which an end sends again, gives up
 # waiting, or begins another login; and how long an EAPOL-Start is answered.
 DOUBLED, ORDERED, TIMER, GIVES_UP, SOON, ANSWERED = 0.25, 0.012, 0.6, 2.0, 0.05, 5.0
-# How many frames of a world are remembered, and how far those are that differ in few octets.
-SEEN, ALIKE = 24, 12
 FAILS = ("GPSK-Fail", "GPSK-Protected-Fail")
 MALFORMED = ("tag-bad", "malformed")
 

@@ -9,19 +9,18 @@ from dataclasses import dataclass
 from typing import Iterator, Optional, Sequence
 
 from lib.captures import Capture
-from lib.machines import ALIKE, CHOICES, FAILS, NOBODY, ORDERED, Next, Tap, Token, Way, World, token
+from lib.limits import AHEAD, ALIKE, ALONE, BACK, BEGINS, BEST, CLOSE, ENDLESS, EQUAL, LONG, MOST, ODD, ONE, SEEN, TOO_MUCH, WORSE
+from lib.machines import CHOICES, FAILS, NOBODY, ORDERED, Next, Tap, Token, Way, World, token
 from lib.observed import ENDS, Frame
 
-# One more; by how much worlds may cost more that keep a login open; how much more it is searched for before one that begins at once
-# behind it; the worlds of one state and of all that are followed, and by how much they may cost more than the best; frames taken
-# ahead and held back; the cost above which the best worlds alone are followed, and how many; the frames of a login behind which
-# fewer are, and behind which it is told in parts; the begins that a world remembers.
-ONE, CLOSE, ODD, EQUAL, MOST, WORSE, AHEAD, BACK, TOO_MUCH, BEST = 2, 6, 8, 6, 48, 12, 10, 3, 40, 6
-LONG, ALONE, ENDLESS, BEGINS = 200, 2, 2000, 16
 # Faults of the capture itself; and what a packet says whatever the capture lacks.
 FAULTS = ("order", "uncaptured", "twice")
 OF_PACKET = ("twice", "copy", "same-nonces", "wrong-key", "given-key", "other-key", "ends-method", "ends", "peer-ends", "logoff",
              "rejected", "other-address")
+
+
+# The ways in which a frame can come next, each with what it costs, and the world behind it where that was asked for.
+Ways = list[tuple[int, Way, list[World]]]
 
 
 @dataclass
@@ -49,6 +48,8 @@ class Search:
         self.count = self.limit = self.begin = 0
         self.bases = [World()]
         self.worlds, self.turn, self.is_closed = self.bases, 0, True
+        # (the ways from a world are the same in each search, and found once)
+        self.known: dict[tuple[int, int], tuple[World, Ways]] = {}
 
     def frame(self, place: int) -> Optional[Frame]:
         while place + AHEAD + ALIKE >= self.count and (it := next(self.more, None)):
@@ -102,7 +103,7 @@ class Search:
         bases: dict[object, World] = {}
         for w in worlds:
             bases.setdefault((w.first, w.ahead, w.late), w._replace(cost=w.cost - worlds[0].cost, trail=(), begins=()))
-        self.bases, self.begin, self.limit = [*bases.values()], at, -2
+        self.bases, self.begin, self.limit, self.known = [*bases.values()], at, -2, {}
         self.again()
         kept = {it.place for w in self.bases for it in (w.server, w.peer)}
         for it in [it for it in self.frames if it < at - MOST and it not in kept]:
@@ -140,9 +141,16 @@ class Search:
         return cost <= self.limit or self.limit >= TOO_MUCH
 
     def ways(self, w: World, it: Frame, *more: Token) -> Iterator[World]:
-        for then, tokens in Next(self.tap, w, it).ways():
-            if self.may_cost(w.cost + sum(t.cost for t in tokens) + sum(t.cost for t in more)):
-                yield self.advanced(w, it, (then, [*more, *tokens]))
+        """The worlds in which a frame comes next. (a world in use is another than those that are gone, by its identity)"""
+        key = id(w), it.place
+        if key not in self.known:
+            self.known[key] = w, [(sum(t.cost for t in way[1]), way, []) for way in Next(self.tap, w, it).ways()]
+        before = w.cost + sum(t.cost for t in more)
+        for cost, (then, tokens), made in self.known[key][1]:
+            if self.may_cost(before + cost):
+                if not made:
+                    made.append(self.advanced(w, it, (then, [*more, *tokens])))
+                yield made[0]
 
     def steps(self, w: World) -> Iterator[World]:
         """A world with one frame more: the next one, or one that was held back; and where the next one is out of the ordinary, it
@@ -164,9 +172,17 @@ class Search:
                 yield from self.ways(w, it, token("order", at, "late"))
         behind = self.frame(w.first + 1)
         if len(w.late) < BACK and behind is not None:
+            yield from self.steps(self.held_back(w, front))
+
+    def held_back(self, w: World, front: Frame) -> World:
+        """A world that holds back its next frame."""
+        key = id(w), -1
+        if key not in self.known:
             late = self.chosen(w, [token("order", front.place, "early")])
             first, ahead = passed(w.first, w.ahead)
-            yield from self.steps(late._replace(first=first, ahead=ahead, late=(*w.late, w.first)))
+            late = late._replace(first=first, ahead=ahead, late=(*w.late, w.first))
+            self.known[key] = w, [(0, (late, []), [late])]
+        return self.known[key][1][0][1][0]
 
     def chosen(self, w: World, tokens: Sequence[Token]) -> World:
         return w._replace(cost=w.cost + sum(it.cost for it in tokens), trail=(*w.trail, *tokens))
@@ -181,8 +197,9 @@ class Search:
             first, ahead = passed(first, ahead)
         else:
             ahead = (*ahead, it.place)
-        new = then._replace(cost=w.cost + sum(it.cost for it in tokens), trail=(*w.trail, *tokens), turn=w.turn + 1, first=first,
-                            ahead=ahead, late=late, seen=(*w.seen[-23:], it._replace(turn=w.turn)))
+        # (as then._replace(..) makes it, in a third of the time)
+        new = World(then.server, then.peer, (*w.seen[1 - SEEN :], it._replace(turn=w.turn)), then.forged, then.facts, then.begun,
+                    w.turn + 1, w.cost + sum(it.cost for it in tokens), (*w.trail, *tokens), then.begins, first, ahead, late)
         # (what it costs to begin is told of the login before, if there was one)
         return new._replace(begins=(*w.begins[1 - BEGINS :], new._replace(begins=()))) if new.begun == w.turn != w.begun else new
 
@@ -228,8 +245,8 @@ def grouped(worlds: dict[frozenset[Token], int]) -> tuple[list[Token], list[list
         ordered = sorted(costs, key=lambda it: (costs[it], len(it), sorted(it)))
         # (what says the same as another and more besides says no more of what may be)
         ordered = [it for it in ordered if not ordered[0] or not any(its and its < it for its in ordered)]
-        parted.append([sorted(it, key=lambda t: (t.place, t.name)) for it in ordered])
-    return sorted(best.difference(*groups), key=lambda t: (t.place, t.name)), parted
+        parted.append([sorted(it, key=lambda t: (t.place, t.name, t.words)) for it in ordered])
+    return sorted(best.difference(*groups), key=lambda t: (t.place, t.name, t.words)), parted
 
 
 def renamed(its: frozenset[Token], old: str, new: str) -> frozenset[Token]:
