@@ -4,6 +4,7 @@ isn't asked again."""
 from __future__ import annotations
 
 import hashlib
+import os
 import shutil
 import subprocess
 import sys
@@ -12,7 +13,7 @@ from typing import Iterator, Optional
 
 from cases.lib.small import Run
 
-FOLDERS = (".", ".ci", "bench", "c", "c/hostapd", "c/python", "c/rust", "cases", "dev", "dev/cases", "dist", "examples", "live", "share", "tools", "tools/cases", "tools/cases/lib", "tools/lib")
+FOLDERS = (".", ".ci", "bench", "c", "c/hostapd", "c/python", "c/rust", "cases", "dev", "dev/cases", "dev/lib", "dist", "examples", "live", "share", "tools", "tools/cases", "tools/cases/lib", "tools/lib")
 SHELL = ("#!/bin/sh", "# shellcheck shell=sh")
 
 
@@ -25,8 +26,8 @@ def scripts() -> dict[str, str]:
 def case_checkers(run: Run) -> Iterator[Optional[str]]:
     shell = [it for it, line in scripts().items() if line.startswith(SHELL)]
     python = [it for it, line in scripts().items() if it.endswith(".py") or line.startswith("#!") and "python3" in line]
-    typed = [str(it.relative_to("tools")) for folder in ("lib", "cases/lib") for it in sorted(Path("tools", folder).glob("*.py"))]
-    typed.append("../dev/relations")
+    folders = ("tools/lib", "tools/cases/lib", "dev/lib")
+    typed = [f"../{it}" for folder in folders for it in sorted(Path(folder).glob("*.py"))] + ["../dev/relations"]
     yield from finds_nothing(("shellcheck",), ["-x", "-S", "warning", "-f", "gcc", *shell])
     yield from finds_nothing(("pyflakes", "pyflakes3"), python)
     yield from finds_nothing(("mypy",), ["--strict", "--explicit-package-bases", "--python-version", "3.9", "--cache-dir", "../out/mypy", *typed], "tools")
@@ -45,7 +46,9 @@ def finds_nothing(names: tuple[str, ...], words: list[str], folder: str = ".") -
     if kept.exists() and kept.read_text() == total.hexdigest():
         yield None
         return
-    done = subprocess.run([command, *words], cwd=folder, stdin=subprocess.DEVNULL, stdout=subprocess.PIPE, stderr=subprocess.STDOUT)
+    # (mypy looks for packages there, too)
+    env = {**os.environ, "MYPYPATH": "../dev"}
+    done = subprocess.run([command, *words], cwd=folder, env=env, stdin=subprocess.DEVNULL, stdout=subprocess.PIPE, stderr=subprocess.STDOUT)
     said = done.stdout.decode("utf-8", "replace").strip()
     yield f"{command}: {said[-2000:]}" if done.returncode else None
     if not done.returncode and kept.parent.exists():

@@ -73,7 +73,7 @@ def case_tries(run: Run) -> Iterator[Optional[str]]:
         small.write("wrong/small/one__is_1.edit", "file: src/lib.rt\nold:     1\nnew:     2 - 1\n")
         yield tells(1, "wrong --jobs 3", "dev/wrong: small/one__is_1.edit: NOT REFUSED: the crate is still proved with this edit")
         yield tells(1, "wrong --jobs 3", "wrong: 3 passed, 6 failed")
-        for it in ("dev/wrong", ".ci/front_end.py", "cases/settings", *map(str, Path("tools/lib").glob("*.py"))):
+        for it in ("dev/wrong", ".ci/front_end.py", "cases/settings", *(str(path) for folder in ("tools/lib", "dev/lib") for path in Path(folder).glob("*.py"))):
             small.write(it, Path(it).read_text())
         working = subprocess.Popen([sys.executable, "-B", small.root / "dev/wrong"], env={**os.environ, "TMPDIR": rooms, "SLEEPS": "yes"},
                                    stdin=subprocess.DEVNULL, stdout=subprocess.DEVNULL, stderr=subprocess.DEVNULL)
