@@ -141,10 +141,11 @@ keep() {
         mv "$program.new.$$" "$program" && mv "$program.of.new.$$" "$program.of" && kind=$1
 }
 
-# From here on a signal ends what was started, and in the end nothing is left in "$work".
+# From here on a signal ends what was started, and in the end nothing is left in "$work": where programs are kept, if that can
+# be written, since the system's folder for temporary files may let none run.
 clean_at_end() {
     begun=${begun:-$(date +%s)}
-    work=$(mktemp -d) || return
+    work=$(mkdir -p "$kept" && mktemp -d "$kept/work.XXXXXX") 2>/dev/null || work=$(mktemp -d) || return
     trap 'stop; rm -rf "$work" "$kept"/*.new."$$"' EXIT
     trap 'give_up 130' INT
     trap 'give_up 143' TERM

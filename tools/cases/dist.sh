@@ -50,6 +50,12 @@ if command -v cc >/dev/null; then
     holds "tools/prove status of a program of dist/ ends with 0" [ "$ended" = 1 ]
     leaves_nothing "eap_login of dist/"
 
+    # Where the folder for temporary files isn't there, or lets no program run, that of kept programs is taken.
+    rm -r "$copy/out"
+    tmp=$work/none path=$work/bare login replay
+    ends 0 assembled "eap_login without a folder for temporary files"
+    keeps 'eap_login-dist eap_login-dist.of seen ' "eap_login without a folder for temporary files keeps something else"
+
     # Before an unchecked program, behind a proved one.
     rm -r "$copy/out"
     mv "$copy/dist/MADE" "$work/MADE"
