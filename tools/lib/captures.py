@@ -10,7 +10,7 @@ from dataclasses import dataclass, field
 from typing import BinaryIO, Iterable, Iterator, NamedTuple, Optional, Sequence
 
 from lib import frames, paths, sessions
-from lib.common import Refused, ask, run
+from lib.common import Refused, ask, grouped, run
 from lib.texts import comments_of, lines_of, packet_of
 from lib.words import MOST_OCTETS
 
@@ -393,9 +393,11 @@ class Reading:
         """Puts the packets of a login at all hops, each once; and how many these are."""
         path = paths.Path(whole)
         text, kept = path.text, sorted((it.chosen for it in path.passed), key=lambda it: it.number)
+        for passed in path.passed:
+            if chosen := passed.chosen.radius:
+                chosen.path = text
+                chosen.hops = [(it.number, it.radius) for it in passed.seen.values() if it.radius and it.radius is not chosen]
         for it in kept:
-            if it.radius:
-                it.radius.path = text
             station.packets.append(it.number, it.is_to_peer, it.octets, it.at or 0.0, it.radius)
         station.facts += [*path.facts(), *((it.chosen.number, "unreached-client" if it.is_to_peer else "unreached", self.unreached[number]) for it in path.passed
                                            for number in {seen.number for seen in it.seen.values()} & self.unreached.keys())]
@@ -485,15 +487,20 @@ def of_pcap(octets: bytes, ports: Sequence[int] = ()) -> list[Capture]:
     return captures
 
 
-def judge_radius(captures: list[Capture], secret: str) -> None:
-    """Asks `radius` of the authenticators of each packet, each reply behind its request."""
-    packets = [it for capture in captures for it in capture.packets.radius if it]
-    lines, asked = ["eap-radius 1", f"secret {secret.encode('utf-8', 'surrogateescape').hex()}"], []
-    for it in packets:
-        if it.request:
-            lines.append(f"read {it.request.octets[:2000].hex()}")
-        lines.append(f"read {it.octets[:2000].hex()}")
-        asked.append(len(lines) - 3)
-    answers = ask(["radius"], "\n".join([*lines, "end", ""]).encode())
-    for it, at in zip(packets, asked):
-        it.verdict = answers[at].split(" ")[-1]
+def judge_radius(captures: list[Capture], secrets: dict[bytes, str]) -> None:
+    """Asks `radius` of the authenticators of each packet at each hop, each reply behind its request, under the secret of the hop's
+    client, or under that of no address."""
+    packets = [its for capture in captures for it in capture.packets.radius if it for _, its in [(0, it), *it.hops]]
+    of_secret = grouped((secrets.get(it.exchange[0][0], secrets.get(b"", "")), it) for it in packets)
+    for secret, mine in of_secret.items():
+        if not secret:
+            continue
+        lines, asked = ["eap-radius 1", f"secret {secret.encode('utf-8', 'surrogateescape').hex()}"], []
+        for it in mine:
+            if it.request:
+                lines.append(f"read {it.request.octets[:2000].hex()}")
+            lines.append(f"read {it.octets[:2000].hex()}")
+            asked.append(len(lines) - 3)
+        answers = ask(["radius"], "\n".join([*lines, "end", ""]).encode())
+        for it, at in zip(mine, asked):
+            it.verdict = answers[at].split(" ")[-1]

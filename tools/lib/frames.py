@@ -435,14 +435,16 @@ IGNORED = (202).to_bytes(4, "big")
 
 class Radius:
     """A RADIUS packet that UDP carries: from where to where, and what is in it; `verdict` is what `radius` says of its
-    authenticators, where that was asked, and `path` has the hops of its login in words."""
+    authenticators, where that was asked, `path` has the hops of its login in words, and `hops` the packet at the other ones, each
+    with its number."""
 
-    __slots__ = ("source", "to", "octets", "request", "verdict", "path")
+    __slots__ = ("source", "to", "octets", "request", "verdict", "path", "hops")
 
     def __init__(self, source: tuple[bytes, int], to: tuple[bytes, int], octets: bytes) -> None:
         self.source, self.to, self.octets = source, to, octets
         self.request: Optional[Radius] = None
         self.verdict = self.path = ""
+        self.hops: list[tuple[int, Radius]] = []
 
     @property
     def attributes(self) -> Iterator[tuple[int, bytes]]:

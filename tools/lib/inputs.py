@@ -2,9 +2,11 @@
 
 from __future__ import annotations
 
+import contextlib
 import re
 import sys
 from argparse import ArgumentTypeError, Namespace
+from ipaddress import ip_address
 from pathlib import Path
 from typing import Optional
 
@@ -47,10 +49,15 @@ def port(text: str) -> int:
     return int(text)
 
 
-def secret(text: str) -> str:
-    if not text:
+def secret(text: str) -> tuple[bytes, str]:
+    """A secret, and the address of the RADIUS client that has it; no octets for any."""
+    address, _, rest = text.partition("=")
+    found, its = b"", text
+    with contextlib.suppress(ValueError):
+        found, its = ip_address(address).packed, rest
+    if not its:
         raise ArgumentTypeError("the secret is empty")
-    return text
+    return found, its
 
 
 def parser_of(text: Optional[str]) -> Parser:
@@ -59,7 +66,8 @@ def parser_of(text: Optional[str]) -> Parser:
     parser.add_argument("words", metavar="WORD", nargs="*", help="[FILE] [NAME KIND HEX ..]: a file, - or nothing for "
                         "standard input; of what has no keys itself, its users as for `pcap`, or one key in hex alone")
     parser.add_argument("--users", metavar="FILE", help="takes the users from the lines `user` of a text")
-    parser.add_argument("--secret", metavar="TEXT", type=secret, help="the secret of RADIUS, which judges its authenticators")
+    parser.add_argument("--secret", metavar="[ADDRESS=]TEXT", type=secret, action="append", help="the secret of RADIUS, which judges its "
+                        "authenticators: of the client at this address, as of a proxy, or of each other one")
     parser.add_argument("--port", metavar="N", type=port, action="append", help="a port of RADIUS besides 1812 and 1645")
     parser.add_argument("--station", metavar="NAME", help="of several stations in a file, this one")
     return parser
@@ -91,12 +99,13 @@ def users_of(given: list[str], users_file: Optional[str]) -> tuple[list[User], s
     """The users that the words name, or the one key that stands alone."""
     users: list[User] = []
     if users_file:
-        lines = [line for _, line in lines_of(octets_of(users_file)) if line[0] == "user" and len(line) > 3]
-        users = [(line[1], line[2], line[3]) for line in lines]
-        if not users:
+        lines = [(number, line[1:4]) for number, line in lines_of(octets_of(users_file)) if line[0] == "user"]
+        if not lines:
             raise Refused(f"{users_file} has no line `user NAME K HEX`")
-        if wrong := refusals.of_users([word for user in users for word in user]):
+        wrong = [f"line {number}: {it}" for number, line in lines for it in refusals.of_users(line)]
+        if wrong := wrong or refusals.of_users([word for _, line in lines for word in line]):
             raise Refused(f"{users_file}: {'; '.join(wrong)}")
+        users = [(line[0], line[1], line[2]) for _, line in lines]
     if is_key(given):
         return users, given[0]
     wrong = refusals.of_users(given)
@@ -145,8 +154,8 @@ def with_users(found: list[Capture], given: Namespace, rest: list[str]) -> list[
     users, key = users_of(rest, given.users)
     for it in found:
         give_users(it, users, key)
-    if given.secret is not None:
-        captures.judge_radius(found, given.secret)
+    if given.secret:
+        captures.judge_radius(found, dict(given.secret))
     return found
 
 

@@ -10,7 +10,7 @@ import subprocess
 import sys
 import threading
 import time
-from typing import BinaryIO, Iterator, Optional, Sequence, cast
+from typing import BinaryIO, Iterator, Sequence, cast
 
 from lib import captures, frames
 from lib.captures import Capture
@@ -19,6 +19,8 @@ from lib.common import Refused
 PATH = os.environ.get("PATH", os.defpath) + ":/usr/local/sbin:/usr/sbin:/sbin"
 # A login is over so many seconds after its Success or Failure, or after a packet that nobody answers.
 TICK_SECONDS, END_SECONDS, SILENT_SECONDS = 0.2, 0.3, 12.0
+# So long is told, behind a signal, what was captured before.
+LAST_SECONDS = 1.0
 # (what belongs to no station is kept no longer, and no more)
 MOST_SECONDS, MOST_RECORDS = 600.0, 50000
 
@@ -33,16 +35,25 @@ def filter_of(interface: str, ports: Sequence[int]) -> str:
 
 @contextlib.contextmanager
 def started(words: Sequence[str]) -> Iterator[subprocess.Popen[bytes]]:
-    """tcpdump, which ends with this. A signal ends it from its first moment on."""
+    """tcpdump, which ends with this. A signal ends it from its first moment on; a second one, or what isn't told in time behind
+    the first, ends all."""
     begun: list[subprocess.Popen[bytes]] = []
     stopped: list[int] = []
 
     def stop(*_: object) -> None:
+        if stopped:
+            raise KeyboardInterrupt
         stopped.append(1)
+        signal.setitimer(signal.ITIMER_REAL, LAST_SECONDS)
         for it in begun:
             it.terminate()
 
-    before = {it: signal.signal(it, stop) for it in (signal.SIGINT, signal.SIGTERM)}
+    def end(*_: object) -> None:
+        print("why: stopped before all that was captured is told", file=sys.stderr)
+        raise KeyboardInterrupt
+
+    calls = {signal.SIGINT: stop, signal.SIGTERM: stop, signal.SIGALRM: end}
+    before = {it: signal.signal(it, call) for it, call in calls.items()}
     try:
         try:
             begun.append(subprocess.Popen(words, stdout=subprocess.PIPE, stderr=subprocess.PIPE, env={**os.environ, "PATH": PATH}))
@@ -52,6 +63,7 @@ def started(words: Sequence[str]) -> Iterator[subprocess.Popen[bytes]]:
             begun[0].terminate()
         yield begun[0]
     finally:
+        signal.setitimer(signal.ITIMER_REAL, 0)
         for one in begun:
             one.terminate()
             one.wait()
@@ -59,20 +71,22 @@ def started(words: Sequence[str]) -> Iterator[subprocess.Popen[bytes]]:
             signal.signal(it, handler)
 
 
-def records_of(interface: str, ports: Sequence[int]) -> Iterator[Optional[frames.Record]]:
-    """The records of tcpdump as they come, and None where none came for a moment. A signal ends tcpdump, whose last records
-    come then."""
+def records_of(interface: str, ports: Sequence[int]) -> Iterator[list[frames.Record]]:
+    """The records of tcpdump, all that wait to be read at once, and none where none came for a moment. A signal ends tcpdump, whose
+    last records come then."""
     words = ["tcpdump", "-i", interface, "-n", "-U", "--immediate-mode", "-s", "0", "-w", "-", filter_of(interface, ports)]
-    found: queue.Queue[Optional[frames.Record]] = queue.Queue(MOST_RECORDS)
+    found: queue.Queue[frames.Record] = queue.Queue(MOST_RECORDS)
     said: list[str] = []
     with started(words) as begun:
         reader = threading.Thread(target=read, args=(begun, found, said), daemon=True)
         reader.start()
         while reader.is_alive() or not found.empty():
-            try:
-                yield found.get(timeout=TICK_SECONDS)
-            except queue.Empty:
-                yield None
+            waiting = list[frames.Record]()
+            with contextlib.suppress(queue.Empty):
+                waiting.append(found.get(timeout=TICK_SECONDS))
+                while len(waiting) < MOST_RECORDS:
+                    waiting.append(found.get_nowait())
+            yield waiting
     if begun.returncode > 0:
         text = (begun.stderr.read() if begun.stderr else b"").decode("utf-8", "replace")
         lines = [it for it in text.splitlines() if it.startswith("tcpdump: ") and "listening on" not in it]
@@ -81,7 +95,7 @@ def records_of(interface: str, ports: Sequence[int]) -> Iterator[Optional[frames
         raise Refused(f"what tcpdump writes can't be read: {said[0]}")
 
 
-def read(begun: subprocess.Popen[bytes], found: queue.Queue[Optional[frames.Record]], said: list[str]) -> None:
+def read(begun: subprocess.Popen[bytes], found: queue.Queue[frames.Record], said: list[str]) -> None:
     """Reads what tcpdump writes."""
     try:
         if begun.stdout:
@@ -111,19 +125,20 @@ def logins(interface: str, ports: Sequence[int]) -> Iterator[list[Capture]]:
     count, due = 0, 0.0
     print(f"why: capturing at {interface} by tcpdump, and waiting for a login over EAPOL or RADIUS; Ctrl-C ends it", file=sys.stderr,
           flush=True)
-    for record in records_of(interface, ports):
-        if record is not None and is_of_login(record, ports):
-            count += 1
-            kept.append(record._replace(number=count))
-        # (looked at each moment, also where frames come without a pause; what came meanwhile is read before the next look)
+    for waiting in records_of(interface, ports):
+        for record in waiting:
+            if is_of_login(record, ports):
+                count += 1
+                kept.append(record._replace(number=count))
         begun = time.time()
+        # (looked at each moment, also where frames come without a pause)
         if begun < due:
             continue
         kept = [it for it in kept[-MOST_RECORDS:] if kept[-1].at - it.at < MOST_SECONDS]
         times = {it.number: it.at for it in kept}
         found = captures.of_records(kept, ports)[0] if kept else []
         # (where frames wait to be read, it is as late as they say)
-        over = [it for it in found if is_over(it, max(times[at] for at in it.numbers), record.at if record else begun)]
+        over = [it for it in found if is_over(it, max(times[at] for at in it.numbers), waiting[-1].at if waiting else begun)]
         if over:
             gone = found[0].again.union(*(it.numbers for it in over))
             kept = [it for it in kept if it.number not in gone]

@@ -463,6 +463,8 @@ class Next:
             yield self.on, self.opening()
         elif any(it.message.startswith("Type") or it.kind not in ("", "47", "51") for it in self.answers(server.id, server.turn - 4)):
             yield self.on, []
+        elif server.kind not in ("", "47", "51"):
+            yield self.on, self.unseen(server.message, False)
         elif server.message in FAILS:
             return
         elif server.id >= 0 and (f.id - server.id) % 256 > 3:
@@ -515,6 +517,8 @@ class Next:
         if server.message in FAILS:
             yield self.on, [] if answers else self.unseen("the answer to it", False)
             return
+        if f.message == "Reject":
+            yield self.on, [self.token("rejected")]  # (a method's refusal has a Failure, RFC 3579 section 2.6.3)
         for it in answers[:2]:
             yield from ((self.on, found) for found in self.refusals(it))
         if not answers or not f.radius and answers[0].turn < server.turn and self.has_waited():

@@ -106,13 +106,14 @@ class Path:
             low, high, number = min(ranks), max(ranks), it.chosen.number
             if alike[0] is not it or self.is_answered(it, then, low if it.is_to_peer else high):
                 continue
+            if it.is_to_peer and high and self.is_from_elsewhere(it.seen.get(high)):
+                yield number, "other-address", ()
+                continue
             if not it.is_to_peer and high in paired:
                 yield number, "not-passed", (self.who(high), self.server(high + 1))
             elif it.is_to_peer and low - 1 in paired:
                 yield number, "not-passed", (self.who(low - 1), self.client(low - 1) if low > 1 else "the station")
-            if it.is_to_peer and high and self.is_from_elsewhere(it.seen.get(high)):
-                yield number, "other-address", ()
-            elif it.is_to_peer and high in paired and (high or it.octets[4:5] != b"\1"):
+            if it.is_to_peer and high in paired and (high or it.octets[4:5] != b"\1"):
                 yield number, "by-itself", (self.who(high), self.server(high + 1))
 
     def is_from_elsewhere(self, it: Optional[Packet]) -> bool:

@@ -2,6 +2,7 @@
 
 from __future__ import annotations
 
+import re
 from dataclasses import dataclass, field
 from typing import Iterator, Optional, Sequence
 
@@ -21,15 +22,22 @@ def said(sentence: str, **names: object) -> str:
 
 @dataclass
 class Reason:
-    """A sentence on a packet, which has a row where one is drawn, or on the whole."""
+    """A sentence on a packet, which has a row where one is drawn, or on the whole; and the numbers of those of which it is said
+    besides."""
 
     row: Optional[Row]
     text: str
     packet: str = ""
+    others: list[int] = field(default_factory=list)
 
     @property
     def called(self) -> str:
         return self.packet or (self.row.called if self.row else "")
+
+    @property
+    def numbers(self) -> list[int]:
+        """The numbers of the packets of which it is said."""
+        return [*map(int, re.findall(r"^packet (\d+)", self.packet)), *self.others]
 
     @property
     def said(self) -> str:
@@ -39,7 +47,7 @@ class Reason:
 @dataclass
 class Story:
     """What came of a login: good, bad or open, in a line; why; what may help; what was counted; and of a capture the verdict, the
-    user, and when it began and ended."""
+    user, when it began and ended, the number of its last packet, and whether the reasons are left out."""
 
     kind: str
     head: str
@@ -50,6 +58,8 @@ class Story:
     user: str = ""
     at: float = 0.0
     until: float = 0.0
+    last: int = 0
+    is_brief: bool = False
 
 
 def named(user: str) -> str:

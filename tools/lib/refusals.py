@@ -70,8 +70,12 @@ def of_users(given: list[str]) -> list[str]:
     for at in range(0, len(given) - 2, 3):
         name, kind, key = given[at : at + 3]
         octets = name.encode("utf-8", "surrogateescape")
+        if is_of_hex(key) and not of_key(kind, name):
+            found.append(f"words: NAME KIND HEX is their order, and here the key stands before `{shown(key, 60)}`")
+            continue
         if not octets or any(not 0x21 <= it <= 0x7E for it in octets):
-            found.append(f"NAME '{shown(octets.decode('latin-1'), 60)}': it has 1 to 253 octets from 21 to 7e (! to ~)")
+            found.append(f"NAME '{shown(octets.decode('latin-1'), 60)}': it has 1 to 253 octets from 21 to 7e (! to ~)"
+                         + "; the program's words and texts are in ASCII, so that another name can't be given a key" * (max(octets, default=0) > 0x7F))
         elif len(octets) > words.MOST_NAME:
             found.append(f"NAME: it has {len(octets)} octets, and {words.MOST_NAME} are the most")
         if of_method(kind):

@@ -24,7 +24,7 @@ class Sessions:
     """The packets of a file by login, as they are joined."""
 
     def __init__(self, packets: Packets) -> None:
-        self.packets, self.its = packets, packets.radius
+        self.packets, self.its = packets, [it for it in packets.radius if it]
         self.joined = list(range(len(self.its)))
         self.requests: dict[object, int] = {}
         self.replies: dict[object, int] = {}

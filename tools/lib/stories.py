@@ -6,9 +6,9 @@ from __future__ import annotations
 import re
 from collections import Counter
 from functools import cached_property
-from typing import Callable, Iterable, Iterator, Optional, Sequence
+from typing import Callable, Container, Iterable, Iterator, Optional, Sequence
 
-from lib import frames, handshake, macs, observed, packets, tls, words, worlds
+from lib import frames, handshake, macs, observed, packets, paths, tls, words, worlds
 from lib.captures import Capture
 from lib.common import grouped
 from lib.ladder import Ladder, Row
@@ -19,8 +19,10 @@ from lib.reasons import SENTENCES, Reason, Story, code_said, named, of_replay, s
 
 # The cut packets that are listed, those of one reason, and the seconds after which no answer comes any more.
 MOST_CUT, MOST_LISTED, LONG_SECONDS = 4, 12, 5
+# The octets of an EAP packet that each path carries (RFC 3748 section 3.1).
+MOST_PASSED = 1020
 # Behind which nothing is said of an answer; what says nothing of an end, and what is told together whatever the message.
-STOPPED = ("not-passed", "unreached", "unreached-client", "accepted", "conflicting")
+STOPPED = ("not-passed", "unreached", "unreached-client", "accepted", "conflicting", "other-address")
 NOT_SENT, OF_ANY = ("forged", "twice", "copy", "stray"), ("twice", "copy", "order", "uncaptured")
 OF_MAC = ("wrong-key", "given-key", "other-key", "altered")
 NONCES = {"GPSK-1": "RAND_Server", "PSK-1": "RAND_S", "GPSK-2": "RAND_Peer", "PSK-2": "RAND_P"}
@@ -125,6 +127,8 @@ def sentence_of(login: Login, it: Token) -> str:
     if it.name == "unjudged" and frame.kind not in ("47", "51", "254", ""):
         # (an alert is told of its packet, whether the server refuses or not)
         text = said("other method refused") if not tls.alert_of(frame.octets) else said("alert answered")
+    if it.name in ("no-answer", "unanswered") and len(frame.octets) > MOST_PASSED:
+        text += said("long", size=len(frame.octets))
     if it.name in ("some-key", "policy", "unjudged") and frame.radius:
         text += said("or forgotten")
     if it.name == "no-user":
@@ -190,6 +194,8 @@ def head_of(login: Login, tokens: Sequence[Token]) -> tuple[int, str]:
 
 def verdict_of(login: Login) -> str:
     """What came of a login in a few words: of what is dearest, and of alternatives both."""
+    if has_other_secret(login):
+        return said("verdict secret")
     heads = [head_of(login, login.found.sure)]
     for first, *others in login.found.groups:
         both = [head_of(login, it) for it in [first, *others[:1]]]
@@ -357,14 +363,29 @@ def of_others(login: Login) -> Iterator[Reason]:
         yield Reason(None, said("method", names=", ".join(packets.TYPES.get(it, f"Type {it}") for it in sorted(types))))
     if any(it.read.name.startswith("Expanded ") and it.stage for it in login.own):
         yield Reason(None, said("expanded"))
-    for it in login.frames:
-        verdict = it.radius.verdict if it.radius else ""
-        if it.radius and it.octets and not it.radius.is_authenticated and verdict != "NoAuthenticator":
-            yield Reason(None, said("not authenticated", name=it.radius.name), it.called)
-        if it.radius and verdict == "tag-bad":
-            yield Reason(None, said("authenticator", name=it.radius.name), it.called)
-        elif verdict not in ("", "good", "no-request"):
-            yield Reason(None, said("odd radius", cause=verdict, why=words.cause_said(verdict)), it.called)
+    for it, number, radius in ((it, *its) for it in login.frames for its in hops_of(it)):
+        name, (client, server, _) = radius.name, radius.exchange
+        if it.radius and it.radius.hops:
+            name += f" {said('between', client=paths.address(client[0]), server=paths.address(server[0]))}"
+        called = it._replace(number=number).called
+        if it.octets and not radius.is_authenticated and radius.verdict != "NoAuthenticator":
+            yield Reason(None, said("not authenticated", name=name), called)
+        if radius.verdict == "tag-bad":
+            yield Reason(None, said("authenticator", name=name), called)
+        elif radius.verdict not in ("", "good", "no-request"):
+            yield Reason(None, said("odd radius", cause=radius.verdict, why=words.cause_said(radius.verdict)), called)
+
+
+def hops_of(it: Frame) -> list[tuple[int, frames.Radius]]:
+    """The RADIUS packets around a packet at each hop, with their numbers."""
+    return [(it.number, it.radius), *it.radius.hops] if it.radius else []
+
+
+def has_other_secret(login: Login) -> bool:
+    """Whether at some hop all requests are wrong under the secret given, and have no reply, or all replies to right ones are."""
+    hops = grouped((radius.exchange[:2], radius) for it in login.frames for _, radius in hops_of(it))
+    verdicts = ([{it.verdict for it in its if it.is_request == is_request} for is_request in (True, False)] for its in hops.values())
+    return any((requests, replies) in (({"tag-bad"}, set()), ({"good"}, {"tag-bad"})) for requests, replies in verdicts)
 
 
 # ---- A story.
@@ -378,10 +399,10 @@ def folded(reasons: list[Reason]) -> list[Reason]:
                      for it in reasons)
     found = []
     for first, *others in groups.values():
-        numbers = [it.packet.partition(",")[0].removeprefix("packet ") for it in others if it.packet]
-        listed = ", ".join(numbers[:MOST_LISTED]) + f" and {len(numbers) - MOST_LISTED} more" * (len(numbers) > MOST_LISTED)
+        numbers = [number for it in others for number in it.numbers]
+        listed = ", ".join(map(str, numbers[:MOST_LISTED])) + f" and {len(numbers) - MOST_LISTED} more" * (len(numbers) > MOST_LISTED)
         more = f"; the same of packet{'s' * (len(others) > 1)} {listed}" if others else ""
-        found.append(Reason(None, first.text + more, first.packet))
+        found.append(Reason(None, first.text + more, first.packet, numbers))
     return found
 
 
@@ -398,15 +419,16 @@ def ending_name(end: Frame) -> str:
     return end.read.name if end.octets else "Access-Reject"
 
 
-def story_of(login: Login, nonces: Nonces, is_brief: bool = False) -> Story:
-    """What came of a login; in brief without the reasons."""
+def story_of(login: Login, nonces: Nonces, known: Container[str] = ()) -> Story:
+    """What came of a login; in brief, without the reasons, where the verdict is known."""
     again = list(of_nonces(login, nonces))
-    reasons, has_nonce = [] if is_brief else reasons_of(login, again), bool(again)
-    verdict, end = verdict_of(login), login.end
+    has_nonce, verdict, end = bool(again), verdict_of(login), login.end
     if has_nonce:
         verdict = verdict.replace(said("verdict Success"), said("verdict nonce"))
     if login.pmk and login.pmk.name in handshake.FAULTS:
         verdict = verdict.replace(said("verdict Success"), said(f"verdict {login.pmk.name}"))
+    is_brief = verdict in known
+    reasons = [] if is_brief else reasons_of(login, again)
     is_odd = verdict != said("verdict Success")
     words_found = {it.word for it in login.own} & {"tag-good", "tag-bad", "malformed"}
     failed = next((it for it in login.own if "Failure-Code" in it.read.number and it.is_down), None) if not end else end
@@ -421,14 +443,14 @@ def story_of(login: Login, nonces: Nonces, is_brief: bool = False) -> Story:
         outcome = said("failed", end=f"packet {failed.number}, {ending_name(failed)}") if failed else said("no end")
     kind = "bad" if has_nonce else kind
     return Story(kind, f"{verdict}: {login.front()}: {outcome}", reasons, login.tries, verdict=verdict, user=login.user,
-                 at=login.frames[0].at, until=login.frames[-1].at)
+                 at=login.frames[0].at, until=login.frames[-1].at, last=login.frames[-1].number, is_brief=is_brief)
 
 
 def of_captures(found: Iterable[Capture], row_of: Callable[[str], Optional[Row]] = lambda _: None,
                 most: Optional[int] = None) -> Iterator[tuple[Capture, Story]]:
-    """What came of each login of captures, one after the other, in brief of those above a number. Behind the last of a capture
-    stands what was judged of all."""
-    logins = 0
+    """What came of each login of captures, one after the other; in brief of those above a number whose verdict came before.
+    Behind the last of a capture stands what was judged of all."""
+    logins, known = 0, set[str]()
     last: Optional[tuple[Capture, Story]] = None
     nonces: Nonces = {}
     count = Counter[str]()
@@ -441,7 +463,8 @@ def of_captures(found: Iterable[Capture], row_of: Callable[[str], Optional[Row]]
                 yield last
             count.update(it.word for it in login.frames if it.octets)
             logins += 1
-            last = capture, story_of(Login(capture, login), nonces, most is not None and logins > most)
+            last = capture, story_of(Login(capture, login), nonces, known if most is not None and logins > most else ())
+            known.add(last[1].verdict)
             for it in last[1].reasons:
                 it.row = row_of(it.packet)
     if last:

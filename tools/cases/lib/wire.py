@@ -82,8 +82,9 @@ def frames_of(items: Iterable[Item]) -> list[tuple[float, bytes]]:
 
 def pcap(found: list[tuple[float, bytes]], snap: int = 65535, link: int = 1, magic: int = 0xA1B2C3D4, order: str = "<") -> bytes:
     parts, out = 10**9 if magic == 0xA1B23C4D else 10**6, struct.pack(order + "IHHiIII", magic, 2, 4, 0, 0, snap, link)
+    more = bytes(8) if magic == 0xA1B2CD34 else b""
     for at, frame in found:
-        out += struct.pack(order + "IIII", int(at), int(at % 1 * parts), len(frame[:snap]), len(frame)) + frame[:snap]
+        out += struct.pack(order + "IIII", int(at), int(at % 1 * parts), len(frame[:snap]), len(frame)) + more + frame[:snap]
     return out
 
 
