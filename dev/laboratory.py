@@ -58,6 +58,13 @@ class Plan:
     server: dict[str, str] = field(default_factory=dict)
     is_barred: bool = False
     is_known: bool = True
+    # (over RADIUS how many proxies there are, at which hops the tap is, and behind which Request of the client the rule begins)
+    proxies: int = 0
+    taps: tuple[int, ...] = (0, 1, 2)
+    begin: int = 99
+    # (whether the access point begins again at an EAPOL-Start amid a login; of a method over TLS, which)
+    heeds_starts: bool = True
+    over_tls: int = 25
 
 
 @dataclass(eq=False)
@@ -78,12 +85,13 @@ class Sent:
 
 @dataclass(eq=False)
 class Seen:
-    """What the tap saw, when."""
+    """What the tap saw, when, and at which hop."""
 
     at: float
     sent: Sent
     octets: bytes
     frame: bytes
+    hop: int = 0
 
 
 class Drawn:
@@ -189,7 +197,7 @@ class Login:
     def arrive(self, sent: Sent, octets: bytes) -> None:
         end = self.end_of["peer" if sent.is_down else "server"]
         if octets in (START, LOGOFF):
-            if octets == START and not sent.is_down and self.sent[0] is not sent and end:
+            if octets == START and not sent.is_down and self.sent[0] is not sent and end and self.plan.heeds_starts:
                 self.server_id = (self.server_id + 1) % 256
                 self.set_ends("server")
                 self.after(0.001, self.ask, self.end_of["server"])
@@ -221,7 +229,7 @@ class Login:
         self.after(self.wire / 2, self.box, sent)
 
     def box(self, sent: Sent) -> None:
-        out = [(0.0, sent.octets)]
+        out = [(0.0, self.between(sent))]
         if sent.by != "forger":
             count = self.passed[sent.message] = self.passed.get(sent.message, 0) + 1
             for act in self.plan.acts:
@@ -231,6 +239,10 @@ class Login:
             if (self.tap == "peer") == sent.is_down:
                 self.after(late + self.wire / 4, self.see, sent, octets)
             self.after(late + self.wire / 2, self.arrive, sent, octets)
+
+    def between(self, sent: Sent) -> bytes:
+        """What becomes of each message at the box."""
+        return sent.octets
 
     def acted(self, act: Act, out: list[tuple[float, bytes]]) -> list[tuple[float, bytes]]:
         """What becomes of a message at the box."""
@@ -245,10 +257,18 @@ class Login:
         if act.kind == "forge":
             octets = act.octets if act.octets in (START, LOGOFF) else bytes([act.octets[0], out[0][1][1]]) + act.octets[2:]
             self.after(act.value, self.send, "forger", octets, packets.read(octets).message if octets[1:2] != b"" else "", False, act.is_down)
+        elif act.kind == "start":
+            self.after(act.value, self.begin_again)
         elif act.kind in ("peer", "server"):
             self.after(act.value, self.restart, act.kind)
             return [] if act.place else out
         return out
+
+    def begin_again(self) -> None:
+        """The station sends an EAPOL-Start, as a supplicant does whose timer for that runs on (IEEE 802.1X startPeriod)."""
+        self.send("peer", START, "Start", True)
+        if self.plan.heeds_starts:
+            self.restarts.append(("peer", self.now))
 
     def restart(self, kind: str) -> None:
         self.restarts.append((kind, self.now))
@@ -293,6 +313,7 @@ class Radius(Login):
         self.client = (bytes([10, 0, 0, 2 + draw.randrange(3)]), 40000)
         self.carriage = radius.Radius(SECRET)
         self.state, self.identifier, self.waits = b"", 60 * station + draw.randrange(40), b""
+        self.requests: list[bytes] = []
 
     def run(self) -> None:
         self.place = SERVER.Server.__new__(SERVER.Server)
@@ -328,6 +349,7 @@ class Radius(Login):
             self.identifier = (self.identifier + 1) % 256
             more = radius.attribute(31, self.station.hex("-").encode())
             self.waits = self.carriage.request(self.identifier, self.plan.user.encode(), self.state, eap, more)
+            self.requests.append(self.waits)
             self.ask_master(self.waits, packets.read(eap).message, 1)
 
     def ask_master(self, packet: bytes, message: str, times: int) -> None:
@@ -341,19 +363,49 @@ class Radius(Login):
         """What the server sends to the client."""
         eap = b"".join(radius.values(packet, 79))
         if self.plan.rule == "reject" and packet[0] != 2:
-            head = bytes([3, packet[1], 0, 20]) + bytes(16)
-            self.after(0.001, self.send, "server", head, "Reject")
+            self.answer_bare(3, packet[1])
             return
         again = any(it.octets == packet for it in self.sent)
         self.after(0.001, self.send, "server", packet, packets.read(eap).message, again)
 
+    def answer_bare(self, code: int, identifier: int) -> None:
+        """An Access-Accept or an Access-Reject without an EAP packet."""
+        self.after(0.001, self.send, "server", bytes([code, identifier, 0, 20]) + bytes(16), "Reject" if code == 3 else "Accept")
+
+    def is_begun(self, identifier: int) -> bool:
+        """Whether the rule has begun at the Request with this Identifier."""
+        return next(at for at, it in enumerate(self.requests, 1) if it[1] == identifier) > self.plan.begin
+
+    def between(self, sent: Sent) -> bytes:
+        rule, octets = self.plan.rule, sent.octets
+        if rule == ("bare-reply" if sent.is_down else "bare-request"):
+            return without_authenticator(octets)
+        if rule == "reject-request" and octets[0] == 11 and self.is_begun(octets[1]):
+            return b"\3" + octets[1:]
+        return octets
+
     def arrive(self, sent: Sent, octets: bytes) -> None:
-        if not sent.is_down:
-            sent.arrivals.append((self.now, octets, self.plan.rule != "down"))
-            if self.plan.rule != "down":
-                self.place.hear(octets, ("10.0.0.9", self.client[1]))
+        rule, is_begun = self.plan.rule, self.is_begun(sent.octets[1])
+        if sent.is_down:
+            self.come_back(sent, octets, octets == sent.octets and rule not in UNTAKEN)
             return
-        is_awaited = bool(self.waits) and octets[1] == self.waits[1] and self.plan.rule != "other-address"
+        is_heard = rule not in UNHEARD and not (rule == "hop-drop" and is_begun)
+        sent.arrivals.append((self.now, octets, is_heard))
+        if is_heard and is_begun and rule in ("accept", "hop-reject"):
+            self.answer_bare(2 if rule == "accept" else 3, octets[1])
+        elif is_heard and is_begun and rule == "forget":
+            self.forget(octets)
+        elif is_heard:
+            self.place.hear(octets, ("10.0.0.9", self.client[1]))
+
+    def forget(self, octets: bytes) -> None:
+        """What a server makes of a State that it doesn't know."""
+        if self.plan.is_strict:
+            eap = b"".join(radius.values(octets, 79))
+            self.sendto(self.place.radius.reply(octets, "reject", b"", ends.failure(eap[1]), b""), None)
+
+    def come_back(self, sent: Sent, octets: bytes, is_taken: bool) -> None:
+        is_awaited = bool(self.waits) and octets[1] == self.waits[1] and is_taken
         sent.arrivals.append((self.now, octets, is_awaited))
         peer = self.end_of["peer"]
         if is_awaited and peer:
@@ -364,8 +416,75 @@ class Radius(Login):
                 self.after(self.wire, self.request, turn.sends)
 
     def see(self, sent: Sent, octets: bytes) -> None:
-        master = (b"\x0a\0\0\x63", 1812) if self.plan.rule == "other-address" and sent.is_down else MASTER
-        (one, port), (other, to) = (master, self.client) if sent.is_down else (self.client, MASTER)
-        udp = struct.pack(">HHHH", port, to, 8 + len(octets), 0) + octets
-        ip = struct.pack(">BBHHHBBH", 0x45, 0, 20 + len(udp), 0, 0, 64, 17, 0) + one + other
-        self.seen.append(Seen(self.now, sent, octets, SWITCH + self.station + b"\x08\0" + ip + udp))
+        """What the tap sees of a packet at each of its hops, of which 0 is the client's."""
+        last, rule = self.plan.proxies, self.plan.rule
+        hops = [*range(last + 1)] if not sent.is_down else [*range(last, -1, -1)]
+        if rule in ("hop-drop", "hop-reject") and self.is_begun(octets[1]):
+            hops = [0]
+        elif rule == "hop-address" and sent.is_down:
+            hops = [last]
+        is_elsewhere = sent.is_down and rule in ("other-address", "hop-address")
+        for step, hop in enumerate(hops):
+            if hop in self.plan.taps:
+                client, server = (PROXIES[hop - 1], 1814) if hop else self.client, (PROXIES[hop] if hop < last else MASTER[0], 1812)
+                server = (b"\x0a\0\0\x63", 1812) if is_elsewhere else server
+                frame = self.framed(passed_on(octets, hop), *((server, client) if sent.is_down else (client, server)))
+                self.seen.append(Seen(self.now + step * self.wire / 20, sent, octets, frame, hop))
+
+    def framed(self, octets: bytes, source: tuple[bytes, int], to: tuple[bytes, int]) -> bytes:
+        udp = struct.pack(">HHHH", source[1], to[1], 8 + len(octets), 0) + octets
+        ip = struct.pack(">BBHHHBBH", 0x45, 0, 20 + len(udp), 0, 0, 64, 17, 0) + source[0] + to[0]
+        return SWITCH + self.station + b"\x08\0" + ip + udp
+
+
+# By which rules the server takes no request, and the client no reply.
+UNHEARD, UNTAKEN = ("down", "secret", "hop-secret", "bare-request"), ("other-address", "hop-address", "bare-reply", "secret-reply")
+PROXIES = (b"\x0a\0\1\1", b"\x0a\0\1\2")
+
+
+def without_authenticator(octets: bytes) -> bytes:
+    body = b"".join(radius.attribute(*it) for it in radius.parts(octets[20:]) if it[0] != radius.MESSAGE_AUTHENTICATOR)
+    return octets[:2] + struct.pack(">H", 20 + len(body)) + octets[4:20] + body
+
+
+def passed_on(octets: bytes, hop: int) -> bytes:
+    """A packet as a proxy passes it on: with another Identifier and authenticator, and a Proxy-State."""
+    if hop == 0:
+        return octets
+    body = octets[20:] + radius.attribute(radius.PROXY_STATE, bytes([hop]) * 4)
+    return bytes([octets[0], (octets[1] + 7 * hop) % 256]) + struct.pack(">H", 20 + len(body)) + bytes(it ^ hop for it in octets[4:20]) + body
+
+
+# ---- By a method over TLS.
+
+
+class Tls(Login):
+    """A login by EAP-TLS or a method like it, with octets that are drawn in the place of what is encrypted; the rule says how it
+    ends."""
+
+    def set_ends(self, *names: str) -> None:
+        pass
+
+    def arrive(self, sent: Sent, octets: bytes) -> None:
+        sent.arrivals.append((self.now, octets, True))
+
+    def start(self) -> None:
+        rule, kind, draw, at = self.plan.rule, self.plan.over_tls, self.draw, self.server_id
+        hello = b"\x16\3\1" + draw.getrandbits(8 * 120).to_bytes(120, "big")
+        its: list[tuple[int, bytes]] = [(1, b"\1"), (2, b"\1" + self.plan.user.encode()), (1, bytes([kind, 0x20])), (2, bytes([kind, 0]) + hello)]
+        for more in range(draw.choice((1, 2, 3)), 0, -1):
+            flags = bytes([kind, 0x40 if more > 1 else 0])
+            its += [(1, flags + draw.getrandbits(8 * 1300).to_bytes(1300, "big")), (2, bytes([kind, 0]) + (hello if more == 1 else b""))]
+        inner = bytes([kind, 0]) + b"\x17\3\3\0\x20" + draw.getrandbits(256).to_bytes(32, "big")
+        alert = bytes([kind, 0]) + b"\x15\3\3\0\2\2" + bytes([self.plan.begin])
+        if rule == "tls-silent":
+            its = [*its[:5], *its[4:5] * 3]
+        elif rule == "tls-alert":
+            its = [*its[:-1], (2, alert), (4, b"")] if self.plan.is_strict else [*its, (1, alert), (2, bytes([kind, 0])), (4, b"")]
+        else:
+            its += [(1, inner), (2, inner[:-1] + b"x"), (3 if rule == "tls-good" else 4, b"")]
+        for step, (code, octets) in enumerate(its):
+            at += code == 1 and step > 0 and octets != its[step - 1][1]
+            eap = struct.pack(">BBH", code, at % 256, 4 + len(octets)) + octets
+            late = max(0, step - 4) * self.plan.rto if rule == "tls-silent" else 0.0
+            self.after(0.02 * step + late, self.send, "peer" if code == 2 else "server", eap, packets.read(eap).message, rule == "tls-silent" and step > 4)
