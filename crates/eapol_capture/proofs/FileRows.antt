@@ -5,6 +5,7 @@ use Rattle.eapol_capture.specs.declared.reader.NextRecord.TheVariants.{End, CutF
 use Rattle.eapol_capture.specs.declared.reader.NextRecord.TheVariants.{BadVersion, BadLink}
 use Rattle.eapol_capture.specs.declared.reader.NextRecord.TheVariants.{BadRecord, TooMuch}
 use Rattle.eapol_capture.specs.Files.{ends, record_of, contents, records, all_records}
+use Rattle.eapol_frame.specs.Frame.{frame_of}
 use Rattle.eapol_capture.specs.Frames.{contents_of, other, cut, eap}
 
 -- the header of a file, the most significant octet first, and the least one first
@@ -117,43 +118,43 @@ cut_at_limit = refl
 
 -- what frames carry
 identity : contents_of identity_frame ≡ eap (1 ∷ 0 ∷ 0 ∷ 5 ∷ 1 ∷ [])
-unfolding contents_of identity_frame
+unfolding contents_of frame_of identity_frame
 identity = refl
 
 padded : contents_of (identity_frame ++ replicate 37 0) ≡ eap (1 ∷ 0 ∷ 0 ∷ 5 ∷ 1 ∷ [])
-unfolding contents_of identity_frame
+unfolding contents_of frame_of identity_frame
 padded = refl
 
 short : contents_of (take 22 identity_frame) ≡ cut
-unfolding contents_of identity_frame
+unfolding contents_of frame_of identity_frame
 short = refl
 
 headless : contents_of (take 17 identity_frame) ≡ cut
-unfolding contents_of identity_frame
+unfolding contents_of frame_of identity_frame
 headless = refl
 
 typeless : contents_of (take 13 identity_frame) ≡ other
-unfolding contents_of identity_frame
+unfolding contents_of frame_of identity_frame
 typeless = refl
 
 another_type : contents_of (replicate 12 0 ++ 8 ∷ 0 ∷ 1 ∷ 0 ∷ []) ≡ other
-unfolding contents_of
+unfolding contents_of frame_of
 another_type = refl
 
 -- EAPOL-Start
 started : contents_of (replicate 12 0 ++ 136 ∷ 142 ∷ 1 ∷ 1 ∷ 0 ∷ 0 ∷ []) ≡ other
-unfolding contents_of
+unfolding contents_of frame_of
 started = refl
 
 no_body : contents_of (replicate 12 0 ++ 136 ∷ 142 ∷ 1 ∷ 0 ∷ 0 ∷ 0 ∷ []) ≡ eap []
-unfolding contents_of
+unfolding contents_of frame_of
 no_body = refl
 
 longest : contents_of (replicate 12 0 ++ 136 ∷ 142 ∷ 1 ∷ 0 ∷ 7 ∷ 208 ∷ replicate 2000 7)
     ≡ eap (replicate 2000 7)
-unfolding contents_of
+unfolding contents_of frame_of
 longest = refl
 
 too_long : contents_of (replicate 12 0 ++ 136 ∷ 142 ∷ 1 ∷ 0 ∷ 7 ∷ 209 ∷ replicate 2001 7) ≡ cut
-unfolding contents_of
+unfolding contents_of frame_of
 too_long = refl

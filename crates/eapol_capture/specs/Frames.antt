@@ -1,7 +1,9 @@
 -- Ethernet frames that carry EAPOL (IEEE 802.1X-2010 clause 11.3).
-use Rattle.std.specs.Prelude.{ℕ, ◌-◌, List, length, take, drop, slice_index, ◌==◌, ◌||◌, not}
-use Rattle.std.specs.Prelude.{nat_lt, if◌then◌else◌}
+use Rattle.std.specs.Prelude.{ℕ, List, length, take, drop, slice_index, ◌==◌, not, nat_lt}
+use Rattle.std.specs.Prelude.{if◌then◌else◌, Result, Ok, Err}
 use Rattle.std.specs.Int.{w16, from_be_bytes}
+use Rattle.eapol_frame.specs.Frame.{FrameValue, frame_of}
+use Rattle.eapol_frame.specs.declared.frame.FrameCause.{FrameCause}
 use Rattle.eapol_capture.specs.declared.frame.FrameContents.{FrameContents}
 use Rattle.eapol_capture.specs.declared.frame.FrameContents.TheVariants.{Other, Cut, Eap}
 use Rattle.eapol_capture.specs.declared.frame.FrameFinding.{FrameFinding}
@@ -21,19 +23,18 @@ type_of frame = from_be_bytes w16 (take 2 (drop 12 frame))
 abbrev pub eapol_type : ℕ
 eapol_type = 34958
 
--- EAPOL's type, and the length of its body
+-- EAPOL's packet type
 abbrev pub packet_type : List ℕ → ℕ
 packet_type frame = slice_index frame 15
 
-abbrev pub body_length : List ℕ → ℕ
-body_length frame = from_be_bytes w16 (take 2 (drop 16 frame))
+-- a packet of more than 2,000 octets isn't read
+abbrev pub packet_in : Result FrameValue FrameCause → Carried
+packet_in (Ok frame) = if nat_lt 2000 (length frame.body) then cut else eap frame.body
+packet_in (Err cause) = cut
 
--- the body behind the header, which is version (1 octet), type (1) and length (2); the octets past
--- it are padding. A packet of more than 2,000 octets isn't read
+-- the body of the EAPOL frame behind the addresses and the type
 abbrev pub body_of : List ℕ → Carried
-body_of frame =
-    if nat_lt (length frame - 18) (body_length frame) || nat_lt 2000 (body_length frame) then cut
-    else eap (take (body_length frame) (drop 18 frame))
+body_of frame = packet_in (frame_of (drop 14 frame))
 
 -- what a frame carries: EAPOL's type 0 is an EAP packet
 unfoldable pub contents_of : List ℕ → Carried

@@ -2,8 +2,9 @@
 
 ghost use Rattle.std.specs.Prelude.{◌≡◌, ◌≤◌, length, nat_lt};
 ghost use Rattle.eapol_capture.specs.Frames.{contents_of, finding_value, whole_value, size_of};
-ghost use Rattle.eapol_capture.specs.Frames.{body_of, type_of, body_length};
+ghost use Rattle.eapol_capture.specs.Frames.{body_of, type_of};
 
+use eapol_frame::{EAP_PACKET, read_frame};
 use octet_lists::{Injected, Octets, array_of};
 
 /// What a frame carries.
@@ -37,9 +38,6 @@ const EAPOL: usize = 18;
 /// The type of a frame that carries EAPOL.
 const EAPOL_TYPE: u16 = 0x888e;
 
-/// EAPOL's type of an EAP packet.
-const EAP_PACKET: u8 = 0;
-
 /// The most octets of an EAP packet.
 const MAX_PACKET: usize = 2000;
 
@@ -51,26 +49,15 @@ fn type_of(frame: &[u8]) -> u16
     u16::from_be_bytes(array_of(&frame[12..14]))
 }
 
-/// The length of EAPOL's body.
-fn body_length(frame: &[u8]) -> usize
-    requires { 18 ≤ length frame.now }
-    ensures { result ≡ body_length frame.now }
-{
-    usize::from(u16::from_be_bytes(array_of(&frame[16..18])))
-}
-
 /// The EAP packet in a frame with EAPOL's header, if it is whole.
 fn body_of<'a>(frame: &'a [u8]) -> FrameContents<'a>
     requires { 18 ≤ length frame.now }
     ensures value { finding_value result ≡ body_of frame.now }
     ensures few { size_of (finding_value result) ≤ 2000 }
 {
-    let size = body_length(frame);
-    let body = &frame[EAPOL..];
-    if size > body.len() || size > MAX_PACKET {
-        FrameContents::Cut
-    } else {
-        FrameContents::Eap(&body[..size])
+    match read_frame(&frame[ETHERNET..]) {
+        Ok(view) if view.body.len() <= MAX_PACKET => FrameContents::Eap(view.body),
+        _ => FrameContents::Cut,
     }
 }
 
