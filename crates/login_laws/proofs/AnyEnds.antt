@@ -1,5 +1,5 @@
 -- The conversations of any number of runs match: what one accepted first tells the nonces of both.
-use Rattle.std.proofs.Common.{◌≡◌, ℕ, List, ◌∷◌, true, Some, refl, sym, ap, subst, ◌∙◌, inl, inr}
+use Rattle.std.proofs.Common.{◌≡◌, ℕ, List, true, Some, refl, sym, ap, subst, ◌∙◌, inl, inr}
 use Rattle.login_setup.specs.Setup.{ServerSetup}
 use Rattle.login_setup.specs.declared.setup.PeerSetup.{PeerSetup}
 use Rattle.login_setup.specs.declared.setup.Setup.{Setup}
@@ -7,10 +7,11 @@ use Rattle.eap_method.specs.Peer.{key_for}
 use Rattle.eap_method.specs.declared.tags.TagRecord.{TagRecord}
 use Rattle.eap_world.specs.Conversations.{front}
 use Rattle.eap_world.specs.Judgement.{is_success}
-use Rattle.login_laws.specs.AnyEnds.{AnyEndsMatch, AreOfSomeRuns, HonestAmong, NoncesDiffer}
-use Rattle.login_laws.specs.AnyEnds.{IsOfSomePeer, IsOfSomeServer}
-use Rattle.login_laws.specs.Matching.{HaveNonces, PeerMatches, ReportsAgree, RestsOn}
-use Rattle.login_laws.specs.Matching.{ServerMatches, ServerRests}
+use Rattle.login_laws.specs.AnyEnds.{AnyEndsMatch, AnyServerMatches, AreMade, AreOfSomeRuns}
+use Rattle.login_laws.specs.AnyEnds.{HonestAmong, IsOfSomePeer, IsOfSomeServer}
+use Rattle.login_laws.specs.AnyEnds.{NoncesDiffer}
+use Rattle.login_laws.specs.Matching.{HasSameKeys, HaveNonces, PeerMatches, ReportsAgree}
+use Rattle.login_laws.specs.Matching.{RestsOn, ServerMatches, ServerRests}
 use Rattle.login_laws.specs.UnderKey.{IsOfKey}
 use Rattle.login_laws.proofs.Conversations.{run_known}
 use Rattle.login_laws.proofs.Matching.{PeerKnown, ServerKnown}
@@ -50,8 +51,7 @@ server_known setup s of =
     }
 
 module _ (setup : Setup) (kind : ℕ) (ps : List OfPeer) (ss : List OfServer)
-    (are : AreOfSomeRuns setup ps ss) (differ : NoncesDiffer ps ss)
-    (honest : HonestAmong (key_for setup.peer kind) ps ss) where
+    (are : AreOfSomeRuns setup ps ss) (differ : NoncesDiffer ps ss) where
   abbrev shared : List ℕ
   shared = key_for setup.peer kind
 
@@ -88,6 +88,12 @@ module _ (setup : Setup) (kind : ℕ) (ps : List OfPeer) (ss : List OfServer)
   abbrev IsKeyed : OfServer → Type 0
   IsKeyed s = (t : TagRecord) → IsIn t s.accepted → t.psk ≡ shared
 
+  keyed_by_user : (s : OfServer) → IsOneOf s ss → is_success s.now.vars.state ≡ true
+      → IsOfKey setup shared s.now → IsKeyed s
+  keyed_by_user s is_one s_in of_key =
+      keyed_server setup shared s.now (servers.setup_with_nonce setup.server (server_nonce s))
+      s.accepted s.made refl (matching.server_won setup s (knows_server s is_one) s_in) of_key
+
   keyed_by_made : (s : OfServer) → IsOneOf s ss → (t : TagRecord) → IsIn t s.made
       → t.psk ≡ shared → IsKeyed s
   keyed_by_made s is_one t is e u there =
@@ -97,13 +103,17 @@ module _ (setup : Setup) (kind : ℕ) (ps : List OfPeer) (ss : List OfServer)
       (server_tags (knows_server s is_one).stands) in
       k.of_accepted u there ∙ sym (k.of_created t is) ∙ e
 
+  -- peers made all that it accepted under it
+  abbrev IsHonest : OfServer → Type 0
+  IsHonest s = AreMade shared s.accepted (all_produced ps)
+
   -- one of the server that holds a nonce rests on one of the peer
-  answered : (s : OfServer) → IsOneOf s ss → IsKeyed s → (foreign : List ℕ)
+  answered : (s : OfServer) → IsOneOf s ss → IsHonest s → IsKeyed s → (foreign : List ℕ)
       → server_knows_nonce s ≡ Some foreign → ServerRests ps s
-  answered s is_one keyed foreign holds =
+  answered s is_one honest keyed foreign holds =
       let asks = matching.server_asking setup s (knows_server s is_one) foreign holds in
       let its : IsIn asks.tag s.accepted = first_is_in asks.tag asks.rest s.accepted asks.first in
-      let m = made_in asks.tag ps (honest.of_servers s is_one asks.tag its (keyed asks.tag its)) in
+      let m = made_in asks.tag ps (honest.each asks.tag its (keyed asks.tag its)) in
       let known = knows_peer m.by m.is_one in
       let told = matching.made_by setup m.by known asks.tag foreign (front (server_nonce s))
       asks.made m.is_in in
@@ -120,15 +130,12 @@ module _ (setup : Setup) (kind : ℕ) (ps : List OfPeer) (ss : List OfServer)
         };
       }
 
-  servers_match : (s : OfServer) → IsOneOf s ss → is_success s.now.vars.state ≡ true
-      → IsOfKey setup shared s.now → ServerMatches ps ss s
-  servers_match s is_one s_in of_key =
+  server_matches : (s : OfServer) → IsOneOf s ss → is_success s.now.vars.state ≡ true
+      → IsOfKey setup shared s.now → IsHonest s → ServerMatches ps ss s
+  server_matches s is_one s_in of_key honest =
       let known = knows_server s is_one in
-      let keyed = keyed_server setup shared s.now
-      (servers.setup_with_nonce setup.server (server_nonce s)) s.accepted s.made refl
-      (matching.server_won setup s known s_in) of_key in
       let a = matching.server_in setup s known s_in in
-      let r = answered s is_one keyed a.foreign a.holds in
+      let r = answered s is_one honest (keyed_by_user s is_one s_in of_key) a.foreign a.holds in
       let on_known = knows_peer r.on r.is_one in
       record {
         on = r.on;
@@ -146,9 +153,14 @@ module _ (setup : Setup) (kind : ℕ) (ps : List OfPeer) (ss : List OfServer)
             r.hold.rand_s));
       }
 
+  keys : (s : OfServer) → IsOneOf s ss → is_success s.now.vars.state ≡ true → (p : OfPeer)
+      → IsOneOf p ps → RestsOn s.accepted p.made → HasSameKeys p s
+  keys s is_one s_in p p_is rests =
+      matching.keys_of setup s (knows_server s is_one) s_in p (knows_peer p p_is) rests
+
   -- ---- the peer's
 
-  module _ (p : OfPeer) (is_one : IsOneOf p ps) where
+  module _ (honest : HonestAmong shared ps ss) (p : OfPeer) (is_one : IsOneOf p ps) where
     -- one of the server that holds the peer's nonce rests on it, which holds its nonce
     record Back (s : OfServer) : Type 0 where
       pub back : RestsOn s.accepted p.made
@@ -157,7 +169,7 @@ module _ (setup : Setup) (kind : ℕ) (ps : List OfPeer) (ss : List OfServer)
     back_on : (s : OfServer) → IsOneOf s ss → IsKeyed s
         → server_knows_nonce s ≡ Some (front (peer_nonce p)) → Back s
     back_on s is keyed rand_p =
-        let r = answered s is keyed (front (peer_nonce p)) rand_p in
+        let r = answered s is (honest.of_servers s is) keyed (front (peer_nonce p)) rand_p in
         let same = the_same r.on p r.is_one is_one
         (one_stored (server_knows_nonce s) _ _ r.hold.rand_p rand_p) in
         record {
@@ -187,7 +199,7 @@ module _ (setup : Setup) (kind : ℕ) (ps : List OfPeer) (ss : List OfServer)
           let its_first : IsIn asks.tag p.accepted =
           first_is_in asks.tag asks.rest p.accepted asks.first in
           let m = made_in asks.tag ss
-          (honest.of_peers p is_one asks.tag its_first (its asks.tag its_first)) in
+          ((honest.of_peers p is_one).each asks.tag its_first (its asks.tag its_first)) in
           let rests : RestsOn p.accepted m.by.made =
           record { tag = asks.tag; more = asks.rest; first = asks.first; is_made = m.is_in } in
           let on_known = knows_server m.by m.is_one in
@@ -214,12 +226,12 @@ module _ (setup : Setup) (kind : ℕ) (ps : List OfPeer) (ss : List OfServer)
             agree = λ s_in. matching.reports_agree setup p known p_in m.by on_known s_in rests b.back;
           }
 
-  agree_both : (p : OfPeer) → IsOneOf p ps → is_success p.now.vars.state ≡ true
-      → p.now.vars.selected ≡ Some kind → (s : OfServer) → IsOneOf s ss
+  agree_both : HonestAmong shared ps ss → (p : OfPeer) → IsOneOf p ps
+      → is_success p.now.vars.state ≡ true → p.now.vars.selected ≡ Some kind → (s : OfServer) → IsOneOf s ss
       → is_success s.now.vars.state ≡ true → RestsOn s.accepted p.made
       → RestsOn p.accepted s.made × ReportsAgree p s
-  agree_both p p_is p_in selected s s_is s_in rests =
-      let m = peer_matches p p_is p_in selected in
+  agree_both honest p p_is p_in selected s s_is s_in rests =
+      let m = peer_matches honest p p_is p_in selected in
       let same = m.back_by_no_other s s_is s_in rests in
       let on : RestsOn p.accepted s.made =
       subst (λ (t : OfServer). RestsOn p.accepted t.made) (sym same) m.rests in (
@@ -236,12 +248,19 @@ pub any_ends_match : AnyEndsMatch
 any_ends_match setup kind ps ss are differ honest =
     record {
       peers_match = peer_matches setup kind ps ss are differ honest;
-      servers_match = servers_match setup kind ps ss are differ honest;
-      same_keys = λ s s_is s_in p p_is rests.
-          matching.keys_of setup s (server_known setup s (are.servers s s_is)) s_in p
-          (peer_known setup p (are.peers p p_is)) rests;
+      servers_match = λ s s_is s_in of_key.
+          server_matches setup kind ps ss are differ s s_is s_in of_key (honest.of_servers s s_is);
+      same_keys = keys setup kind ps ss are differ;
       servers_agree = λ p p_is p_in s s_is rests back.
           matching.same_as_reported setup p (peer_known setup p (are.peers p p_is)) p_in s
           (server_known setup s (are.servers s s_is)) rests back;
       both_agree = agree_both setup kind ps ss are differ honest;
+    }
+
+-- a server's match asks nothing of what the peers accepted
+pub any_server_matches : AnyServerMatches
+any_server_matches setup kind ps ss are differ s is_one s_in of_key honest =
+    record {
+      matches = server_matches setup kind ps ss are differ s is_one s_in of_key honest;
+      same_keys = keys setup kind ps ss are differ s is_one s_in;
     }

@@ -65,3 +65,5 @@ pub mod AnyEnds
 pub mod Confirmed
 -- The MAC of GPSK-2 covers the length of the peer's name first, that of GPSK-3 the peer's nonce.
 pub mod OwnTags
+-- A server reports the name of one of its users.
+pub mod Identity

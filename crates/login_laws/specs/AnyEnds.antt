@@ -47,12 +47,14 @@ pub record NoncesDiffer (ps : List OfPeer) (ss : List OfServer) : Type 0 where
   pub servers : (s t : OfServer) → AreTwoOf s t ss
       → front (server_nonce s) ≡ front (server_nonce t) → ⊥
 
+-- each tag under a key that an end accepted is among these
+pub record AreMade (key : List ℕ) (accepted made : List TagRecord) : Type 0 where
+  pub each : (t : TagRecord) → IsIn t accepted → t.psk ≡ key → IsIn t made
+
 -- each tag under a key that one of them accepted is among those that one of the other role made
 pub record HonestAmong (key : List ℕ) (ps : List OfPeer) (ss : List OfServer) : Type 0 where
-  pub of_peers : (p : OfPeer) → IsOneOf p ps → (t : TagRecord) → IsIn t p.accepted
-      → t.psk ≡ key → IsIn t (all_produced ss)
-  pub of_servers : (s : OfServer) → IsOneOf s ss → (t : TagRecord) → IsIn t s.accepted
-      → t.psk ≡ key → IsIn t (all_produced ps)
+  pub of_peers : (p : OfPeer) → IsOneOf p ps → AreMade key p.accepted (all_produced ss)
+  pub of_servers : (s : OfServer) → IsOneOf s ss → AreMade key s.accepted (all_produced ps)
 
 -- what holds of those of the peer's by a method, and of those of the server's with a user of the
 -- same key
@@ -79,3 +81,17 @@ AnyEndsMatch =
     (setup : Setup) (kind : ℕ) (ps : List OfPeer) (ss : List OfServer)
     → AreOfSomeRuns setup ps ss → NoncesDiffer ps ss
     → HonestAmong (key_for setup.peer kind) ps ss → MatchAmong setup kind ps ss
+
+-- one of the server's rests on one of the peer's, which has the keys that it reports
+pub record MatchesOne (ps : List OfPeer) (ss : List OfServer) (s : OfServer) : Type 0 where
+  pub matches : ServerMatches ps ss s
+  pub same_keys : (p : OfPeer) → IsOneOf p ps → RestsOn s.accepted p.made → HasSameKeys p s
+
+-- of one server, whatever the peers and the other servers accepted: if one of the peers made each
+-- tag that it accepted itself
+abbrev pub AnyServerMatches : Type 0
+AnyServerMatches =
+    (setup : Setup) (kind : ℕ) (ps : List OfPeer) (ss : List OfServer)
+    → AreOfSomeRuns setup ps ss → NoncesDiffer ps ss → (s : OfServer) → IsOneOf s ss
+    → is_success s.now.vars.state ≡ true → IsOfKey setup (key_for setup.peer kind) s.now
+    → AreMade (key_for setup.peer kind) s.accepted (all_produced ps) → MatchesOne ps ss s

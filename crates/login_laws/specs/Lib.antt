@@ -11,3 +11,4 @@ pub mod NewKeys
 pub mod Confirmed
 pub mod AnyEnds
 pub mod OwnTags
+pub mod Identity

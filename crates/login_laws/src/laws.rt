@@ -2,9 +2,10 @@
 
 ghost use Rattle.login_laws.specs.Agreement.{HonestEndsAgree, HonestNamesAreTheirs};
 ghost use Rattle.login_laws.specs.Alone.{OneEndImplies};
-ghost use Rattle.login_laws.specs.AnyEnds.{AnyEndsMatch};
-ghost use Rattle.login_laws.specs.Confirmed.{GpskServersConfirmed};
+ghost use Rattle.login_laws.specs.AnyEnds.{AnyEndsMatch, AnyServerMatches};
+ghost use Rattle.login_laws.specs.Confirmed.{GpskServersConfirmed, GpskServersConfirmedOrCollide};
 ghost use Rattle.login_laws.specs.Forgery.{AgreeOrForged, EachTagIsRight};
+ghost use Rattle.login_laws.specs.Identity.{ServersReportTheirUser};
 ghost use Rattle.login_laws.specs.Matching.{ConversationsAreAll, ConversationsMatch};
 ghost use Rattle.login_laws.specs.OwnTags.{GpskPeersAcceptNoOwnTags};
 ghost use Rattle.login_laws.specs.PresentUnderKey.{EndsAgreeUnder, OneEndImpliesUnder};
@@ -168,6 +169,13 @@ pub fn gpsk_servers_confirmed()
     ensures { GpskServersConfirmed }
 {}
 
+/// Key confirmation to a server by EAP-GPSK under the premises of [`any_ends_match`] alone: the peer's conversation on which a server in
+/// SUCCESS of a user of that key rests has succeeded, with just the server's report. Or another conversation of a peer made the MAC of
+/// GPSK-4 that the server accepted, and it is right under keys that both derive from different inputs of the KDF.
+pub fn gpsk_servers_confirmed_or_collide()
+    ensures { GpskServersConfirmedOrCollide }
+{}
+
 /// A peer by EAP-GPSK in SUCCESS has accepted none of its own tags, in whichever of its conversations it made them, if its nonce
 /// doesn't begin with the length of its own name in two octets, as a random one does once in 65,536.
 pub fn gpsk_peers_accept_no_own_tags()
@@ -182,4 +190,16 @@ pub fn gpsk_peers_accept_no_own_tags()
 /// of which the server rests on the peer agree.
 pub fn any_ends_match()
     ensures { AnyEndsMatch }
+{}
+
+/// What [`any_ends_match`] says of one server in SUCCESS, whatever the peers and the other servers accepted: of the tags it is asked only that
+/// those under the key which this server accepted are among those that one of the peers made.
+pub fn any_server_matches()
+    ensures { AnyServerMatches }
+{}
+
+/// A server in SUCCESS reports the name of one of its users. So one whose users are those of the name in the Identity Response alone
+/// reports that name, though no MAC covers the Identity.
+pub fn servers_report_their_user()
+    ensures { ServersReportTheirUser }
 {}
