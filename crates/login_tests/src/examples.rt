@@ -8,17 +8,17 @@ use crate::settings::settings_of_scenario;
 use crate::ways::{are_equal, no_methods};
 use access_point::AccessPoint;
 use eap_base::{Octets, Packet, Secret};
-use eap_method::{Methods, Outcome, PeerMethod, ServerMethod};
+use eap_method::{Methods, PeerMethod, ServerMethod};
 use eap_packet::State;
+use eapol_frame::{EAP_PACKET, EapolFrame, read_frame, write_frame};
 use login_server::Session;
 use login_setup::Setup;
 use own_method::Counted;
-use own_proof::receive;
 use psk_ends::{PskPeer, PskServer};
 use radius_carry::{RadiusKind, write_reply};
 use std::alloc::{AllocError, Global};
 use std::test::Fail;
-use supplicant::Supplicant;
+use supplicant::{Control, Discard, Limits, Supplicant};
 
 /// What the access point brings the station for its Response, by a request to the server and the reply; None if one is discarded.
 fn pass_on<S: ServerMethod>(
@@ -42,27 +42,40 @@ fn carry<P: PeerMethod, S: ServerMethod>(
     let secret = Octets::from_slice(b"a secret of both")?;
     let mut point = AccessPoint::new(secret.copy());
     let mut packet = point.begin()?;
+    let mut frame = EapolFrame::new();
+    let starts = station.link_up_step(&mut frame).sends
+        & (frame.as_slice() == b"\x02\x01\x00\x00".as_slice());
     for round in 0..5 {
-        let answer = station.receive(packet.as_slice(), &[3; 32]);
-        match answer.outcome {
-            Outcome::Send => {}
-            Outcome::Success(report) => {
-                let stranger = receive(&mut station.peer, b"\x01\x00\x00");
-                let is_open = point.pass.state() == State::Success2;
-                let are_alike = are_equal(&report, &server.report()?);
-                return Some(are_alike & is_open & stranger.cause.is_some());
-            }
-            _ => return Some(false),
+        let mut from_point = EapolFrame::new();
+        write_frame(&mut from_point, EAP_PACKET, packet.as_slice());
+        let step = station.frame_step(from_point.as_slice(), &[3; 32], &mut frame);
+        if !step.sends {
+            let is_open = station.authorized() & (point.pass.state() == State::Success2);
+            let are_alike = are_equal(&station.report()?, &server.report()?);
+            let stranger = station.frame_step(
+                b"\x02\x00\x00\x04\x03\x00\x00\x04",
+                &[3; 32],
+                &mut frame,
+            );
+            let is_discarded = stranger.cause == Some(Discard::NotRequest);
+            return Some(starts & is_open & are_alike & is_discarded);
         }
-        let response = answer.step.sent?;
-        packet = pass_on(&mut point, server, &secret, response.as_slice(), round)?;
+        let response = read_frame(frame.as_slice()).ok()?.body;
+        packet = pass_on(&mut point, server, &secret, response, round)?;
     }
     Some(false)
 }
 
 /// The same of ends with these settings and objects; None if one doesn't take them.
 fn logs_in<P: PeerMethod, S: ServerMethod>(setup: Setup, methods: Methods<P, S>) -> Option<bool> {
-    let mut station = Supplicant::new(setup.peer, methods.peer)?;
+    let limits = Limits {
+        start_period: 30,
+        max_start: 3,
+        auth_period: 30,
+        held_period: 60,
+        port_valid: false,
+    };
+    let mut station = Supplicant::new(setup.peer, methods.peer, limits, Control::Auto)?;
     let mut server = Session::new(setup.server, methods.server, Octets::from_slice(b"1")?)?;
     carry(&mut station, &mut server)
 }

@@ -1,1 +1,3 @@
-pub mod Asking
+pub mod Laws
+pub mod Runs
+pub mod Table

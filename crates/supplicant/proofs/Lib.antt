@@ -1,0 +1,6 @@
+mod Discards
+mod Feeding
+mod Frames
+mod Objects
+mod Reports
+mod Worked
