@@ -36,13 +36,38 @@ int __wrap_main(int argc, char **argv)
 	return __real_main();
 }
 
-/* The octets of an argument, and how many: -1 if there is none, -2 if there is no room for it. */
+/*@ predicate Words =
+  @   (count == 0 || \valid_read(words + (0 .. count - 1))) && count <= 0x7fffffff &&
+  @   \forall integer i; 0 <= i < count ==> words[i] == \null ||
+  @     (valid_read_string(words[i]) && strlen(words[i]) <= 0x7fffffff);
+  @*/
+
+/* The octets of an argument, and how many: -1 if there is none, -2 if there is no room for it.
+ * (The lines with an @ say it again: c/proved has them proved.) */
+/*@ requires Words && \valid(room + (0 .. size - 1));
+  @ requires \separated(room + (0 .. size - 1), words + (0 .. count - 1), &words, &count);
+  @ requires which < count && words[which] != \null ==>
+  @   \separated(room + (0 .. size - 1), words[which] + (0 ..));
+  @ assigns room[0 .. size - 1];
+  @ ensures none: \result == -1 <==> which >= count || words[which] == \null;
+  @ ensures long: \result == -2 <==>
+  @   which < count && words[which] != \null && strlen(words[which]) > size;
+  @ ensures full: \result == -2 ==>
+  @   \forall integer i; 0 <= i < size ==> room[i] == (uint8_t) words[which][i];
+  @ ensures whole: \result >= 0 ==> \result == strlen(words[which]) <= size &&
+  @   \forall integer i; 0 <= i < \result ==> room[i] == (uint8_t) words[which][i];
+  @ ensures one: \result >= -2;
+  @*/
 int64_t rattle_arg(uint64_t which, uint8_t *room, uint64_t size)
 {
 	uint64_t n;
 
 	if (which >= count || !words[which])
 		return -1;
+	/*@ loop invariant 0 <= n <= strlen(words[which]) && n <= size;
+	  @ loop invariant \forall integer i; 0 <= i < n ==> room[i] == (uint8_t) words[which][i];
+	  @ loop assigns n, room[0 .. size - 1];
+	  @ loop variant strlen(words[which]) - n; */
 	for (n = 0; words[which][n]; n++) {
 		if (n == size)
 			return -2;

@@ -14,6 +14,10 @@ typedef struct {
 } max_align_t;
 
 #define _Alignof __alignof__
+#define _Alignas(octets)
+
+/* (the name of a function in its object, of which no proof speaks) */
+#define __asm__(name)
 
 /* (that no compiler leaves it out is nothing that a value shows) */
 #define explicit_bzero(at, len) memset(at, 0, len)

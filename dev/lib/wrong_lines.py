@@ -18,6 +18,8 @@ from lib.common import ROOT, Refused, grouped, said_by
 
 LIST = "wrong/scripts.lines"
 SHARE, SECONDS = 3, 1200
+# Who takes minutes for a line is tried when all are.
+SLOW = ("c/proved words", "c/proved system", "c/proved pool")
 # Who is stopped begins no more tries.
 stopped = threading.Event()
 # What a command says that can try nothing here.
@@ -121,9 +123,10 @@ def try_by(seer: str, lines: list[Wrong]) -> Tried:
 
 
 def some_of(lines: list[Wrong]) -> list[Wrong]:
-    """One of SHARE of each seer, other ones each day."""
+    """One of SHARE of each seer that isn't slow, other ones each day."""
     day = int(time.time()) // 86400
-    return [it for its in grouped((it.seer, it) for it in lines).values() for at, it in enumerate(its) if (at + day) % SHARE == 0]
+    quick = [it for it in lines if it.seer not in SLOW]
+    return [it for its in grouped((it.seer, it) for it in quick).values() for at, it in enumerate(its) if (at + day) % SHARE == 0]
 
 
 def try_all(lines: list[Wrong]) -> Tried:
