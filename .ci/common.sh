@@ -141,11 +141,13 @@ keep() {
         mv "$program.new.$$" "$program" && mv "$program.of.new.$$" "$program.of" && kind=$1
 }
 
-# From here on a signal ends what was started, and in the end nothing is left in "$work": where programs are kept, if that can
-# be written, since the system's folder for temporary files may let none run.
+# From here on a signal ends what was started, and in the end nothing is left in "$work": in the folder $1, if that can be
+# written, since the system's one for temporary files may let no program run.
 clean_at_end() {
     begun=${begun:-$(date +%s)}
-    work=$(mkdir -p "$kept" && mktemp -d "$kept/work.XXXXXX") 2>/dev/null || work=$(mktemp -d) || return
+    work=
+    [ $# = 0 ] || work=$(mkdir -p "$1" && mktemp -d "$1/work.XXXXXX") 2>/dev/null || work=
+    [ -n "$work" ] || work=$(mktemp -d) || return
     trap 'stop; rm -rf "$work" "$kept"/*.new."$$"' EXIT
     trap 'give_up 130' INT
     trap 'give_up 143' TERM

@@ -9,7 +9,7 @@ build_dist() {
         say "${why#dist/check: }"
     elif ! command -v "${compiler%% *}" >/dev/null; then
         say "dist/ is not taken, since there is no C compiler ${compiler%% *}"
-    elif clean_at_end; then
+    elif clean_at_end "$kept"; then
         assemble >"$work/log" 2>&1 && is_assembled=yes || is_assembled=no
         [ "$is_assembled" = yes ] || say "dist/$text was not assembled: $(tail -n 1 "$work/log")"
         forget_end
