@@ -17,7 +17,7 @@ from typing import Any, Callable, Iterable, Iterator, NoReturn, Optional, Sequen
 ROOT = Path(__file__).resolve().parent.parent.parent
 Key = TypeVar("Key")
 Value = TypeVar("Value")
-MOST_UNPACKED = 1 << 30
+MOST_UNPACKED = 1 << 28
 
 
 class Refused(Exception):
@@ -99,7 +99,7 @@ def octets_of(path: str) -> bytes:
 
 
 def unpacked(octets: bytes) -> bytes:
-    """What gzip has packed, as Wireshark packs files; what isn't whole, or is over 1 GB, stays as it is."""
+    """What gzip has packed, as Wireshark packs files; what isn't whole, or is over 256 MB, stays as it is."""
     if octets[:3] != b"\x1f\x8b\x08":
         return octets
     reader = zlib.decompressobj(31)

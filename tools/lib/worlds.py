@@ -76,6 +76,10 @@ class Search:
         if self.turn > self.begin and min(it.cost for it in ends) + ONE > self.limit < TOO_MUCH:
             self.again()
             yield from self.logins()
+        elif self.turn > self.begin and (found := self.shared(ONE + 1))[1]:
+            # (nothing more comes that a dearer world could explain better)
+            yield from self.over(*found)
+            yield from self.logins()
         elif self.turn > self.begin:
             yield self.begin, self.turn, ends, self.is_closed
             self.begin = self.turn
@@ -126,9 +130,10 @@ class Search:
         self.is_closed = self.is_closed and len(found) <= most
         return found[:most]
 
-    def shared(self) -> tuple[int, list[World]]:
-        """The first begin of a login that all worlds have at the same frame, and the worlds there, the cheapest first."""
-        of_worlds = [{begin.seen[-1].place: begin for begin in w.begins} for w in self.worlds if w.cost < self.worlds[0].cost + CLOSE]
+    def shared(self, within: int = CLOSE) -> tuple[int, list[World]]:
+        """The first begin of a login that all worlds have at the same frame, and the worlds there, the cheapest first; but for those
+        that are dearer."""
+        of_worlds = [{begin.seen[-1].place: begin for begin in w.begins} for w in self.worlds if w.cost < self.worlds[0].cost + within]
         for place in of_worlds[0]:
             if place > self.begin and all(place in it for it in of_worlds):
                 its = {id(it[place]): it[place] for it in of_worlds}
