@@ -258,13 +258,13 @@ class Login:
             octets = act.octets if act.octets in (START, LOGOFF) else bytes([act.octets[0], out[0][1][1]]) + act.octets[2:]
             self.after(act.value, self.send, "forger", octets, packets.read(octets).message if octets[1:2] != b"" else "", False, act.is_down)
         elif act.kind == "start":
-            self.after(act.value, self.begin_again)
+            self.after(act.value, self.resend_start)
         elif act.kind in ("peer", "server"):
             self.after(act.value, self.restart, act.kind)
             return [] if act.place else out
         return out
 
-    def begin_again(self) -> None:
+    def resend_start(self) -> None:
         """The station sends an EAPOL-Start, as a supplicant does whose timer for that runs on (IEEE 802.1X startPeriod)."""
         self.send("peer", START, "Start", True)
         if self.plan.heeds_starts:
@@ -372,7 +372,7 @@ class Radius(Login):
         """An Access-Accept or an Access-Reject without an EAP packet."""
         self.after(0.001, self.send, "server", bytes([code, identifier, 0, 20]) + bytes(16), "Reject" if code == 3 else "Accept")
 
-    def is_begun(self, identifier: int) -> bool:
+    def is_active(self, identifier: int) -> bool:
         """Whether the rule has begun at the Request with this Identifier."""
         return next(at for at, it in enumerate(self.requests, 1) if it[1] == identifier) > self.plan.begin
 
@@ -380,20 +380,20 @@ class Radius(Login):
         rule, octets = self.plan.rule, sent.octets
         if rule == ("bare-reply" if sent.is_down else "bare-request"):
             return without_authenticator(octets)
-        if rule == "reject-request" and octets[0] == 11 and self.is_begun(octets[1]):
+        if rule == "reject-request" and octets[0] == 11 and self.is_active(octets[1]):
             return b"\3" + octets[1:]
         return octets
 
     def arrive(self, sent: Sent, octets: bytes) -> None:
-        rule, is_begun = self.plan.rule, self.is_begun(sent.octets[1])
+        rule, is_active = self.plan.rule, self.is_active(sent.octets[1])
         if sent.is_down:
-            self.come_back(sent, octets, octets == sent.octets and rule not in UNTAKEN)
+            self.accept_reply(sent, octets, octets == sent.octets and rule not in UNTAKEN)
             return
-        is_heard = rule not in UNHEARD and not (rule == "hop-drop" and is_begun)
+        is_heard = rule not in UNHEARD and not (rule == "hop-drop" and is_active)
         sent.arrivals.append((self.now, octets, is_heard))
-        if is_heard and is_begun and rule in ("accept", "hop-reject"):
+        if is_heard and is_active and rule in ("accept", "hop-reject"):
             self.answer_bare(2 if rule == "accept" else 3, octets[1])
-        elif is_heard and is_begun and rule == "forget":
+        elif is_heard and is_active and rule == "forget":
             self.forget(octets)
         elif is_heard:
             self.place.hear(octets, ("10.0.0.9", self.client[1]))
@@ -404,7 +404,7 @@ class Radius(Login):
             eap = b"".join(radius.values(octets, 79))
             self.sendto(self.place.radius.reply(octets, "reject", b"", ends.failure(eap[1]), b""), None)
 
-    def come_back(self, sent: Sent, octets: bytes, is_taken: bool) -> None:
+    def accept_reply(self, sent: Sent, octets: bytes, is_taken: bool) -> None:
         is_awaited = bool(self.waits) and octets[1] == self.waits[1] and is_taken
         sent.arrivals.append((self.now, octets, is_awaited))
         peer = self.end_of["peer"]
@@ -419,7 +419,7 @@ class Radius(Login):
         """What the tap sees of a packet at each of its hops, of which 0 is the client's."""
         last, rule = self.plan.proxies, self.plan.rule
         hops = [*range(last + 1)] if not sent.is_down else [*range(last, -1, -1)]
-        if rule in ("hop-drop", "hop-reject") and self.is_begun(octets[1]):
+        if rule in ("hop-drop", "hop-reject") and self.is_active(octets[1]):
             hops = [0]
         elif rule == "hop-address" and sent.is_down:
             hops = [last]

@@ -177,9 +177,9 @@ class Search:
                 yield from self.ways(w, it, token("order", at, "late"))
         behind = self.frame(w.first + 1)
         if len(w.late) < BACK and behind is not None:
-            yield from self.steps(self.held_back(w, front))
+            yield from self.steps(self.deferred(w, front))
 
-    def held_back(self, w: World, front: Frame) -> World:
+    def deferred(self, w: World, front: Frame) -> World:
         """A world that holds back its next frame."""
         key = id(w), -1
         if key not in self.known:
