@@ -37,7 +37,7 @@ servers_report_their_user setup name s of named s_in =
     s.now.views s.accepted s.made (server_won setup s known s_in) in
     record {
       report = its.report;
-      holds = server_report_is s.now its.kind _ its.is_current its.reported;
+      reported = server_report_is s.now its.kind _ its.is_current its.reported;
       named = found_name name setup.server.users its.report.id_p its.report.method its.user named
           its.known;
     }

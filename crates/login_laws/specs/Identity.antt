@@ -15,7 +15,7 @@ AreNamed name users = (u : User) → IsOneOf u users → u.name ≡ name
 
 pub record ReportsName (name : List ℕ) (s : OfServer) : Type 0 where
   pub report : Report
-  pub holds : server_reports s.now ≡ Some report
+  pub reported : server_reports s.now ≡ Some report
   pub named : report.id_p ≡ name
 
 abbrev pub ServersReportTheirUser : Type 0
