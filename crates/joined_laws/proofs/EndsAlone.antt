@@ -13,15 +13,16 @@ use Rattle.end_pipe.specs.Inputs.{is_of_peer, is_of_server}
 use Rattle.end_pipe.specs.declared.input.EndInput.{EndInput}
 use Rattle.joined_laws.specs.EndsAlone.{EndAlone, EndsAloneMatch, IsPeerAlone, IsServerAlone}
 use Rattle.joined_laws.specs.EndsAlone.{accepted_at, made_at, peer_after, peer_initial, peer_setup}
-use Rattle.joined_laws.specs.EndsAlone.{server_after, server_initial, server_setup}
+use Rattle.joined_laws.specs.EndsAlone.{ServersAloneMatch, peers_after, server_after}
+use Rattle.joined_laws.specs.EndsAlone.{server_initial, server_setup, servers_after}
 use Rattle.joined_laws.specs.Joined.{Arrives, event_of, interleaved_book, is_input, peer_alone}
 use Rattle.joined_laws.specs.Joined.{peers_of, server_alone, servers_of, to_peer, to_server, world_of}
 use Rattle.joined_laws.proofs.BookDetermined.{book_is_determined}
 use Rattle.joined_laws.proofs.Interleaved.{interleavings_are_runs}
 use Rattle.joined_laws.proofs.OneConversation.{run_started}
-use Rattle.login_laws.specs.AnyEnds.{IsOfSomePeer, IsOfSomeServer}
+use Rattle.login_laws.specs.AnyEnds.{AreOfSomeRuns, IsOfSomePeer, IsOfSomeServer}
 use Rattle.login_laws.specs.Matching.{AreAll}
-use Rattle.login_laws.proofs.AnyEnds.{any_ends_match}
+use Rattle.login_laws.proofs.AnyEnds.{any_ends_match, any_server_matches}
 use Rattle.login_laws.proofs.Conversations.{conversations_are_all}
 use Rattle.login_setup.specs.declared.setup.Setup.{Setup}
 use Rattle.method_laws.specs.Records.{tags_by}
@@ -218,12 +219,21 @@ each_of {A} f P (one ∷ rest) each x is =
 -- A world whose events are the inputs of one end alone has this end as it is alone
 -- (`interleavings_are_runs`), its tags in the book (`book_is_determined`), and one conversation of
 -- it, since nothing begins another. So ends alone are conversations of some runs, which match.
+are_of_runs : (setup : Setup) (ps ss : List EndAlone)
+    → ((one : EndAlone) → IsOneOf one ps → IsPeerAlone setup one)
+    → ((one : EndAlone) → IsOneOf one ss → IsServerAlone setup one)
+    → AreOfSomeRuns setup (peers_after setup ps) (servers_after setup ss)
+are_of_runs setup ps ss are_peers are_servers = record {
+  peers = each_of (peer_after setup) (IsOfSomePeer setup) ps
+      (λ one is. peer_is setup one (are_peers one is));
+  servers = each_of (server_after setup) (IsOfSomeServer setup) ss
+      (λ one is. server_is setup one (are_servers one is));
+}
+
 pub ends_alone_match : EndsAloneMatch
 ends_alone_match setup kind ps ss are_peers are_servers =
-    any_ends_match setup kind _ _
-    (record {
-      peers = each_of (peer_after setup) (IsOfSomePeer setup) ps
-          (λ one is. peer_is setup one (are_peers one is));
-      servers = each_of (server_after setup) (IsOfSomeServer setup) ss
-          (λ one is. server_is setup one (are_servers one is));
-    })
+    any_ends_match setup kind _ _ (are_of_runs setup ps ss are_peers are_servers)
+
+pub servers_alone_match : ServersAloneMatch
+servers_alone_match setup kind ps ss are_peers are_servers =
+    any_server_matches setup kind _ _ (are_of_runs setup ps ss are_peers are_servers)

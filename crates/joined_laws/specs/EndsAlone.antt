@@ -10,14 +10,16 @@ use Rattle.end_pipe.specs.EndRun.{EndNow, EndTold, end_after, told_of, started_p
 use Rattle.end_pipe.specs.EndRun.{started_server, server_step}
 use Rattle.end_pipe.specs.Inputs.{is_of_peer, is_of_server}
 use Rattle.end_pipe.specs.declared.input.EndInput.{EndInput}
-use Rattle.login_laws.specs.AnyEnds.{HonestAmong, MatchAmong, NoncesDiffer}
+use Rattle.eap_world.specs.Judgement.{is_success}
+use Rattle.login_laws.specs.AnyEnds.{AreMade, HonestAmong, MatchAmong, MatchesOne, NoncesDiffer}
+use Rattle.login_laws.specs.UnderKey.{IsOfKey}
 use Rattle.login_setup.specs.declared.setup.Mode.TheVariants as mode
 use Rattle.login_setup.specs.declared.setup.Setup.{Setup}
 use Rattle.peer_machine.specs.PeerTable as peers
 use Rattle.peer_machine.specs.PeerTable.{PeerNow}
 use Rattle.server_machine.specs.ServerTable as servers
 use Rattle.server_machine.specs.ServerTable.{ServerNow}
-use Rattle.world_laws.specs.EachConversation.{IsOneOf, OfPeer, OfServer}
+use Rattle.world_laws.specs.EachConversation.{IsOneOf, OfPeer, OfServer, all_produced}
 use Rattle.world_laws.specs.Whole.{IsWhole}
 
 -- an end that runs alone: its nonce, and its inputs in their order
@@ -90,3 +92,15 @@ EndsAloneMatch =
     → NoncesDiffer (peers_after setup ps) (servers_after setup ss)
     → HonestAmong (key_for setup.peer kind) (peers_after setup ps) (servers_after setup ss)
     → MatchAmong setup kind (peers_after setup ps) (servers_after setup ss)
+
+-- so does one of the servers, if a peer made what it accepted itself
+abbrev pub ServersAloneMatch : Type 0
+ServersAloneMatch =
+    (setup : Setup) (kind : ℕ) (ps ss : List EndAlone)
+    → ((one : EndAlone) → IsOneOf one ps → IsPeerAlone setup one)
+    → ((one : EndAlone) → IsOneOf one ss → IsServerAlone setup one)
+    → NoncesDiffer (peers_after setup ps) (servers_after setup ss)
+    → (s : OfServer) → IsOneOf s (servers_after setup ss) → is_success s.now.vars.state ≡ true
+    → IsOfKey setup (key_for setup.peer kind) s.now
+    → AreMade (key_for setup.peer kind) s.accepted (all_produced (peers_after setup ps))
+    → MatchesOne (peers_after setup ps) (servers_after setup ss) s

@@ -1,6 +1,6 @@
 //! Laws of two ends that run alone. Each is the contract of a function that does nothing.
 
-ghost use Rattle.joined_laws.specs.EndsAlone.{EndsAloneMatch};
+ghost use Rattle.joined_laws.specs.EndsAlone.{EndsAloneMatch, ServersAloneMatch};
 ghost use Rattle.joined_laws.specs.Joined.{BookIsDetermined, InterleavingsAreRuns, JoinedEndsAgree};
 
 /// Two ends that run alone, and whose packets somebody carries, are the ends of a world. Take any settings of mode alone,
@@ -32,4 +32,10 @@ pub fn joined_ends_agree()
 /// asked.
 pub fn ends_alone_match()
     ensures { EndsAloneMatch }
+{}
+
+/// What [`ends_alone_match`] says of one server in SUCCESS, whatever the peers and the other servers accepted: as `any_server_matches` of
+/// login_laws, of the tags it is asked only that one of the peers made each under the key that this server accepted.
+pub fn servers_alone_match()
+    ensures { ServersAloneMatch }
 {}

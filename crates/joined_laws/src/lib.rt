@@ -4,4 +4,7 @@
 
 mod laws;
 
-pub use laws::{book_is_determined, ends_alone_match, interleavings_are_runs, joined_ends_agree};
+pub use laws::{
+    book_is_determined, ends_alone_match, interleavings_are_runs, joined_ends_agree,
+    servers_alone_match,
+};
