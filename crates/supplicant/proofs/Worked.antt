@@ -68,22 +68,22 @@ unanswered = refl
 -- a Request begins a login, and takes the nonce
 answers : (accepts (after_inputs fresh (link_up ∷ [])) (frame asks (replicate 32 9))).step.sent
     ≡ Some (2 ∷ 0 ∷ 0 ∷ 8 ∷ 2 ∷ 7 ∷ 0 ∷ 8 ∷ 1 ∷ 97 ∷ 110 ∷ 110 ∷ [])
-unfolding link_comes_up second_goes_by after_inputs frame_comes frame_of packet_comes packet_of fault peer_restart peer_receives peer_deliver spelled views_started
+unfolding link_comes_up after_inputs frame_comes frame_of packet_comes packet_of fault peer_restart peer_receives peer_deliver spelled views_started
 answers = refl
 
 -- a Success before any method fails, and is held
 no_success : (after_inputs fresh (link_up ∷ frame asks (replicate 32 9) ∷ frame succeeds (replicate 32 9) ∷ [])).state ≡ pae.Held
-unfolding link_comes_up second_goes_by after_inputs frame_comes frame_of packet_comes packet_of fault peer_restart peer_receives peer_deliver spelled views_started
+unfolding link_comes_up after_inputs frame_comes frame_of packet_comes packet_of fault peer_restart peer_receives peer_deliver views_started
 no_success = refl
 
 -- a Success that nobody waits for begins no login
 unasked : (after_inputs fresh (link_up ∷ frame succeeds (replicate 32 9) ∷ [])).state ≡ pae.Connecting
-unfolding link_comes_up second_goes_by after_inputs frame_comes frame_of packet_comes packet_of fault peer_restart peer_receives peer_deliver spelled views_started
+unfolding link_comes_up after_inputs frame_comes frame_of packet_comes packet_of fault peer_restart peer_receives peer_deliver
 unasked = refl
 
 -- a silent authenticator amid a login
 silence : (after_inputs fresh (link_up ∷ frame asks (replicate 32 9) ∷ tick ∷ tick ∷ tick ∷ [])).state ≡ pae.Connecting
-unfolding link_comes_up second_goes_by after_inputs frame_comes frame_of packet_comes packet_of fault peer_restart peer_receives peer_deliver spelled views_started
+unfolding link_comes_up second_goes_by after_inputs frame_comes frame_of packet_comes packet_of fault peer_restart peer_receives peer_deliver
 silence = refl
 
 -- a logoff says so once, and a logon connects again
