@@ -56,7 +56,7 @@ def secret(text: str) -> tuple[bytes, str]:
     with contextlib.suppress(ValueError):
         found, its = ip_address(address).packed, rest
     if not its:
-        raise ArgumentTypeError("the secret is empty")
+        raise ArgumentTypeError(f"no secret stands behind the address: {address}=TEXT" if found else "the secret is empty")
     return found, its
 
 
