@@ -36,7 +36,7 @@ int main(void)
 
 	told.name = told.psk_key = (struct tuv_octets) { nonce, 16 };
 	told.gpsk_key = (struct tuv_octets) { nonce, 32 };
-	if (!tuv_end_new(&end.at) || BEGIN(&end, &told, nonce) != TUV_BEGUN)
+	if (!tuv_end_new(&end.at) || BEGIN(&end, &told, nonce) != TUV_OK)
 		return 1;
 #elif defined(THEIRS)
 	struct login login = { .method = 51, .key_len = 32, .peer_name = "alice", .server_name = "srv" };
@@ -65,7 +65,7 @@ int main(void)
 	}
 #ifdef BEGIN
 	len = write(4, report.msk, sizeof(report.msk));
-	tuv_end_drop(&end);
+	tuv_end_free(&end);
 #elif defined(THEIRS)
 	if (!supplicant_peer.succeeded())
 		return 1;

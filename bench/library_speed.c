@@ -59,8 +59,8 @@ static bool log_in(const struct tuv_settings *of_peer,
 		converse(&server, &peer, tuv_server_start(&server));
 		good = agree(&peer, &server);
 	}
-	tuv_end_drop(&peer);
-	tuv_end_drop(&server);
+	tuv_end_free(&peer);
+	tuv_end_free(&server);
 	return good;
 }
 

@@ -91,7 +91,7 @@ static void try_processor(unsigned int lacks, bool serves)
 #ifdef __x86_64__
 		lacking = lacks;
 #endif
-		holds(tuv_processor_serves() == serves, "another processor serves");
+		holds(tuv_cpu_supported() == serves, "another processor serves");
 		holds(rattle_alloc(64, 1).ok == serves, "the heap doesn't ask for the processor");
 		holds(rattle_alloc(64, 1).at != NULL, "a block stands at null");
 		fflush(stdout);
@@ -112,7 +112,7 @@ static int calls;
 		(void) end;							\
 		handed = *settings;						\
 		calls++;							\
-		return TUV_BEGUN;						\
+		return TUV_OK;						\
 	}
 #define SETTINGS const struct tuv_settings *settings
 #define NONCE const uint8_t *nonce
@@ -121,7 +121,7 @@ PROVED(tuv_peer_begin, SETTINGS, __attribute__((unused)) NONCE)
 PROVED(tuv_server_begin, SETTINGS, __attribute__((unused)) NONCE,
        __attribute__((unused)) uint8_t first_id, __attribute__((unused)) uint8_t retries)
 PROVED(tuv_backend_begin, SETTINGS, __attribute__((unused)) NONCE)
-PROVED(tuv_server_user, SETTINGS)
+PROVED(tuv_server_set_user, SETTINGS)
 PROVED(tuv_peer_method_begin, SETTINGS, __attribute__((unused)) NONCE)
 PROVED(tuv_server_method_begin, SETTINGS, __attribute__((unused)) NONCE,
        __attribute__((unused)) uint8_t id)
@@ -173,12 +173,12 @@ static void try_settings(size_t size, size_t at, uint8_t octet)
 	answers[0] = tuv_peer_begin(NULL, settings, nonce);
 	answers[1] = tuv_server_begin(NULL, settings, nonce, 1, 2);
 	answers[2] = tuv_backend_begin(NULL, settings, nonce);
-	answers[3] = tuv_server_user(NULL, settings);
+	answers[3] = tuv_server_set_user(NULL, settings);
 	answers[4] = tuv_peer_method_begin(NULL, settings, nonce);
 	answers[5] = tuv_server_method_begin(NULL, settings, nonce, 1);
 	answers[6] = tuv_server_method_user(NULL, settings);
 	for (i = 0; i < 7; i++)
-		holds(answers[i] == (is_good ? TUV_BEGUN : TUV_OTHER_SIZE),
+		holds(answers[i] == (is_good ? TUV_OK : TUV_BAD_SIZE),
 		      "settings are taken or refused by another size");
 	holds(calls == (is_good ? 7 : 0), "settings that are refused are handed on");
 	holds(!is_good || (handed.name.at && handed.other.at && handed.psk_key.at && handed.gpsk_key.at),
@@ -239,8 +239,8 @@ static void try_drop(void)
 
 	closed = freed = 0;
 	memset(end.at, 'k', malloc_usable_size(end.at));
-	tuv_end_drop(&end);
-	tuv_end_drop(&end);
+	tuv_end_free(&end);
+	tuv_end_free(&end);
 	holds(closed == 1 && freed == 1 && !end.at, "a handle isn't dropped once");
 }
 

@@ -105,7 +105,7 @@ static bool widened(wide_settings *wide, const void *settings)
 		wide_settings whole;						\
 										\
 		return widened(&whole, settings) ? proved_##name handed	\
-						  : TUV_OTHER_SIZE;		\
+						  : TUV_BAD_SIZE;		\
 	}
 
 #if UINTPTR_MAX == UINT64_MAX
@@ -152,7 +152,7 @@ static bool report_by(reporter *whole_by, struct tuv_end *end, void *report)
 /* The block that is given back is one that the proved handle owns.  A closed end owns
  * nothing behind it (tuv_end_close ensures no_end), and with a null `at` the handle is
  * none that a proved call takes. */
-void tuv_end_drop(struct tuv_end *end)
+void tuv_end_free(struct tuv_end *end)
 {
 	if (end->at) {
 		tuv_end_close(end);
@@ -172,7 +172,7 @@ TAKES_SETTINGS(tuv_peer_begin, (END, NONCE), (end, WHOLE, nonce))
 TAKES_SETTINGS(tuv_server_begin, (END, NONCE, uint8_t first_id, uint8_t max_retrans),
 	       (end, WHOLE, nonce, first_id, max_retrans))
 TAKES_SETTINGS(tuv_backend_begin, (END, NONCE), (end, WHOLE, nonce))
-TAKES_SETTINGS(tuv_server_user, (END), (end, WHOLE))
+TAKES_SETTINGS(tuv_server_set_user, (END), (end, WHOLE))
 TAKES_SETTINGS(tuv_peer_method_begin, (END, NONCE), (end, WHOLE, nonce))
 TAKES_SETTINGS(tuv_server_method_begin, (END, NONCE, uint8_t id),
 	       (end, WHOLE, nonce, id))

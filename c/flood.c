@@ -99,7 +99,7 @@ static bool answered(const char *name, const char *key, const char *word)
 {
 	static const uint8_t nonce[TUV_NONCE_LEN] = "a nonce of one login of a test..";
 	struct tuv_settings settings = told(name, "srv", key);
-	bool good = tuv_peer_begin(&peer, &settings, nonce) == TUV_BEGUN &&
+	bool good = tuv_peer_begin(&peer, &settings, nonce) == TUV_OK &&
 		ends("srv", "32 octets that both ends share..", word);
 
 	tuv_end_close(&peer);
@@ -176,7 +176,7 @@ static bool is_asked(const char *key, const char *other, unsigned int often, con
 	if (!tuv_end_new(&server.at) || tuv_server_begin(&server, &of_server, nonce, 0, 4))
 		return false;
 	log_in(&of_peer, answer_server, receive_of_server, note);
-	tuv_end_drop(&server);
+	tuv_end_free(&server);
 	if (logins == often && (told_last ? word && strcmp(told_last, word) == 0 : !word))
 		return true;
 	printf("flood: %u logins, and at last %s\n", logins, told_last ? told_last : "nothing");

@@ -321,7 +321,7 @@ static void hold_packets(enum handle h)
 	if (ask(h, tuv_end_packet, &packet) != (m->sends ? m->last.len : 0) ||
 	    memcmp(packet.octets, m->last.octets, packet.len) != 0)
 		fail("a packet isn't that of the last turn");
-	if (ask(h, tuv_end_again, &packet) != m->last.len ||
+	if (ask(h, tuv_end_last_packet, &packet) != m->last.len ||
 	    memcmp(packet.octets, m->last.octets, packet.len) != 0)
 		fail("the packet isn't the one that was sent last");
 	same(h, 0, "asking for a packet changes the end");
@@ -664,7 +664,7 @@ static uint8_t begin(enum handle h, const struct tuv_settings *s,
 	answer = begin_as(role_of(h), ends[h], s, copied(nonce, sizeof(nonce)), retries);
 	if (answer != judged(h, s, retries))
 		fail("a begin is refused otherwise than the header says");
-	if (answer != TUV_BEGUN) {
+	if (answer != TUV_OK) {
 		refused++;
 		same(h, 0, "a begin that was refused changed the end");
 		return answer;
@@ -690,10 +690,10 @@ static void give(enum handle h, const struct tuv_settings *s, bool by_method)
 	remember(h);
 	s = handed(s);
 	answer = by_method ? tuv_server_method_user(ends[h], s)
-			   : tuv_server_user(ends[h], s);
+			   : tuv_server_set_user(ends[h], s);
 	if (answer != judged_user(h, s, by_method))
 		fail("a user is refused otherwise than the header says");
-	if (answer != TUV_BEGUN) {
+	if (answer != TUV_OK) {
 		refused++;
 		same(h, 0, "a user who was refused changed the end");
 	}
@@ -718,8 +718,8 @@ static void begin_spoiled(enum handle h)
 {
 	struct tuv_settings s = spoiled(told[h == SERVER]);
 
-	if (begin(h, &s, among(0, 20)) == TUV_BEGUN &&
-	    begin(h, &told[h == SERVER], 3) != TUV_BEGUN)
+	if (begin(h, &s, among(0, 20)) == TUV_OK &&
+	    begin(h, &told[h == SERVER], 3) != TUV_OK)
 		fail("a sound begin was refused");
 	if (h == SERVER && models[h].role != CLOSED)
 		give(h, &user, setting == METHODS);
@@ -955,7 +955,7 @@ static void login(unsigned int disturbances)
 
 	prepare();
 	for (i = 0; i < HANDLES; i++)
-		if (begin(i, &told[i == SERVER], among(0, 10)) != TUV_BEGUN)
+		if (begin(i, &told[i == SERVER], among(0, 10)) != TUV_OK)
 			fail("a sound begin was refused");
 	first_call();
 	both = carry(disturbances);
@@ -975,7 +975,7 @@ static void be_silent(void)
 
 	prepare();
 	setting = ALONE;
-	if (begin(h, &told[1], retries) != TUV_BEGUN)
+	if (begin(h, &told[1], retries) != TUV_OK)
 		fail("a sound begin was refused");
 	call(h, h == SERVER ? START : PASS_START, sent.octets, 0);
 	for (i = 0; i < retries; i++) {
@@ -994,8 +994,8 @@ static void drop(struct tuv_end *end)
 {
 	tuv_end_close(end);
 	tuv_end_close(end);
-	tuv_end_drop(end);
-	tuv_end_drop(end);
+	tuv_end_free(end);
+	tuv_end_free(end);
 	if (end->at)
 		fail("a handle that is dropped has a block");
 }
@@ -1013,7 +1013,7 @@ static bool starved(enum role role, struct tuv_end *end)
 					  among(0, 10));
 
 		calls++;
-		if (answer == TUV_BEGUN)
+		if (answer == TUV_OK)
 			return i == 1;
 		if (answer != TUV_NO_MEMORY || allocations != fails_at)
 			fail("a begin answers otherwise than its memory allows");
@@ -1080,7 +1080,7 @@ static void at_limit(const struct tuv_settings *s, uint8_t retries, bool good)
 	enum handle h;
 
 	for (h = PEER; h <= SERVER; h++)
-		if ((begin(h, s, h == PEER ? 0 : retries) == TUV_BEGUN) !=
+		if ((begin(h, s, h == PEER ? 0 : retries) == TUV_OK) !=
 		    (good || (h == PEER && retries > 10)))
 			fail("a limit of settings isn't where the header has it");
 }

@@ -93,7 +93,7 @@ uint8_t judged(enum handle h, const struct tuv_settings *s,
 
 	if (h != PASS) {
 		if (!has_size(s))
-			return TUV_OTHER_SIZE;
+			return TUV_BAD_SIZE;
 		keyed = s->psk_key.len || s->gpsk_key.len;
 		if (!is_list(s->methods, TUV_KIND_PSK, TUV_KIND_GPSK) ||
 		    (h == PEER && !keyed && !s->methods[0]))
@@ -112,7 +112,7 @@ uint8_t judged(enum handle h, const struct tuv_settings *s,
 	}
 	if (retries > 10 && (h == PASS || (h == SERVER && setting == ALONE)))
 		return TUV_MANY_RETRIES;
-	return TUV_BEGUN;
+	return TUV_OK;
 }
 
 uint8_t first_method(const struct tuv_settings *s)
@@ -130,17 +130,17 @@ uint8_t judged_user(enum handle h, const struct tuv_settings *s,
 			      : role == A_SERVER || role == A_BACKEND;
 
 	if (!has_size(s))
-		return TUV_OTHER_SIZE;
+		return TUV_BAD_SIZE;
 	if (s->other.len == 0 || s->other.len > TUV_NAME_MAX)
 		return TUV_BAD_OTHER;
 	if (!are_keys(s) || (!s->psk_key.len && !s->gpsk_key.len))
 		return TUV_BAD_KEY;
 	if (!fits)
-		return TUV_NO_PLACE;
+		return TUV_WRONG_END;
 	if (by_method && (first_method(&told[1]) == TUV_KIND_PSK ? !s->psk_key.len
 							       : !s->gpsk_key.len))
 		return TUV_BAD_KEY;
-	return TUV_BEGUN;
+	return TUV_OK;
 }
 
 enum role role_of(enum handle h)

@@ -20,7 +20,7 @@ static struct block block_at(void *at)
 
 struct block rattle_alloc(size_t size, size_t align)
 {
-	if (align > _Alignof(max_align_t) || !tuv_processor_serves())
+	if (align > _Alignof(max_align_t) || !tuv_cpu_supported())
 		return block_at(NULL);
 	return block_at(malloc(size ? size : align));
 }

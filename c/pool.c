@@ -284,7 +284,7 @@ static struct block block_of(size_t at)
 
 static bool serves(size_t size, size_t align)
 {
-	return size <= TUV_POOL && align <= 8 && tuv_processor_serves();
+	return size <= TUV_POOL && align <= 8 && tuv_cpu_supported();
 }
 
 static size_t units_of(size_t octets)

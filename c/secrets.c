@@ -279,9 +279,9 @@ static void users(void)
 	begin_both();
 	turn = tuv_server_start(&server);
 	take_keys(&user, &others, 0);
-	expect(!tuv_server_user(&server, &user), "a user");
+	expect(!tuv_server_set_user(&server, &user), "a user");
 	take_keys(&user, &shared, 0);
-	expect(!tuv_server_user(&server, &user), "another key of the user");
+	expect(!tuv_server_set_user(&server, &user), "another key of the user");
 	converse(turn, &at_peer, &at_server);
 	expect(at_server == TUV_STATE_SUCCESS && agree(), "a login of a late user");
 
@@ -290,7 +290,7 @@ static void users(void)
 	tuv_peer_method_handle(&peer, octets, take(&server, octets));
 	expect(tuv_response_name(octets, take(&peer, octets), name) == 5, "a name");
 	expect(!tuv_server_method_user(&server, &user), "a method's user");
-	tuv_server_method_handle(&server, octets, tuv_end_again(&peer, octets, sizeof(octets)), 8);
+	tuv_server_method_handle(&server, octets, tuv_end_last_packet(&peer, octets, sizeof(octets)), 8);
 	none_failed();
 	tuv_peer_method_handle(&peer, octets, take(&server, octets));
 	tuv_server_method_handle(&server, octets, take(&peer, octets), 9);

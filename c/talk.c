@@ -157,10 +157,10 @@ int main(int argc, char **argv)
 		return 2;
 	drawn = strtoull(argv[1], NULL, 10);
 	for (count = strtoul(argv[2], NULL, 10); count; count--)
-		if (begin() == TUV_BEGUN)
+		if (begin() == TUV_OK)
 			converse();
-	tuv_end_drop(&ends[0]);
-	tuv_end_drop(&ends[1]);
+	tuv_end_free(&ends[0]);
+	tuv_end_free(&ends[1]);
 	printf("%016llx of %llu answers, %llu reports\n", (unsigned long long) sum,
 	       (unsigned long long) answers, (unsigned long long) reports);
 	return reports == 0;

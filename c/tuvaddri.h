@@ -65,7 +65,7 @@ struct tuv_settings {
 	struct tuv_octets name;		/* its own name: 1 to 253 octets */
 	/* At a peer the one server that it accepts, of at most 253 octets; any if
 	 * there are none.  At a server its one user; if there are none it knows
-	 * none, until tuv_server_user or tuv_server_method_user. */
+	 * none, until tuv_server_set_user or tuv_server_method_user. */
 	struct tuv_octets other;
 	/* The keys that this end shares with `other`: 16 octets for EAP-PSK, 32 to
 	 * 64 for EAP-GPSK.  None: no login by that method. */
@@ -87,11 +87,11 @@ struct tuv_settings {
 };
 
 /* What a begin answers.  It makes the end anew, whatever it was before, also in
- * the middle of a login; after any other answer than TUV_BEGUN the end stays as
+ * the middle of a login; after any other answer than TUV_OK the end stays as
  * it was.  If several reasons apply, the lowest number is the answer. */
 enum {
-	TUV_BEGUN = 0,
-	TUV_OTHER_SIZE = 1,	/* `size` is below that of the first struct (80; 44 where
+	TUV_OK = 0,
+	TUV_BAD_SIZE = 1,	/* `size` is below that of the first struct (80; 44 where
 				 * a pointer has 4 octets), or over 4,096; or behind the
 				 * struct that the library knows an octet isn't 0 */
 	TUV_NO_METHOD = 2,	/* `methods` has another number, one twice, or a 0
@@ -105,7 +105,7 @@ enum {
 				 * none at all, or a server has one without a user */
 	TUV_MANY_RETRIES = 7,	/* `max_retrans` is over 10 */
 	TUV_NO_MEMORY = 8,
-	TUV_NO_PLACE = 9	/* a user is given to an end that has none */
+	TUV_WRONG_END = 9	/* a user is given to an end that has none */
 };
 
 /* The states of the machines (RFC 4137).  Between two calls an end stands in
@@ -188,7 +188,7 @@ enum { TUV_METHOD_NONE = 0, TUV_METHOD_INIT = 1, TUV_METHOD_CONT = 2,
 enum { TUV_DECISION_FAIL = 0, TUV_DECISION_COND_SUCC = 1,
        TUV_DECISION_UNCOND_SUCC = 2 };
 
-/* An end, which belongs to the caller.  When it is done with, tuv_end_drop. */
+/* An end, which belongs to the caller.  When it is done with, tuv_end_free. */
 struct tuv_end {
 	void *at;
 };
@@ -250,7 +250,7 @@ struct tuv_failure {
 /* --- every end --- */
 
 /* Makes a closed end, by one allocation: tuv_end_new(&end.at).  False for want
- * of memory, and where tuv_processor_serves is false (heap.c then gives none);
+ * of memory, and where tuv_cpu_supported is false (heap.c then gives none);
  * `at` then stays. */
 bool tuv_end_new(void **at);
 
@@ -264,7 +264,7 @@ void tuv_end_close(struct tuv_end *end);
 /* Ends a handle: closes it, clears its block and gives it back, makes `at` null,
  * and clears the stack (tuv_clear_stack).  Of a handle whose `at` is null it clears
  * the stack alone, so a second time does no harm. */
-void tuv_end_drop(struct tuv_end *end);
+void tuv_end_free(struct tuv_end *end);
 
 /* The length of the packet of the end's last turn (or of tuv_server_method_begin),
  * 0 if that turn didn't say `sends`: after a discard, a misplaced call, a begin.
@@ -275,7 +275,7 @@ size_t tuv_end_packet(struct tuv_end *end, uint8_t *room, size_t room_len);
 /* The same of the packet that the end has sent last, whatever came since; 0 if
  * there was none since its begin or restart.  A program that has to answer after a
  * discard too (RFC 3579 section 2.2) sends it again. */
-size_t tuv_end_again(struct tuv_end *end, uint8_t *room, size_t room_len);
+size_t tuv_end_last_packet(struct tuv_end *end, uint8_t *room, size_t room_len);
 
 /* Writes the report of a method that has succeeded, and answers true; false, with
  * nothing written, before that, at any other end, and if `size` is below that of
@@ -297,7 +297,7 @@ size_t tuv_end_session_id(struct tuv_end *end, uint8_t room[TUV_SESSION_ID_MAX])
 
 /* The same as wpa_supplicant and hostapd 2.10 derive it, which take for EAP-GPSK's
  * Method-ID the front of the PSK for its key, not octets of zero.  A server takes
- * the key that its user of this name has now: if tuv_server_user has replaced him
+ * the key that its user of this name has now: if tuv_server_set_user has replaced him
  * since the login it is another Session-Id, or none.  Ask before that. */
 size_t tuv_end_session_id_wpa(struct tuv_end *end,
 			      uint8_t room[TUV_SESSION_ID_MAX]);
@@ -376,7 +376,7 @@ uint8_t tuv_backend_begin(struct tuv_end *end,
  * `barred` of the settings, in place of the user that it had; of the others `size`
  * alone counts.  It may be called at any time, and takes effect with the next
  * Response.  It answers as a begin, and 0 if it has taken the user. */
-uint8_t tuv_server_user(struct tuv_end *end, const struct tuv_settings *settings);
+uint8_t tuv_server_set_user(struct tuv_end *end, const struct tuv_settings *settings);
 
 /* --- the pass-through (section 7) --- */
 
@@ -401,7 +401,7 @@ struct tuv_turn tuv_pass_aaa_noreq(struct tuv_end *end);
 /* --- a method alone, for a program with machines of its own --- */
 
 /* These machines do what RFC 4137's do.  A peer's answers a Request that comes again
- * as it was by the Response that it sent last (tuv_end_again), and doesn't hand it on:
+ * as it was by the Response that it sent last (tuv_end_last_packet), and doesn't hand it on:
  * the method would discard it.  What is discarded is left unanswered, and the login
  * waits on; where the carrier repeats nothing, as in IKEv2, it ends the login.
  * `expanded` has no effect: a method asks and reads in the plain form. */
@@ -427,7 +427,7 @@ uint8_t tuv_server_method_begin(struct tuv_end *end,
 				const struct tuv_settings *settings,
 				const uint8_t nonce[TUV_NONCE_LEN], uint8_t id);
 
-/* The same of a server's method, as tuv_server_user: neither the begin nor the
+/* The same of a server's method, as tuv_server_set_user: neither the begin nor the
  * first Request wants a user. */
 uint8_t tuv_server_method_user(struct tuv_end *end,
 			       const struct tuv_settings *settings);
@@ -461,7 +461,7 @@ void tuv_clear_stack_of(size_t octets);
 void tuv_clear_stack(void);
 
 /* Whether the processor has what the library was built for (README.md). */
-bool tuv_processor_serves(void);
+bool tuv_cpu_supported(void);
 
 /* For a log: the name of a cause, of a state, of what a begin answers and of a
  * reason; "?" for a number that has none. */

@@ -85,8 +85,8 @@ static const char *const states[] = {
 };
 
 static const char *const answers[] = {
-	[TUV_BEGUN] = "Begun",
-	[TUV_OTHER_SIZE] = "OtherSize",
+	[TUV_OK] = "Ok",
+	[TUV_BAD_SIZE] = "BadSize",
 	[TUV_NO_METHOD] = "NoMethod",
 	[TUV_NO_SUITE] = "NoSuite",
 	[TUV_BAD_NAME] = "BadName",
@@ -94,7 +94,7 @@ static const char *const answers[] = {
 	[TUV_BAD_KEY] = "BadKey",
 	[TUV_MANY_RETRIES] = "ManyRetries",
 	[TUV_NO_MEMORY] = "NoMemory",
-	[TUV_NO_PLACE] = "NoPlace",
+	[TUV_WRONG_END] = "WrongEnd",
 };
 
 static const char *const reasons[] = {

@@ -20,7 +20,7 @@ GROUPS = {
     "tuv_cause_word": r"TUV_CAUSE_(\w+)",
     "tuv_state_word": r"TUV_STATE_(\w+)",
     "tuv_failure_word": r"TUV_FAILURE_(\w+)",
-    "tuv_refusal_word": r"TUV_(BEGUN|OTHER_SIZE|NO_METHOD|NO_SUITE|BAD_NAME|BAD_OTHER|BAD_KEY|MANY_RETRIES|NO_MEMORY|NO_PLACE)",
+    "tuv_refusal_word": r"TUV_(OK|BAD_SIZE|NO_METHOD|NO_SUITE|BAD_NAME|BAD_OTHER|BAD_KEY|MANY_RETRIES|NO_MEMORY|WRONG_END)",
 }
 
 

@@ -41,6 +41,6 @@ int main(void)
 		board_ends(succeeds() ? &report : NULL);
 		explicit_bzero(&report, sizeof(report));
 	}
-	tuv_end_drop(&peer);
+	tuv_end_free(&peer);
 	return 0;
 }

@@ -44,6 +44,6 @@ int main(void)
 		board_ends(succeeds() ? &report : NULL);
 		explicit_bzero(&report, sizeof(report));
 	}
-	tuv_end_drop(&server);
+	tuv_end_free(&server);
 	return 0;
 }

@@ -234,9 +234,9 @@ int main(int argc, char *argv[])
 		return failed;
 	for (at = 4; !failed && at + 1 < argc; at += 2)
 		failed = log_in_by(&e, argv + at, at == 4, through);
-	tuv_end_drop(&e.peer);
-	tuv_end_drop(&e.server);
-	tuv_end_drop(&e.pass);
+	tuv_end_free(&e.peer);
+	tuv_end_free(&e.server);
+	tuv_end_free(&e.pass);
 	explicit_bzero(key, sizeof(key));
 	return failed;
 }

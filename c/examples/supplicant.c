@@ -164,13 +164,13 @@ int main(int argc, char *argv[])
 	octets.len = read_key(key);
 	settings.name = (struct tuv_octets) { (const uint8_t *) argv[2], strlen(argv[2]) };
 	*(octets.len == 16 ? &settings.psk_key : &settings.gpsk_key) = octets;
-	if (tuv_processor_serves() && tuv_end_new(&peer.at))
+	if (tuv_cpu_supported() && tuv_end_new(&peer.at))
 		answer = tuv_peer_begin(&peer, &settings, fresh(nonce));
 	explicit_bzero(key, sizeof(key));
-	if (answer == TUV_BEGUN)
+	if (answer == TUV_OK)
 		serve(argc == 4 ? (int) strtol(argv[3], NULL, 10) : 30);
 	else
 		fprintf(stderr, "supplicant: %s\n", tuv_refusal_word(answer));
-	tuv_end_drop(&peer);
-	return answer == TUV_BEGUN ? 0 : 1;
+	tuv_end_free(&peer);
+	return answer == TUV_OK ? 0 : 1;
 }

@@ -169,7 +169,7 @@ static void begin_peer(struct slot *s)
 	told.suites[0] = asked.suite;
 	*(asked.kind == TUV_KIND_PSK ? &told.psk_key : &told.gpsk_key) = octets;
 	need(getrandom(nonce, sizeof(nonce), 0) == sizeof(nonce), "getrandom");
-	need(tuv_peer_begin(&s->end, &told, nonce) == TUV_BEGUN, "a peer can't begin");
+	need(tuv_peer_begin(&s->end, &told, nonce) == TUV_OK, "a peer can't begin");
 }
 
 /* The end's packet, perhaps altered. */

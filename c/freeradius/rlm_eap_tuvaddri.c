@@ -164,7 +164,7 @@ extern rlm_eap_module_t MODULE;
 static char const *fault_of(struct settings *it)
 {
 	if (tuv_version() != TUV_VERSION) return "the library isn't that of tuvaddri.h";
-	if (!tuv_processor_serves()) return "the library isn't for this processor";
+	if (!tuv_cpu_supported()) return "the library isn't for this processor";
 	if (strcmp(it->suites, "1") == 0) it->suites_told[0] = TUV_SUITE_CMAC;
 	else if (strcmp(it->suites, "2") == 0) it->suites_told[0] = TUV_SUITE_HMAC;
 	else if (strcmp(it->suites, "both") != 0) return "suites is 1, 2 or both";
@@ -477,7 +477,7 @@ static void give_back(void *opaque)
 	if (s->is_listed) rbtree_deletebydata(stations, s);
 	pthread_mutex_unlock(&stations_mutex);
 	if (!s->is_told) tell_end(s);
-	tuv_end_drop(&s->end);
+	tuv_end_free(&s->end);
 	free(s);
 }
 
@@ -486,7 +486,7 @@ static int put_request(eap_handler_t *handler, struct session *s)
 {
 	eap_packet_t *request = handler->eap_ds->request;
 	uint8_t packet[TUV_PACKET_MAX];
-	size_t len = tuv_end_again(&s->end, packet, sizeof(packet));
+	size_t len = tuv_end_last_packet(&s->end, packet, sizeof(packet));
 
 	if (len < 6) return 0;
 	request->code = PW_EAP_REQUEST;
@@ -507,7 +507,7 @@ static bool begin(struct settings const *it, struct session *s)
 		.suites = { it->suites_told[0], it->suites_told[1] }
 	};
 
-	return tuv_end_new(&s->end.at) && tuv_server_method_begin(&s->end, &told, s->nonce, s->id) == TUV_BEGUN;
+	return tuv_end_new(&s->end.at) && tuv_server_method_begin(&s->end, &told, s->nonce, s->id) == TUV_OK;
 }
 
 /* The first Request depends on no user: one is looked up when the first Response
@@ -539,7 +539,7 @@ static int session_init(void *instance, eap_handler_t *handler)
 	handler->stage = PROCESS;
 	if (!put_request(handler, s)) return 0;
 	s->is_told = false;
-	tuv_end_drop(&s->end);
+	tuv_end_free(&s->end);
 	make_room(it, s, handler->inst_holder);
 	return 1;
 }
@@ -623,7 +623,7 @@ static enum reason put_user(struct session *s, VALUE_PAIR const *vp, char const 
 	*octets = (struct tuv_octets) { key, key_of(vp, key) };
 	answer = octets->len ? tuv_server_method_user(&s->end, &told) : TUV_BAD_KEY;
 	explicit_bzero(key, sizeof(key));
-	if (answer == TUV_BEGUN) return PROVED;
+	if (answer == TUV_OK) return PROVED;
 	s->text = tuv_refusal_word(answer);
 	return answer == TUV_BAD_KEY ? UNFIT_KEY : BAD_PACKET;
 }
@@ -671,7 +671,7 @@ static void try_none(eap_handler_t *handler, struct session *s, struct tuv_metho
 	struct tuv_octets *octets = KIND == TUV_KIND_PSK ? &told.psk_key : &told.gpsk_key;
 
 	*octets = (struct tuv_octets) { key, sizeof(key) };
-	if (getrandom(key, sizeof(key), 0) == sizeof(key) && tuv_server_method_user(&s->end, &told) == TUV_BEGUN)
+	if (getrandom(key, sizeof(key), 0) == sizeof(key) && tuv_server_method_user(&s->end, &told) == TUV_OK)
 		hear(handler, s, turn);
 }
 
@@ -801,7 +801,7 @@ static int process(void *instance, eap_handler_t *handler)
 	goes_on = (s->end.at || begin(instance, s)) && take(handler, instance, s);
 	/* (a thread of the server serves other users next, so either clears the stack) */
 	if (s->goes_on) tuv_clear_stack();
-	else tuv_end_drop(&s->end);
+	else tuv_end_free(&s->end);
 	return goes_on;
 }
 

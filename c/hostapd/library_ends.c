@@ -45,7 +45,7 @@ static bool open_peer(const struct login *login)
 	os_get_random(nonce, sizeof(nonce));
 	memset(&peer.turn, 0, sizeof(peer.turn));
 	return tuv_end_new(&peer.end.at) &&
-		tuv_peer_begin(&peer.end, &told, nonce) == TUV_BEGUN;
+		tuv_peer_begin(&peer.end, &told, nonce) == TUV_OK;
 }
 
 /* It offers both suites, as hostapd's server does. */
@@ -61,12 +61,12 @@ static bool open_server(const struct login *login)
 	told.suites[0] = 0;
 	memset(&server.turn, 0, sizeof(server.turn));
 	return tuv_end_new(&server.end.at) &&
-		tuv_server_begin(&server.end, &told, nonce, 0, 5) == TUV_BEGUN;
+		tuv_server_begin(&server.end, &told, nonce, 0, 5) == TUV_OK;
 }
 
 static void close_end(struct own *own)
 {
-	tuv_end_drop(&own->end);
+	tuv_end_free(&own->end);
 }
 
 static void close_peer(void)

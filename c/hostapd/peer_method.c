@@ -33,7 +33,7 @@ struct peer {
 
 static void drop(struct peer *p)
 {
-	tuv_end_drop(&p->end);
+	tuv_end_free(&p->end);
 	bin_clear_free(p, sizeof(*p));
 	tuv_clear_stack_of(CLEARED);
 }
@@ -81,14 +81,14 @@ static void *init(struct eap_sm *sm)
 		return NULL;
 	}
 	if (!p || random_get_bytes(nonce, sizeof(nonce)) || !tuv_end_new(&p->end.at)) {
-		wpa_printf(MSG_INFO, "EAP-" NAME ": %s", tuv_processor_serves() ?
+		wpa_printf(MSG_INFO, "EAP-" NAME ": %s", tuv_cpu_supported() ?
 			   "no memory, or no random octets" :
 			   "the library isn't for this processor");
 		os_free(p);
 		return NULL;
 	}
 	answer = tuv_peer_method_begin(&p->end, &told, nonce);
-	if (answer != TUV_BEGUN) {
+	if (answer != TUV_OK) {
 		wpa_printf(MSG_INFO, "EAP-" NAME ": the settings are refused: %s",
 			   tuv_refusal_word(answer));
 		drop(p);

@@ -38,7 +38,7 @@ struct server {
 
 static void drop(struct server *s)
 {
-	tuv_end_drop(&s->end);
+	tuv_end_free(&s->end);
 	bin_clear_free(s, sizeof(*s));
 	tuv_clear_stack_of(CLEARED);
 }
@@ -69,10 +69,10 @@ static bool begin(struct eap_sm *sm, struct server *s, u8 id)
 	if (random_get_bytes(nonce, sizeof(nonce)))
 		return false;
 	answer = tuv_server_method_begin(&s->end, &told, nonce, id);
-	if (answer != TUV_BEGUN)
+	if (answer != TUV_OK)
 		wpa_printf(MSG_INFO, "EAP-" NAME ": the user's settings are refused: %s",
 			   tuv_refusal_word(answer));
-	return answer == TUV_BEGUN;
+	return answer == TUV_OK;
 }
 
 /* Settings that the method refuses are refused here, where the machine still goes
@@ -82,7 +82,7 @@ static void *init(struct eap_sm *sm)
 	struct server *s = os_zalloc(sizeof(*s));
 
 	if (!s || !tuv_end_new(&s->end.at)) {
-		wpa_printf(MSG_INFO, "EAP-" NAME ": %s", tuv_processor_serves() ?
+		wpa_printf(MSG_INFO, "EAP-" NAME ": %s", tuv_cpu_supported() ?
 			   "no memory" : "the library isn't for this processor");
 		os_free(s);
 		return NULL;

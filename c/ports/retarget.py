@@ -55,6 +55,7 @@ for name, triple, cpu in (
     ("thumbv7m-none-eabi", "thumbv7m", "cortex-m3"),
     ("thumbv7em-none-eabi", "thumbv7em", "cortex-m4"),
     ("thumbv7em-none-eabi-cached", "thumbv7em", "cortex-m7"),
+    ("thumbv8m.main-none-eabi", "thumbv8m.main", "cortex-m33"),
 ):
     words = (f"-mcpu={cpu}", "-mthumb", "-mfloat-abi=soft")
     PORTS[name] = Port(f"{triple}-none-unknown-eabi", ARM, 4, words, "", "arm-none-eabi-gcc", False, CORTEX)

@@ -13,7 +13,7 @@ ports() {
     arm="arm-linux-gnueabihf-gcc -march=armv7-a -mfpu=neon -mfloat-abi=hard"
     port armv7-unknown-linux-gnueabihf arm "$arm"
     port riscv64-unknown-linux-gnu riscv64 riscv64-linux-gnu-gcc
-    for it in thumbv6m thumbv7m thumbv7em; do port "$it-none-eabi" arm "$arm -Wl,--no-warn-mismatch"; done
+    for it in thumbv6m thumbv7m thumbv7em thumbv8m.main; do port "$it-none-eabi" arm "$arm -Wl,--no-warn-mismatch"; done
     port thumbv7em-none-eabi-cached arm "$arm -Wl,--no-warn-mismatch"
     riscv32
 }
@@ -74,7 +74,7 @@ riscv32() {
     printf '#!/bin/sh\nexec %s "$@" 2>&1\n' "$runner" >"$work/riscv32-run"
     chmod +x "$work/riscv32-run"
     emulated=$runner runner=$work/riscv32-run machine=$work/riscv32-run
-    compiler="$compiler -ffunction-sections -Wl,--gc-sections $board"
+    compiler="$compiler -ffunction-sections -Wl,--gc-sections,--defsym=__stack_size=0x10000 $(board_at 0 0x20000000)"
     try "the library for $target" build_port
     pool="$started -DTUV_POOL=65536 $here/pool.c"
     try "the programs for $target" compile_over_pool
@@ -94,8 +94,10 @@ compile_over_pool() {
 # The words by which c/library compiles for a target.
 cross_of() { PYTHONPATH=$here/ports python3 -B -c 'import retarget, sys; print(retarget.PORTS[sys.argv[1]].cc)' "$1"; }
 
-board=-Wl,-z,noexecstack,--defsym=__flash=0,--defsym=__flash_size=0x400000,--defsym=__ram=0x20000000
-board=$board,--defsym=__ram_size=0x400000,--defsym=__stack_size=0x10000
+# Where a board of qemu has its flash and its memory.
+board_at() {
+    echo "-Wl,-z,noexecstack,--defsym=__flash=$1,--defsym=__flash_size=0x200000,--defsym=__ram=$2,--defsym=__ram_size=0x200000"
+}
 
 # The examples for a machine without a system, on boards of qemu; what they take is compared with c/README's figures.
 boards() {
@@ -107,13 +109,15 @@ boards() {
 cortex() {
     compiler=$(cross_of "$target") static=''
     started="--crt0=semihost --oslib=semihost"
-    machine="qemu-system-arm -M mps2-an386 -nographic -monitor none -serial none -semihosting-config enable=on,target=native -kernel"
+    model=mps2-an386 flash=0 ram=0x20000000
+    case $target in thumbv8m*) model=mps2-an505 flash=0x10000000 ram=0x38000000 ;; esac
+    machine="qemu-system-arm -M $model -nographic -monitor none -serial none -semihosting-config enable=on,target=native -kernel"
     lacks "${compiler%% *}" qemu-system-arm && return
     if [ ! -e "$(${compiler%% *} -print-file-name=picolibc.specs)" ]; then
         pass_over "a board$told, since picolibc is not here"
         return
     fi
-    compiler="$compiler -ffunction-sections -fdata-sections -Wl,--gc-sections $board"
+    compiler="$compiler -ffunction-sections -fdata-sections -Wl,--gc-sections,--defsym=__stack_size=0x10000 $(board_at $flash $ram)"
     boards
     [ "$target" != thumbv7em-none-eabi ] || [ "$how" = --dist ] || try "a level whose frames are too deep" refuse_level
 }

@@ -60,7 +60,7 @@ PROVED(tuv_peer_begin, (END, NONCE), nonce, FIRST_ID, MAX_RETRANS)
 PROVED(tuv_server_begin, (END, NONCE, uint8_t first_id, uint8_t max_retrans),
        nonce, first_id, max_retrans)
 PROVED(tuv_backend_begin, (END, NONCE), nonce, FIRST_ID, MAX_RETRANS)
-PROVED(tuv_server_user, (END), drawn, FIRST_ID, MAX_RETRANS)
+PROVED(tuv_server_set_user, (END), drawn, FIRST_ID, MAX_RETRANS)
 PROVED(tuv_peer_method_begin, (END, NONCE), nonce, FIRST_ID, MAX_RETRANS)
 PROVED(tuv_server_method_begin, (END, NONCE, uint8_t id), nonce, id, MAX_RETRANS)
 PROVED(tuv_server_method_user, (END), drawn, FIRST_ID, MAX_RETRANS)
@@ -71,7 +71,7 @@ static uint8_t call(int which, const void *at)
 	case 0: return tuv_peer_begin(&handle, at, drawn);
 	case 1: return tuv_server_begin(&handle, at, drawn, FIRST_ID, MAX_RETRANS);
 	case 2: return tuv_backend_begin(&handle, at, drawn);
-	case 3: return tuv_server_user(&handle, at);
+	case 3: return tuv_server_set_user(&handle, at);
 	case 4: return tuv_peer_method_begin(&handle, at, drawn);
 	case 5: return tuv_server_method_begin(&handle, at, drawn, FIRST_ID);
 	default: return tuv_server_method_user(&handle, at);
@@ -116,7 +116,7 @@ static void settings_of(size_t size, uint8_t rest)
 	calls = 0;
 	answer = call(Frama_C_interval(0, 6), at);
 	if (size < 80 || size > 4096 || (size > 80 && rest)) {
-		/*@ check refused: answer == TUV_OTHER_SIZE; */
+		/*@ check refused: answer == TUV_BAD_SIZE; */
 		/*@ check not_called: calls == 0; */
 	} else {
 		/*@ check served: answer <= ANSWERS; */

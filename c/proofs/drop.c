@@ -33,11 +33,11 @@ int main(void)
 {
 	struct tuv_end end = { block };
 
-	tuv_end_drop(&end);
+	tuv_end_free(&end);
 	/*@ check cleared: step == CLEARED; */
 	/*@ check null: end.at == \null; */
 	step = GIVEN_BACK;	/* (nothing but the stack is left to do) */
-	tuv_end_drop(&end);
+	tuv_end_free(&end);
 	/*@ check cleared_again: step == CLEARED; */
 	/*@ check null_again: end.at == \null; */
 	return 0;

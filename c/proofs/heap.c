@@ -29,7 +29,7 @@ static void *new_block(size_t size)
 #undef free
 #undef malloc
 
-bool tuv_processor_serves(void)
+bool tuv_cpu_supported(void)
 {
 	return serves;
 }

@@ -80,7 +80,7 @@ BEGUN(tuv_peer_begin, (OF_SETTINGS, const uint8_t *nonce), nonce, FIRST_ID, MAX_
 BEGUN(tuv_server_begin, (OF_SETTINGS, const uint8_t *nonce, uint8_t id, uint8_t most),
       nonce, id, most)
 BEGUN(tuv_backend_begin, (OF_SETTINGS, const uint8_t *nonce), nonce, FIRST_ID, MAX_RETRANS)
-BEGUN(tuv_server_user, (OF_SETTINGS), drawn, FIRST_ID, MAX_RETRANS)
+BEGUN(tuv_server_set_user, (OF_SETTINGS), drawn, FIRST_ID, MAX_RETRANS)
 BEGUN(tuv_peer_method_begin, (OF_SETTINGS, const uint8_t *nonce), nonce, FIRST_ID, MAX_RETRANS)
 BEGUN(tuv_server_method_begin, (OF_SETTINGS, const uint8_t *nonce, uint8_t id),
       nonce, id, MAX_RETRANS)
@@ -138,7 +138,7 @@ PROVED(tuv_server_method_handle,
 OF_END(tuv_end_failure)
 PROVED(tuv_end_size, (void), calls++)
 OF_ROOM(tuv_end_packet)
-OF_ROOM(tuv_end_again)
+OF_ROOM(tuv_end_last_packet)
 OF_ID(tuv_end_session_id)
 OF_ID(tuv_end_session_id_wpa)
 OF_NAME(tuv_request_name)
@@ -209,7 +209,7 @@ static void settings(void)
 	tuv_peer_begin(&handle, &told, drawn);
 	tuv_server_begin(&handle, &told, drawn, FIRST_ID, MAX_RETRANS);
 	tuv_backend_begin(&handle, &told, drawn);
-	tuv_server_user(&handle, &told);
+	tuv_server_set_user(&handle, &told);
 	tuv_peer_method_begin(&handle, &told, drawn);
 	tuv_server_method_begin(&handle, &told, drawn, FIRST_ID);
 	tuv_server_method_user(&handle, &told);
@@ -265,7 +265,7 @@ static void sizes(void)
 	calls = 0;
 	is_size(tuv_end_size());
 	is_size(tuv_end_packet(&handle, room_given, LEN));
-	is_size(tuv_end_again(&handle, room_given, LEN));
+	is_size(tuv_end_last_packet(&handle, room_given, LEN));
 	is_size(tuv_end_session_id(&handle, room_given));
 	is_size(tuv_end_session_id_wpa(&handle, room_given));
 	is_size(tuv_request_name(octets_given, LEN, room_given));

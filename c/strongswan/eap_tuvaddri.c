@@ -226,7 +226,7 @@ static bool begin(struct method *m, struct tuv_settings *told)
 	if (getrandom(nonce, sizeof(nonce), 0) != sizeof(nonce) || !tuv_end_new(&m->end.at)) return FALSE;
 	answer = begin_by(m, told, nonce);
 	memwipe(nonce, sizeof(nonce));
-	if (answer == TUV_BEGUN) return TRUE;
+	if (answer == TUV_OK) return TRUE;
 	DBG1(DBG_IKE, "%s: the settings are refused: %s", name_of(m), tuv_refusal_word(answer));
 	return FALSE;
 }
@@ -235,7 +235,7 @@ static bool begin(struct method *m, struct tuv_settings *told)
 static status_t put_packet(struct method *m, eap_payload_t **out)
 {
 	uint8_t packet[TUV_PACKET_MAX];
-	size_t len = tuv_end_again(&m->end, packet, sizeof(packet));
+	size_t len = tuv_end_last_packet(&m->end, packet, sizeof(packet));
 
 	if (!len) return FAILED;
 	m->identifier = packet[1];
@@ -323,7 +323,7 @@ static struct tuv_method_turn try_key(struct method *m, chunk_t response, shared
 	put_key(m, &told, secret, room);
 	refused = tuv_server_method_user(&m->end, &told);
 	memwipe(room, sizeof(room));
-	if (refused != TUV_BEGUN)
+	if (refused != TUV_OK)
 		DBG1(DBG_IKE, "%s: '%Y' is refused: %s", name_of(m), m->peer, tuv_refusal_word(refused));
 	else
 		turn = tuv_server_method_handle(&m->end, response.ptr, response.len, m->identifier + 1);
@@ -433,7 +433,7 @@ METHOD(eap_method_t, set_identifier, void, struct method *m, uint8_t identifier)
 
 METHOD(eap_method_t, destroy, void, struct method *m)
 {
-	tuv_end_drop(&m->end);
+	tuv_end_free(&m->end);
 	tuv_clear_stack_of(CLEARED);
 	chunk_free(&m->answered);
 	m->server->destroy(m->server);
@@ -553,7 +553,7 @@ plugin_t *eap_tuvaddri_plugin_create(void)
 {
 	plugin_t *it;
 
-	if (!tuv_processor_serves()) {
+	if (!tuv_cpu_supported()) {
 		DBG1(DBG_LIB, "eap-tuvaddri: the library isn't for this processor");
 		return NULL;
 	}

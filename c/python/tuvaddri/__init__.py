@@ -42,7 +42,7 @@ class Error(Exception):
 
 # What a begin refuses, by the library's word.
 _REFUSALS = {
-    "OtherSize": "the library knows no settings of this size",
+    "BadSize": "the library knows no settings of this size",
     "NoMethod": "a method isn't PSK or GPSK, or stands twice; or there is neither a method nor a key",
     "NoSuite": "a suite isn't CMAC or HMAC, or stands twice",
     "BadName": "the end's own name has 1 to 253 octets",
@@ -51,7 +51,7 @@ _REFUSALS = {
     "without a user there is none",
     "ManyRetries": "max_retrans is at most 10",
     "NoMemory": "there is no memory",
-    "NoPlace": "this end takes no user",
+    "WrongEnd": "this end takes no user",
 }
 
 
@@ -214,7 +214,7 @@ class _End(_Cleared):
         self._state = ""
         self._end = _abi.End()
         with told or nullcontext() as settings:
-            if not _library.tuv_processor_serves():
+            if not _library.tuv_cpu_supported():
                 raise Unsupported("the processor has no SSSE3, SSE4.1, SSE4.2 or POPCNT")
             if not _library.tuv_end_new(self._end):
                 raise MemoryError
@@ -269,14 +269,14 @@ class _End(_Cleared):
             return
         with self._lock:
             if self._end.at:  # (one call, which no interrupt cuts in two)
-                _library.tuv_end_drop(self._end)
+                _library.tuv_end_free(self._end)
 
     def __repr__(self) -> str:
         return f"<tuvaddri.{type(self).__name__} {'closed' if self.closed else self._state or 'begun'}>"
 
     def again(self) -> Optional[bytes]:
         """The packet that was sent last, whatever came since; None if there was none since the begin or a restart."""
-        return self._packet("end_again")
+        return self._packet("end_last_packet")
 
     def report(self) -> Optional[Report]:
         """What the end holds; None before a method has succeeded. A login has succeeded if the state is SUCCESS too."""
@@ -336,7 +336,7 @@ class _WithUser(_Machine):
     def give_user(self, user: Name, *, psk_key: Octets = b"", gpsk_key: Octets = b"", barred: bool = False) -> None:
         """Gives the end its one user, in place of the one that it had, from the next Response on."""
         with _told(b"", user, psk_key, gpsk_key, barred=barred) as told:
-            self._accept("server_user", told)
+            self._accept("server_set_user", told)
 
 
 class Server(_WithUser):

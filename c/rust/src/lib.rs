@@ -88,7 +88,7 @@ numbers!(
 numbers!(
     /// Why settings are refused.
     Refusal by tuv_refusal_word:
-    OTHER_SIZE = 1, NO_METHOD = 2, NO_SUITE = 3, BAD_NAME = 4, BAD_OTHER = 5, BAD_KEY = 6, MANY_RETRIES = 7, NO_MEMORY = 8, NO_PLACE = 9
+    BAD_SIZE = 1, NO_METHOD = 2, NO_SUITE = 3, BAD_NAME = 4, BAD_OTHER = 5, BAD_KEY = 6, MANY_RETRIES = 7, NO_MEMORY = 8, WRONG_END = 9
 );
 numbers!(
     /// Why a login has failed, as far as an end can know.
@@ -99,7 +99,7 @@ numbers!(
 impl Refusal {
     fn sentence(self) -> &'static str {
         match self {
-            Refusal::OTHER_SIZE => "the library knows no settings of this size",
+            Refusal::BAD_SIZE => "the library knows no settings of this size",
             Refusal::NO_METHOD => "a method stands twice, or there is neither a method nor a key",
             Refusal::NO_SUITE => "a suite stands twice",
             Refusal::BAD_NAME => "the end's own name has 1 to 253 octets",
@@ -110,7 +110,7 @@ impl Refusal {
             }
             Refusal::MANY_RETRIES => "max_retrans is at most 10",
             Refusal::NO_MEMORY => "there is no memory",
-            Refusal::NO_PLACE => "this end takes no user",
+            Refusal::WRONG_END => "this end takes no user",
             _ => "the library refuses it",
         }
     }
@@ -366,7 +366,7 @@ impl End {
         unsafe {
             if sys::tuv_version() != sys::VERSION {
                 Err(Error::Version(sys::tuv_version()))
-            } else if !sys::tuv_processor_serves() {
+            } else if !sys::tuv_cpu_supported() {
                 Err(Error::Processor)
             } else if !sys::tuv_end_new(&mut at) {
                 Err(Error::NoMemory)
@@ -487,7 +487,7 @@ fn taken(answer: u8) -> Result<(), Error> {
 impl Drop for End {
     fn drop(&mut self) {
         // SAFETY: the block is tuv_end_new's, and nothing uses it from here on.
-        unsafe { sys::tuv_end_drop(&mut self.0) }
+        unsafe { sys::tuv_end_free(&mut self.0) }
     }
 }
 
@@ -497,7 +497,7 @@ macro_rules! an_end {
         impl $name {
             /// The packet that was sent last, whatever came since; none if there was none since the begin or a restart.
             pub fn again(&mut self) -> Option<Vec<u8>> {
-                self.0.packet(sys::tuv_end_again)
+                self.0.packet(sys::tuv_end_last_packet)
             }
 
             /// What the end holds; none before a method has succeeded. A login has succeeded if the state is SUCCESS too.
@@ -626,7 +626,7 @@ impl Server {
 
     /// Gives it its one user: `other`, the keys and `barred`, in place of the one that it had, from the next Response on.
     pub fn give_user(&mut self, told: &Settings) -> Result<(), Error> {
-        self.0.user(sys::tuv_server_user, told)
+        self.0.user(sys::tuv_server_set_user, told)
     }
 }
 
@@ -638,7 +638,7 @@ impl Backend {
 
     /// Gives it its one user, as [`Server::give_user`].
     pub fn give_user(&mut self, told: &Settings) -> Result<(), Error> {
-        self.0.user(sys::tuv_server_user, told)
+        self.0.user(sys::tuv_server_set_user, told)
     }
 }
 

@@ -81,12 +81,12 @@ pub struct Failure {
 
 extern "C" {
     pub fn tuv_version() -> u32;
-    pub fn tuv_processor_serves() -> bool;
+    pub fn tuv_cpu_supported() -> bool;
     pub fn tuv_clear_stack();
     pub fn tuv_end_new(at: *mut *mut c_void) -> bool;
-    pub fn tuv_end_drop(end: *mut End);
+    pub fn tuv_end_free(end: *mut End);
     pub fn tuv_end_packet(end: *mut End, room: *mut u8, len: usize) -> usize;
-    pub fn tuv_end_again(end: *mut End, room: *mut u8, len: usize) -> usize;
+    pub fn tuv_end_last_packet(end: *mut End, room: *mut u8, len: usize) -> usize;
     pub fn tuv_end_report(end: *mut End, report: *mut Report) -> bool;
     pub fn tuv_end_session_id(end: *mut End, room: *mut u8) -> usize;
     pub fn tuv_end_session_id_wpa(end: *mut End, room: *mut u8) -> usize;
@@ -102,7 +102,7 @@ extern "C" {
     pub fn tuv_server_begin(end: *mut End, told: *const Settings, nonce: *const u8, first_id: u8, retrans: u8) -> u8;
     pub fn tuv_server_start(end: *mut End) -> Turn;
     pub fn tuv_server_timeout(end: *mut End) -> Turn;
-    pub fn tuv_server_user(end: *mut End, told: *const Settings) -> u8;
+    pub fn tuv_server_set_user(end: *mut End, told: *const Settings) -> u8;
     pub fn tuv_backend_begin(end: *mut End, told: *const Settings, nonce: *const u8) -> u8;
     pub fn tuv_pass_begin(end: *mut End, first_id: u8, retrans: u8) -> u8;
     pub fn tuv_pass_start(end: *mut End) -> Turn;

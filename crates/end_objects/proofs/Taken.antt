@@ -17,7 +17,7 @@ use Rattle.end_objects.specs.Settings.{SettingsValue, or_else, kind_if, keyed_ki
 use Rattle.end_objects.specs.Settings.{all_kinds, kinds_of, first_kind, suites_of, key_for}
 use Rattle.end_objects.specs.Settings.{key_or_none, peer_setup_of, user_with, users_of}
 use Rattle.end_objects.specs.Settings.{server_setup_of}
-use Rattle.end_objects.specs.Refusals.{refuse_if, has_other_size, has_gap, has_bad_methods}
+use Rattle.end_objects.specs.Refusals.{refuse_if, has_bad_size, has_gap, has_bad_methods}
 use Rattle.end_objects.specs.Refusals.{has_bad_suites, is_name, has_long_other, has_keys}
 use Rattle.end_objects.specs.Refusals.{has_key_of_user, end_refusal, peer_refusal, server_refusal}
 use Rattle.end_objects.specs.Refusals.{user_refusal, IsSoundOther}
@@ -81,9 +81,9 @@ end_passes : (wanted : List ℕ) (told : SettingsValue) (bad_methods has : Bool)
     → (has ≡ true → has_keys wanted told ≡ true)
     → end_refusal told bad_methods (not has) ≡ None → HasPassed told wanted
 end_passes wanted told bad_methods has methods keys none =
-    let p = six_pass (has_other_size told) bad_methods (has_bad_suites told)
+    let p = six_pass (has_bad_size told) bad_methods (has_bad_suites told)
     (not (is_name told.name)) (has_long_other told) (not has)
-    refusal.OtherSize refusal.NoMethod refusal.NoSuite refusal.BadName refusal.BadOther
+    refusal.BadSize refusal.NoMethod refusal.NoSuite refusal.BadName refusal.BadOther
     refusal.BadKey none in record {
       kinds = kinds_are_known told (methods p.0);
       suites = suites_are_known told p.1;
@@ -243,9 +243,9 @@ server_other told none =
 pub user_other : (told : SettingsValue) → user_refusal told ≡ None → IsSoundOther told
 unfolding user_refusal
 user_other told none =
-    let p = three_pass (has_other_size told) (not (is_name told.other))
+    let p = three_pass (has_bad_size told) (not (is_name told.other))
     (not (has_keys [] told && is_filled (keyed_kinds told)))
-    refusal.OtherSize refusal.BadOther refusal.BadKey none in record {
+    refusal.BadSize refusal.BadOther refusal.BadKey none in record {
       name = name_bounded told.other (is_so (is_name told.other) p.0);
       keys = (and_parts (has_keys [] told) (is_filled (keyed_kinds told))
           (is_so (has_keys [] told && is_filled (keyed_kinds told)) p.1)).0;

@@ -75,10 +75,10 @@ unfolding peer_refusal kinds_of named_kinds keyed_kinds suites_of has_bad_method
     has_bad_suites has_keys
 taken = (refl, refl, refl, refl, refl)
 
-other_size : PeerIs (record both { size = 72 }) (Some refusal.OtherSize)
-    × PeerIs (record both { size = 81; name = [] }) (Some refusal.OtherSize)
+bad_size : PeerIs (record both { size = 72 }) (Some refusal.BadSize)
+    × PeerIs (record both { size = 81; name = [] }) (Some refusal.BadSize)
 unfolding peer_refusal
-other_size = (refl, refl)
+bad_size = (refl, refl)
 
 no_method : PeerIs (end (key 16) (key 32) (0 ∷ 51 ∷ [])) (Some refusal.NoMethod)
     × PeerIs (end (key 16) (key 32) (51 ∷ 51 ∷ [])) (Some refusal.NoMethod)
@@ -167,7 +167,7 @@ server_no_method = refl
 
 retries : (stand_alone_refusal both 10 ≡ None)
     × (stand_alone_refusal both 11 ≡ Some refusal.ManyRetries)
-    × (stand_alone_refusal (record both { size = 0 }) 11 ≡ Some refusal.OtherSize)
+    × (stand_alone_refusal (record both { size = 0 }) 11 ≡ Some refusal.BadSize)
 unfolding stand_alone_refusal server_refusal kinds_of named_kinds keyed_kinds suites_of
     has_bad_methods has_bad_suites has_keys has_key_of_user
 retries = (refl, refl, refl)
@@ -199,7 +199,7 @@ user_taken : UserIs (end (key 16) [] (9 ∷ 9 ∷ [])) None
 unfolding user_refusal keyed_kinds has_keys
 user_taken = (refl, refl)
 
-user_refused : UserIs (record both { size = 79 }) (Some refusal.OtherSize)
+user_refused : UserIs (record both { size = 79 }) (Some refusal.BadSize)
     × UserIs (record both { other = [] }) (Some refusal.BadOther)
     × UserIs (record both { other = replicate 254 97 }) (Some refusal.BadOther)
     × UserIs (end [] [] none) (Some refusal.BadKey)

@@ -20,8 +20,8 @@ abbrev pub refuse_if : Bool → Refusal → Option Refusal → Option Refusal
 refuse_if applies reason others = if applies then Some reason else others
 
 -- whether the struct has another size
-abbrev pub has_other_size : SettingsValue → Bool
-has_other_size told = not (told.size == settings_size)
+abbrev pub has_bad_size : SettingsValue → Bool
+has_bad_size told = not (told.size == settings_size)
 
 -- whether a 0 precedes another number
 abbrev pub has_gap : List ℕ → Bool
@@ -58,7 +58,7 @@ has_key_of_user told = if is_filled told.other then is_filled (keyed_kinds told)
 -- the first reason to refuse settings, the methods or keys of which may be bad for their end
 abbrev pub end_refusal : SettingsValue → Bool → Bool → Option Refusal
 end_refusal told bad_methods bad_keys =
-    refuse_if (has_other_size told) refusal.OtherSize (
+    refuse_if (has_bad_size told) refusal.BadSize (
     refuse_if bad_methods refusal.NoMethod (
     refuse_if (has_bad_suites told) refusal.NoSuite (
     refuse_if (not (is_name told.name)) refusal.BadName (
@@ -92,7 +92,7 @@ stand_alone_refusal told max_retrans = first_of (server_refusal told) (retry_ref
 -- the first reason to refuse a user of a server, who has a name and a key
 unfoldable pub user_refusal : SettingsValue → Option Refusal
 user_refusal told =
-    refuse_if (has_other_size told) refusal.OtherSize (
+    refuse_if (has_bad_size told) refusal.BadSize (
     refuse_if (not (is_name told.other)) refusal.BadOther (
     refuse_if (not (has_keys [] told && is_filled (keyed_kinds told))) refusal.BadKey None))
 

@@ -5,7 +5,7 @@ ghost use Rattle.std.specs.List.{list_all};
 ghost use Rattle.login_setup.specs.Setup.{are_kinds, is_valid_for};
 ghost use Rattle.eap_method.specs.Peer.{have_each};
 ghost use Rattle.end_objects.specs.Settings.{settings_of, kinds_of, key_for};
-ghost use Rattle.end_objects.specs.Refusals.{has_other_size, has_gap, has_bad_methods};
+ghost use Rattle.end_objects.specs.Refusals.{has_bad_size, has_gap, has_bad_methods};
 ghost use Rattle.end_objects.specs.Refusals.{has_bad_suites, is_name, has_keys, has_key_of_user};
 ghost use Rattle.end_objects.specs.Refusals.{end_refusal, peer_refusal, server_refusal};
 ghost use Rattle.end_objects.specs.Refusals.{retry_refusal, stand_alone_refusal, user_refusal};
@@ -21,7 +21,7 @@ use octet_lists::{MAX_NAME, is_among};
 #[derive(Clone, Copy, PartialEq, Eq, Debug)]
 pub enum Refusal {
     /// The struct has another size than [`SETTINGS_SIZE`].
-    OtherSize,
+    BadSize,
     /// A method is neither 47 nor 51, one occurs twice, or a 0 precedes one; or a peer has neither a key nor a method.
     NoMethod,
     /// A suite is neither 1 nor 2, one occurs twice, or a 0 precedes one.
@@ -38,8 +38,8 @@ pub enum Refusal {
 }
 
 /// Whether the struct has another size.
-fn has_other_size(settings: &Settings) -> bool
-    ensures { result ≡ has_other_size (settings_of settings.now) }
+fn has_bad_size(settings: &Settings) -> bool
+    ensures { result ≡ has_bad_size (settings_of settings.now) }
 {
     settings.size != SETTINGS_SIZE
 }
@@ -117,8 +117,8 @@ fn has_key_of_user(settings: &Settings) -> bool
 fn end_refusal(settings: &Settings, bad_methods: bool, bad_keys: bool) -> Option<Refusal>
     ensures { result ≡ end_refusal (settings_of settings.now) bad_methods bad_keys }
 {
-    if has_other_size(settings) {
-        Some(Refusal::OtherSize)
+    if has_bad_size(settings) {
+        Some(Refusal::BadSize)
     } else if bad_methods {
         Some(Refusal::NoMethod)
     } else if has_bad_suites(settings) {
@@ -192,8 +192,8 @@ pub fn user_refusal(settings: &Settings) -> Option<Refusal>
     ensures refused { result ≡ user_refusal (settings_of settings.now) }
     ensures other { result ≡ None → IsSoundOther (settings_of settings.now) }
 {
-    if has_other_size(settings) {
-        Some(Refusal::OtherSize)
+    if has_bad_size(settings) {
+        Some(Refusal::BadSize)
     } else if !is_name(settings.other) {
         Some(Refusal::BadOther)
     } else if !has_keys(&[], settings) || keyed_kinds(settings).is_empty() {

@@ -4,8 +4,8 @@ use Rattle.end_objects.specs.declared.refusals.Refusal.{Refusal}
 use Rattle.end_objects.specs.declared.refusals.Refusal.TheVariants as refusal
 
 -- the end has begun, or has accepted the user
-abbrev pub begun : ℕ
-begun = 0
+abbrev pub ok : ℕ
+ok = 0
 
 -- there is no key for its method
 abbrev pub bad_key : ℕ
@@ -16,12 +16,12 @@ abbrev pub no_memory : ℕ
 no_memory = 8
 
 -- it has no users
-abbrev pub no_place : ℕ
-no_place = 9
+abbrev pub wrong_end : ℕ
+wrong_end = 9
 
 -- the settings are refused
 abbrev pub refusal_number : Refusal → ℕ
-refusal_number refusal.OtherSize = 1
+refusal_number refusal.BadSize = 1
 refusal_number refusal.NoMethod = 2
 refusal_number refusal.NoSuite = 3
 refusal_number refusal.BadName = 4

@@ -5,7 +5,7 @@ use Rattle.eap_method.specs.Server.{server_kind}
 use Rattle.end_objects.specs.Objects.{server_object_shown}
 use Rattle.end_objects.specs.Settings.{SettingsValue, keyed_kinds, users_of}
 use Rattle.end_objects.specs.declared.objects.ServerObject.{ServerObject}
-use Rattle.tuvaddri_c.specs.Answers.{begun, bad_key}
+use Rattle.tuvaddri_c.specs.Answers.{ok, bad_key}
 use Rattle.tuvaddri_c.specs.Methods.{AsServerMethod}
 use Rattle.tuvaddri_c.specs.declared.session.End.{End}
 use Rattle.tuvaddri_c.specs.declared.session.End.TheVariants as ends
@@ -21,6 +21,6 @@ has_key_for told object = is_among (keyed_kinds told) (server_kind (server_objec
 -- a server's method accepts the user, if there is a key for it
 pub record AcceptsUser (told : SettingsValue) (object : ServerObject) (answer : ℕ)
     (after : End) : Type 0 where
-  pub answer_is : answer ≡ (if has_key_for told object then begun else bad_key)
+  pub answer_is : answer ≡ (if has_key_for told object then ok else bad_key)
   pub taken : has_key_for told object ≡ true
       → AsServerMethod after (λ n known. (n ≡ object) × (known.users ≡ users_of told))

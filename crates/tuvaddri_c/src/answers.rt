@@ -1,7 +1,7 @@
 //! What a call that begins an end, or gives a server its user, answers, as a number.
 
 ghost use Rattle.std.specs.Prelude.{◌≡◌};
-ghost use Rattle.tuvaddri_c.specs.Answers.{begun, no_memory, no_place, refusal_number};
+ghost use Rattle.tuvaddri_c.specs.Answers.{ok, no_memory, wrong_end, refusal_number};
 
 use end_objects::Refusal;
 
@@ -20,12 +20,12 @@ pub const NO_PLACE: u8 = 9;
 /// The number of a refusal, 1 to 7.
 pub fn number_of_refusal(refusal: Refusal) -> u8
     ensures number { result ≡ refusal_number refusal }
-    ensures not_started { result ≡ begun → ⊥ }
+    ensures not_started { result ≡ ok → ⊥ }
     ensures in_memory { result ≡ no_memory → ⊥ }
-    ensures placed { result ≡ no_place → ⊥ }
+    ensures placed { result ≡ wrong_end → ⊥ }
 {
     match refusal {
-        Refusal::OtherSize => 1,
+        Refusal::BadSize => 1,
         Refusal::NoMethod => 2,
         Refusal::NoSuite => 3,
         Refusal::BadName => 4,

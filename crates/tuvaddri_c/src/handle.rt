@@ -53,7 +53,7 @@ pub extern "C" fn tuv_version() -> u32
 }
 
 /// Makes a session without an end at this place, and answers true; false for want of memory, and the place stays as it
-/// was. The program releases its block by `tuv_end_drop`.
+/// was. The program releases its block by `tuv_end_free`.
 #[unsafe(no_mangle)]
 pub extern "C" fn tuv_end_new(alloc: Global, place: &mut TuvPlace) -> bool
     ensures created { IsTrue result → place.new.content ≡ Some no_end }
@@ -108,7 +108,7 @@ fn copy_fresh(session: &Session, room: &mut [u8]) -> usize
 
 /// The same of the packet that the end sent last since its begin or restart, whatever came since.
 #[unsafe(no_mangle)]
-pub extern "C" fn tuv_end_again(end: &mut TuvEnd, room: &mut [u8]) -> usize
+pub extern "C" fn tuv_end_last_packet(end: &mut TuvEnd, room: &mut [u8]) -> usize
     ensures same { end.new.value ≡ end.old.value }
     ensures packet { IsCopied (sent_of end.old.value).packet room.old result room.new }
 {

@@ -8,7 +8,7 @@ ghost use Rattle.end_objects.specs.Objects.{peer_object_shown, server_object_sho
 ghost use Rattle.end_objects.specs.Refusals.{IsSoundOther, peer_refusal, server_refusal};
 ghost use Rattle.end_objects.specs.Settings.{settings_of, first_kind, users_of, credential_of};
 ghost use Rattle.end_objects.specs.Settings.{side_of};
-ghost use Rattle.tuvaddri_c.specs.Answers.{begun, no_memory, refusal_number};
+ghost use Rattle.tuvaddri_c.specs.Answers.{ok, no_memory, refusal_number};
 ghost use Rattle.tuvaddri_c.specs.ByMethod.{peer_fresh, server_fresh};
 ghost use Rattle.tuvaddri_c.specs.Sent.{sent_of, sent_packet, none_sent};
 ghost use Rattle.tuvaddri_c.specs.declared.session.End.TheVariants as ends;
@@ -53,13 +53,13 @@ pub extern "C" fn tuv_peer_method_begin(
     ensures refused { IfSome (peer_refusal (settings_of settings.now))
         (λ reason. result ≡ refusal_number reason) }
     ensures started { peer_refusal (settings_of settings.now) ≡ None → (result ≡ no_memory → ⊥)
-        → result ≡ begun }
-    ensures initial { result ≡ begun → AsPeerMethod end.new.value.end (λ n key.
+        → result ≡ ok }
+    ensures initial { result ≡ ok → AsPeerMethod end.new.value.end (λ n key.
         (key ≡ (credential_of (settings_of settings.now)).psk)
         × (peer_object_shown n ≡ peer_fresh (first_kind (settings_of settings.now)) (credential_of
         (settings_of settings.now)) nonce.now)) }
-    ensures sent { result ≡ begun → sent_of end.new.value ≡ none_sent }
-    ensures unchanged { (result ≡ begun → ⊥) → end.new.value ≡ end.old.value }
+    ensures sent { result ≡ ok → sent_of end.new.value ≡ none_sent }
+    ensures unchanged { (result ≡ ok → ⊥) → end.new.value ≡ end.old.value }
 {
     if let Some(refusal) = peer_refusal(settings) {
         return number_of_refusal(refusal);
@@ -158,14 +158,14 @@ pub extern "C" fn tuv_server_method_begin(
     ensures refused { IfSome (server_refusal (settings_of settings.now))
         (λ reason. result ≡ refusal_number reason) }
     ensures started { server_refusal (settings_of settings.now) ≡ None → (result ≡ no_memory → ⊥)
-        → result ≡ begun }
-    ensures initial { result ≡ begun → AsServerMethod end.new.value.end (λ n known.
+        → result ≡ ok }
+    ensures initial { result ≡ ok → AsServerMethod end.new.value.end (λ n known.
         (known.users ≡ users_of (settings_of settings.now))
         × (server_first_step (server_fresh (first_kind (settings_of settings.now))
         (side_of (settings_of settings.now)) nonce.now) id
         ≡ record { packet = sent_packet end.new.value.end; after = server_object_shown n })) }
-    ensures sent { result ≡ begun → end.new.value.fresh ≡ true }
-    ensures unchanged { (result ≡ begun → ⊥) → end.new.value ≡ end.old.value }
+    ensures sent { result ≡ ok → end.new.value.fresh ≡ true }
+    ensures unchanged { (result ≡ ok → ⊥) → end.new.value ≡ end.old.value }
 {
     if let Some(refusal) = server_refusal(settings) {
         return number_of_refusal(refusal);

@@ -6,7 +6,7 @@ ghost use Rattle.pass_through.specs.PassTable.{pass_from_peer, pass_from_backend
 ghost use Rattle.pass_through.specs.PassTable.{pass_aaa_timeout, pass_aaa_noreq, is_started};
 ghost use Rattle.pass_through.specs.PassTable.{has_timer, is_aaa_idle};
 ghost use Rattle.end_objects.specs.Refusals.{retry_refusal};
-ghost use Rattle.tuvaddri_c.specs.Answers.{begun, no_memory, refusal_number};
+ghost use Rattle.tuvaddri_c.specs.Answers.{ok, no_memory, refusal_number};
 ghost use Rattle.tuvaddri_c.specs.Ends.{IfPass, AsPass, is_pass, can_start_pass, has_timer_pass};
 ghost use Rattle.tuvaddri_c.specs.Ends.{waits_for_backend};
 ghost use Rattle.tuvaddri_c.specs.Sent.{sent_of, none_sent};
@@ -36,12 +36,12 @@ pub extern "C" fn tuv_pass_begin(
     ensures refused { IfSome (retry_refusal max_retrans)
         (λ reason. result ≡ refusal_number reason) }
     ensures started { retry_refusal max_retrans ≡ None → (result ≡ no_memory → ⊥)
-        → result ≡ begun }
-    ensures initial { result ≡ begun
+        → result ≡ ok }
+    ensures initial { result ≡ ok
         → AsPass end.new.value.end (λ n. n ≡ initial_pass first_id max_retrans) }
-    ensures settled { result ≡ begun → is_settled end.new.value.end ≡ true }
-    ensures sent { result ≡ begun → sent_of end.new.value ≡ none_sent }
-    ensures unchanged { (result ≡ begun → ⊥) → end.new.value ≡ end.old.value }
+    ensures settled { result ≡ ok → is_settled end.new.value.end ≡ true }
+    ensures sent { result ≡ ok → sent_of end.new.value ≡ none_sent }
+    ensures unchanged { (result ≡ ok → ⊥) → end.new.value ≡ end.old.value }
 {
     if let Some(refusal) = retry_refusal(max_retrans) {
         return number_of_refusal(refusal);

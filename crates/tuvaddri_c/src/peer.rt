@@ -9,7 +9,7 @@ ghost use Rattle.peer_machine.specs.PeerTable as peer;
 ghost use Rattle.end_objects.specs.Objects.{peer_object_shown};
 ghost use Rattle.end_objects.specs.Refusals.{peer_refusal};
 ghost use Rattle.end_objects.specs.Settings.{settings_of, kinds_of, peer_setup_of};
-ghost use Rattle.tuvaddri_c.specs.Answers.{begun, no_memory, refusal_number};
+ghost use Rattle.tuvaddri_c.specs.Answers.{ok, no_memory, refusal_number};
 ghost use Rattle.tuvaddri_c.specs.Ends.{IfPeer, AsPeer, is_running_peer, can_restart};
 ghost use Rattle.tuvaddri_c.specs.declared.session.End.TheVariants as ends;
 ghost use Rattle.tuvaddri_c.specs.Sent.{sent_of, none_sent};
@@ -45,15 +45,15 @@ pub extern "C" fn tuv_peer_begin(
     ensures refused { IfSome (peer_refusal (settings_of settings.now))
         (λ reason. result ≡ refusal_number reason) }
     ensures started { peer_refusal (settings_of settings.now) ≡ None → (result ≡ no_memory → ⊥)
-        → result ≡ begun }
-    ensures initial { result ≡ begun → AsPeer end.new.value.end (λ n.
+        → result ≡ ok }
+    ensures initial { result ≡ ok → AsPeer end.new.value.end (λ n.
         peer.now_of peer_object_shown n
         ≡ initial_peer (peer_setup_of (settings_of settings.now) nonce.now)
         (both_of (kinds_of (settings_of settings.now)))) }
-    ensures objects { result ≡ begun → can_restart end.new.value.end ≡ true }
-    ensures settled { result ≡ begun → is_settled end.new.value.end ≡ true }
-    ensures sent { result ≡ begun → sent_of end.new.value ≡ none_sent }
-    ensures unchanged { (result ≡ begun → ⊥) → end.new.value ≡ end.old.value }
+    ensures objects { result ≡ ok → can_restart end.new.value.end ≡ true }
+    ensures settled { result ≡ ok → is_settled end.new.value.end ≡ true }
+    ensures sent { result ≡ ok → sent_of end.new.value ≡ none_sent }
+    ensures unchanged { (result ≡ ok → ⊥) → end.new.value ≡ end.old.value }
 {
     if let Some(refusal) = peer_refusal(settings) {
         return number_of_refusal(refusal);

@@ -51,7 +51,7 @@ pub extern "C" fn tuv_end_report(end: &mut TuvEnd, report: &mut TuvReport) -> bo
         IsTrue result × IsReport held report.old report.new) }
     ensures none { end_stored end.old.value.end ≡ None → (IsTrue result → ⊥)
         × (report.new ≡ report.old) }
-    ensures other_size { (report.old.size ≡ report_size → ⊥) → (IsTrue result → ⊥)
+    ensures bad_size { (report.old.size ≡ report_size → ⊥) → (IsTrue result → ⊥)
         × (report.new ≡ report.old) }
 {
     if !is_known(report) {
@@ -73,7 +73,7 @@ pub extern "C" fn tuv_peer_report(end: &mut TuvEnd, report: &mut TuvReport) -> b
         end.old.value.end) (λ held. IsTrue result × IsReport held report.old report.new) }
     ensures none { stored_at_peer end.old.value.end ≡ None → (IsTrue result → ⊥)
         × (report.new ≡ report.old) }
-    ensures other_size { (report.old.size ≡ report_size → ⊥) → (IsTrue result → ⊥)
+    ensures bad_size { (report.old.size ≡ report_size → ⊥) → (IsTrue result → ⊥)
         × (report.new ≡ report.old) }
 {
     is_known(report) && report_peer(&end.session().end, report)
@@ -87,7 +87,7 @@ pub extern "C" fn tuv_server_report(end: &mut TuvEnd, report: &mut TuvReport) ->
         end.old.value.end) (λ held. IsTrue result × IsReport held report.old report.new) }
     ensures none { stored_at_server end.old.value.end ≡ None → (IsTrue result → ⊥)
         × (report.new ≡ report.old) }
-    ensures other_size { (report.old.size ≡ report_size → ⊥) → (IsTrue result → ⊥)
+    ensures bad_size { (report.old.size ≡ report_size → ⊥) → (IsTrue result → ⊥)
         × (report.new ≡ report.old) }
 {
     is_known(report) && report_server(&end.session().end, report)

@@ -12,7 +12,7 @@ ghost use Rattle.server_machine.specs.declared.variables.Role.TheVariants.{Stand
 ghost use Rattle.end_objects.specs.Objects.{server_object_shown};
 ghost use Rattle.end_objects.specs.Refusals.{IsSoundOther, server_refusal, stand_alone_refusal};
 ghost use Rattle.end_objects.specs.Settings.{settings_of, kinds_of, server_setup_of};
-ghost use Rattle.tuvaddri_c.specs.Answers.{begun, no_memory, refusal_number};
+ghost use Rattle.tuvaddri_c.specs.Answers.{ok, no_memory, refusal_number};
 ghost use Rattle.tuvaddri_c.specs.Ends.{IfServer, AsServer, AsBackend, can_restart};
 ghost use Rattle.tuvaddri_c.specs.Ends as ends;
 ghost use Rattle.tuvaddri_c.specs.Sent.{sent_of, sent_packet, none_sent};
@@ -90,15 +90,15 @@ pub extern "C" fn tuv_server_begin(
     ensures refused { IfSome (stand_alone_refusal (settings_of settings.now) max_retrans)
         (λ reason. result ≡ refusal_number reason) }
     ensures started { stand_alone_refusal (settings_of settings.now) max_retrans ≡ None
-        → (result ≡ no_memory → ⊥) → result ≡ begun }
-    ensures initial { result ≡ begun
+        → (result ≡ no_memory → ⊥) → result ≡ ok }
+    ensures initial { result ≡ ok
         → AsServer end.new.value.end (λ n. server.now_of server_object_shown n
         ≡ initial_server StandAlone (server_setup_of (settings_of settings.now) nonce.now)
         (both_of (kinds_of (settings_of settings.now))) first_id max_retrans) }
-    ensures objects { result ≡ begun → can_restart end.new.value.end ≡ true }
-    ensures settled { result ≡ begun → is_settled end.new.value.end ≡ true }
-    ensures sent { result ≡ begun → sent_of end.new.value ≡ none_sent }
-    ensures unchanged { (result ≡ begun → ⊥) → end.new.value ≡ end.old.value }
+    ensures objects { result ≡ ok → can_restart end.new.value.end ≡ true }
+    ensures settled { result ≡ ok → is_settled end.new.value.end ≡ true }
+    ensures sent { result ≡ ok → sent_of end.new.value ≡ none_sent }
+    ensures unchanged { (result ≡ ok → ⊥) → end.new.value ≡ end.old.value }
 {
     if let Some(refusal) = stand_alone_refusal(settings, max_retrans) {
         return number_of_refusal(refusal);
@@ -161,15 +161,15 @@ pub extern "C" fn tuv_backend_begin(
     ensures refused { IfSome (server_refusal (settings_of settings.now))
         (λ reason. result ≡ refusal_number reason) }
     ensures started { server_refusal (settings_of settings.now) ≡ None → (result ≡ no_memory → ⊥)
-        → result ≡ begun }
-    ensures initial { result ≡ begun
+        → result ≡ ok }
+    ensures initial { result ≡ ok
         → AsBackend end.new.value.end (λ n. server.now_of server_object_shown n
         ≡ initial_backend (server_setup_of (settings_of settings.now) nonce.now)
         (both_of (kinds_of (settings_of settings.now)))) }
-    ensures objects { result ≡ begun → can_restart end.new.value.end ≡ true }
-    ensures settled { result ≡ begun → is_settled end.new.value.end ≡ true }
-    ensures sent { result ≡ begun → sent_of end.new.value ≡ none_sent }
-    ensures unchanged { (result ≡ begun → ⊥) → end.new.value ≡ end.old.value }
+    ensures objects { result ≡ ok → can_restart end.new.value.end ≡ true }
+    ensures settled { result ≡ ok → is_settled end.new.value.end ≡ true }
+    ensures sent { result ≡ ok → sent_of end.new.value ≡ none_sent }
+    ensures unchanged { (result ≡ ok → ⊥) → end.new.value ≡ end.old.value }
 {
     if let Some(refusal) = server_refusal(settings) {
         return number_of_refusal(refusal);

@@ -7,7 +7,7 @@ ghost use Rattle.login_setup.specs.Users.{HasCapacity};
 ghost use Rattle.server_machine.specs.ServerTable.{with_users};
 ghost use Rattle.end_objects.specs.Refusals.{IsSoundOther, user_refusal};
 ghost use Rattle.end_objects.specs.Settings.{max_others, settings_of, users_of};
-ghost use Rattle.tuvaddri_c.specs.Answers.{begun, no_place, refusal_number};
+ghost use Rattle.tuvaddri_c.specs.Answers.{ok, wrong_end, refusal_number};
 ghost use Rattle.tuvaddri_c.specs.Ends.{IfServer, AsServer, IfBackend, AsBackend, can_restart};
 ghost use Rattle.tuvaddri_c.specs.Methods.{IfServerMethod, is_server_method};
 ghost use Rattle.tuvaddri_c.specs.Sent.{sent_of};
@@ -86,21 +86,21 @@ fn change_users<M: HasUsers>(machine: &mut M, settings: &Settings)
 /// users that it had, in any state, and answers 0. Else it answers the number of the refusal, or 9 at another end,
 /// and nothing is changed.
 #[unsafe(no_mangle)]
-pub extern "C" fn tuv_server_user(end: &mut TuvEnd, settings: &Settings) -> u8
+pub extern "C" fn tuv_server_set_user(end: &mut TuvEnd, settings: &Settings) -> u8
     ensures refused { IfSome (user_refusal (settings_of settings.now))
         (λ reason. result ≡ refusal_number reason) }
     ensures accepted { user_refusal (settings_of settings.now) ≡ None
-        → result ≡ (if has_users end.old.value.end then begun else no_place) }
-    ensures server { result ≡ begun
+        → result ≡ (if has_users end.old.value.end then ok else wrong_end) }
+    ensures server { result ≡ ok
         → IfServer end.old.value.end (λ m. AsServer end.new.value.end (λ n.
         n ≡ with_users m (users_of (settings_of settings.now)))) }
-    ensures backend { result ≡ begun
+    ensures backend { result ≡ ok
         → IfBackend end.old.value.end (λ m. AsBackend end.new.value.end (λ n.
         n ≡ with_users m (users_of (settings_of settings.now)))) }
     ensures objects { can_restart end.old.value.end ≡ true → can_restart end.new.value.end ≡ true }
     ensures settled { is_settled end.old.value.end ≡ true → is_settled end.new.value.end ≡ true }
     ensures sent { sent_of end.new.value ≡ sent_of end.old.value }
-    ensures unchanged { (result ≡ begun → ⊥) → end.new.value ≡ end.old.value }
+    ensures unchanged { (result ≡ ok → ⊥) → end.new.value ≡ end.old.value }
 {
     match user_refusal(settings) {
         Some(refusal) => number_of_refusal(refusal),
@@ -127,7 +127,7 @@ pub fn put(known: &mut CheckedUsers, settings: &Settings)
     end_objects::add_users(&mut known.users, settings);
 }
 
-/// Gives a server's method its one user, as `tuv_server_user`, and answers 0. If there is no key for its method it
+/// Gives a server's method its one user, as `tuv_server_set_user`, and answers 0. If there is no key for its method it
 /// answers 6; at another end 9.
 #[unsafe(no_mangle)]
 pub extern "C" fn tuv_server_method_user(end: &mut TuvEnd, settings: &Settings) -> u8
@@ -137,9 +137,9 @@ pub extern "C" fn tuv_server_method_user(end: &mut TuvEnd, settings: &Settings) 
         → IfServerMethod end.old.value.end (λ o before.
         AcceptsUser (settings_of settings.now) o result end.new.value.end) }
     ensures misplaced { user_refusal (settings_of settings.now) ≡ None
-        → is_server_method end.old.value.end ≡ false → result ≡ no_place }
+        → is_server_method end.old.value.end ≡ false → result ≡ wrong_end }
     ensures sent { sent_of end.new.value ≡ sent_of end.old.value }
-    ensures unchanged { (result ≡ begun → ⊥) → end.new.value ≡ end.old.value }
+    ensures unchanged { (result ≡ ok → ⊥) → end.new.value ≡ end.old.value }
 {
     match user_refusal(settings) {
         Some(refusal) => number_of_refusal(refusal),
