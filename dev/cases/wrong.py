@@ -19,7 +19,7 @@ from cases.lib.small import Run, Small, holds, texts_of
 from lib.common import ROOT
 
 CODE, REST, TOP = "crates/small/src/lib.rt", "crates/small/specs/Rest.antt", "crates/top/src/lib.rt"
-EDIT, OTHER = "wrong/small/double__is_0.edit", "wrong/top/four__is_2.edit"
+EDITS, OTHER = "wrong/small.edits", "wrong/top.edits"
 
 
 def case_tries(run: Run) -> Iterator[Optional[str]]:
@@ -33,7 +33,7 @@ def case_tries(run: Run) -> Iterator[Optional[str]]:
         kit.write_text(f"from unittest.mock import MagicMock\nRATTLE, Crate = '{folder}/bin/rattle', MagicMock()\n")
         changes.enter_context(mock.patch.object(module_of(ROOT / "dev/wrong").front_end, "rtlib", return_value=module_of(kit)))
         os.environ["PATH"] = f"{folder}/bin:{os.environ['PATH']}"
-        texts = {**texts_of("dev/cases/small.texts"), OTHER: "file: src/lib.rt\nold: double(2)\nnew: double(1)\n"}
+        texts = {**texts_of("dev/cases/small.texts"), OTHER: "edit: four__is_2\nfile: src/lib.rt\nold: double(2)\nnew: double(1)\n"}
         small = Small(f"{folder}/small", texts)
 
         def tells(wanted: int, words: str, line: str, **changes: str) -> Optional[str]:
@@ -68,9 +68,11 @@ def case_tries(run: Run) -> Iterator[Optional[str]]:
         os.remove(small.root / OTHER)
         yield tells(1, "wrong", "dev/wrong: small/double__is_0.edit: it was not tried", STOPS="yes")
         yield tells(1, "wrong", "dev/wrong: small: a source changed meanwhile", CHANGES=str(small.root / CODE))
-        for kind in ("also", "by_name", "by_limit", "is_bad", "is_untried", "is_proved", "is_whole"):
-            small.write(f"wrong/small/double__{kind}.edit", small.texts[EDIT].replace("    n\n", f"    n // {kind}\n"))
-        small.write("wrong/small/one__is_1.edit", "file: src/lib.rt\nold:     1\nnew:     2 - 1\n")
+        kinds = ("also", "by_limit", "by_name", "is_bad", "is_proved", "is_untried", "is_whole")
+        first = small.texts[EDITS]
+        more = [first.replace("double__is_0", f"double__{kind}").replace("    n\n", f"    n // {kind}\n") for kind in kinds]
+        one = "edit: one__is_1\nfile: src/lib.rt\nold:     1\nnew:     2 - 1\n"
+        small.write(EDITS, "\n".join(sorted([first, one, *more])))
         yield tells(1, "wrong --jobs 3", "dev/wrong: small/one__is_1.edit: NOT REFUSED: the crate is still proved with this edit")
         yield tells(1, "wrong --jobs 3", "wrong: 3 passed, 6 failed")
         for it in ("dev/wrong", ".ci/front_end.py", "cases/settings", *(str(path) for folder in ("tools/lib", "dev/lib") for path in Path(folder).glob("*.py"))):

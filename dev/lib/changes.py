@@ -9,7 +9,7 @@ import tarfile
 from itertools import chain
 from typing import Iterator
 
-from lib import pages
+from lib import edits, pages
 from lib.common import ROOT, Refused, said_by
 from lib.promises import Key, others_in, pieces_of
 from lib.sources import Call, Repository, Source
@@ -17,7 +17,7 @@ from lib.sources import Call, Repository, Source
 # The texts by their places. (the pages of crates are made of what is listed here)
 Texts = dict[str, str]
 READ = re.compile(r"crates\.txt|crates/\w+/(src|specs)/.*\.(rt|antt)|(?!crates/\w+/).*\.md|(.*/)?cases/[\w-]+\.(cases|py|sh)"
-                  r"|(wrong|crates)/.*\.edit|wrong/scripts\.lines")
+                  r"|wrong/\w+\.edits|(wrong|crates)/.*\.edit|wrong/scripts\.lines")
 # Of these one that is new changes nothing that was said.
 MORE = ("test", "case", "edit", "import")
 
@@ -49,6 +49,8 @@ def pieces(texts: Texts) -> dict[Key, str]:
             for sentence in sentences(text):
                 key = ("sentence", f"{place}: {sentence[:60]}")
                 found[key] = found.get(key, "") + sentence
+        elif place.endswith(".edits"):
+            found.update({("edit", f"{place[:-6]}/{name}.edit"): lines for name, lines in edits.pieces(text)})
         elif place.endswith(".edit"):
             found["edit", place] = text
         elif not place.startswith("crates"):

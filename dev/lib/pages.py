@@ -9,13 +9,14 @@ import tempfile
 from pathlib import Path
 from typing import Dict, Iterator, List, Optional, Set, Tuple
 
+from lib import edits
 from lib.cases import first_lost, read
 from lib.common import ROOT, this_python
 from lib.crates import files_of
 
 SECONDS = 300
 
-ENDS = ("rt", "antt", "md", "py", "sh", "c", "h", "awk", "edit", "txt", "svg", "hex", "cases", "commands",
+ENDS = ("rt", "antt", "md", "py", "sh", "c", "h", "awk", "edit", "edits", "txt", "svg", "hex", "cases", "commands",
         "capture", "scenario", "trace", "findings", "replies", "settings", "1")
 
 # What dev/make-docs writes into a page.
@@ -165,7 +166,7 @@ def counted(crates: List[str]) -> Dict[str, List[int]]:
     return {
         "crates proved": [len(others)],
         "wrong bodies in the gate": [len(list(ROOT.glob("crates/*/must-fail/*.edit")))],
-        "wrong bodies in `wrong/`": [len(list(ROOT.glob("wrong/*/*.edit")))],
+        "wrong bodies in `wrong/`": [sum(len(list(edits.pieces(it.read_text()))) for it in ROOT.glob("wrong/*.edits"))],
         "of all these refused, as `wrong/refused.txt` has it": [sum(refused)],
         "cases of texts": [sum(len(read(it)) for it in (ROOT / "cases").glob("*.cases"))],
         "tests in code": [sum(len(has_test.findall(it.read_text())) for it in ROOT.glob("crates/*/src/**/*.rt"))],

@@ -18514,11 +18514,11 @@ tuv_backend_begin:
 .Lfunc_end0b35d:
 	.size	tuv_backend_begin, .Lfunc_end0b35d-tuv_backend_begin
 
-	.section	.text.tuv_end_again,"ax",@progbits
-	.globl	tuv_end_again
+	.section	.text.tuv_end_last_packet,"ax",@progbits
+	.globl	tuv_end_last_packet
 	.p2align	2
-	.type	tuv_end_again,@function
-tuv_end_again:
+	.type	tuv_end_last_packet,@function
+tuv_end_last_packet:
 	stp	x29, x30, [sp, #-32]!
 	ldr	x10, [x0]
 	str	x19, [sp, #16]
@@ -18646,7 +18646,7 @@ tuv_end_again:
 	b.ne	.LBBa1694_26
 	b	.LBBa1694_4
 .Lfunc_enda1694:
-	.size	tuv_end_again, .Lfunc_enda1694-tuv_end_again
+	.size	tuv_end_last_packet, .Lfunc_enda1694-tuv_end_last_packet
 
 	.section	.text.tuv_end_close,"ax",@progbits
 	.globl	tuv_end_close
@@ -22873,11 +22873,11 @@ tuv_server_timeout:
 .Lfunc_enda4dc4:
 	.size	tuv_server_timeout, .Lfunc_enda4dc4-tuv_server_timeout
 
-	.section	.text.tuv_server_user,"ax",@progbits
-	.globl	tuv_server_user
+	.section	.text.tuv_server_set_user,"ax",@progbits
+	.globl	tuv_server_set_user
 	.p2align	2
-	.type	tuv_server_user,@function
-tuv_server_user:
+	.type	tuv_server_set_user,@function
+tuv_server_set_user:
 	ldr	x8, [x1]
 	cmp	x8, #80
 	b.ne	.LBB338ba_9
@@ -22943,7 +22943,7 @@ tuv_server_user:
 	ldp	x29, x30, [sp], #32
 	ret
 .Lfunc_end338ba:
-	.size	tuv_server_user, .Lfunc_end338ba-tuv_server_user
+	.size	tuv_server_set_user, .Lfunc_end338ba-tuv_server_set_user
 
 	.section	.text.tuv_version,"ax",@progbits
 	.globl	tuv_version

@@ -22996,12 +22996,12 @@ tuv_backend_begin:
 	.cantunwind
 	.fnend
 
-	.section	.text.tuv_end_again,"ax",%progbits
-	.globl	tuv_end_again
+	.section	.text.tuv_end_last_packet,"ax",%progbits
+	.globl	tuv_end_last_packet
 	.p2align	2
-	.type	tuv_end_again,%function
+	.type	tuv_end_last_packet,%function
 	.code	32
-tuv_end_again:
+tuv_end_last_packet:
 	.fnstart
 	.save	{r4, r5, r6, r7, r8, r9, r10, lr}
 	push	{r4, r5, r6, r7, r8, r9, r10, lr}
@@ -23075,7 +23075,7 @@ tuv_end_again:
 	mov	r0, r10
 	pop	{r4, r5, r6, r7, r8, r9, r10, pc}
 .Lfunc_enda1694:
-	.size	tuv_end_again, .Lfunc_enda1694-tuv_end_again
+	.size	tuv_end_last_packet, .Lfunc_enda1694-tuv_end_last_packet
 	.cantunwind
 	.fnend
 
@@ -24936,12 +24936,12 @@ tuv_server_method_user:
 	.cantunwind
 	.fnend
 
-	.section	.text.tuv_server_user,"ax",%progbits
-	.globl	tuv_server_user
+	.section	.text.tuv_server_set_user,"ax",%progbits
+	.globl	tuv_server_set_user
 	.p2align	2
-	.type	tuv_server_user,%function
+	.type	tuv_server_set_user,%function
 	.code	32
-tuv_server_user:
+tuv_server_set_user:
 	.fnstart
 	.save	{r4, r5, r11, lr}
 	push	{r4, r5, r11, lr}
@@ -24995,7 +24995,7 @@ tuv_server_user:
 	mov	r0, #0
 	pop	{r4, r5, r11, pc}
 .Lfunc_end338ba:
-	.size	tuv_server_user, .Lfunc_end338ba-tuv_server_user
+	.size	tuv_server_set_user, .Lfunc_end338ba-tuv_server_set_user
 	.cantunwind
 	.fnend
 

@@ -29794,11 +29794,11 @@ tuv_backend_begin:
 	.word	.LBB0b35d_19-.LJTI0b35d_0
 	.word	.LBB0b35d_26-.LJTI0b35d_0
 
-	.section	.text.tuv_end_again,"ax",@progbits
-	.globl	tuv_end_again
+	.section	.text.tuv_end_last_packet,"ax",@progbits
+	.globl	tuv_end_last_packet
 	.p2align	1
-	.type	tuv_end_again,@function
-tuv_end_again:
+	.type	tuv_end_last_packet,@function
+tuv_end_last_packet:
 	addi	sp, sp, -32
 	sd	ra, 24(sp)
 	sd	s0, 16(sp)
@@ -29837,7 +29837,7 @@ tuv_end_again:
 	addi	sp, sp, 32
 	ret
 .Lfunc_enda1694:
-	.size	tuv_end_again, .Lfunc_enda1694-tuv_end_again
+	.size	tuv_end_last_packet, .Lfunc_enda1694-tuv_end_last_packet
 
 	.section	.text.tuv_end_close,"ax",@progbits
 	.globl	tuv_end_close
@@ -35503,11 +35503,11 @@ tuv_server_timeout:
 .Lfunc_enda4dc4:
 	.size	tuv_server_timeout, .Lfunc_enda4dc4-tuv_server_timeout
 
-	.section	.text.tuv_server_user,"ax",@progbits
-	.globl	tuv_server_user
+	.section	.text.tuv_server_set_user,"ax",@progbits
+	.globl	tuv_server_set_user
 	.p2align	1
-	.type	tuv_server_user,@function
-tuv_server_user:
+	.type	tuv_server_set_user,@function
+tuv_server_set_user:
 	addi	sp, sp, -32
 	sd	ra, 24(sp)
 	sd	s0, 16(sp)
@@ -35557,7 +35557,7 @@ tuv_server_user:
 	addi	sp, sp, 32
 	ret
 .Lfunc_end338ba:
-	.size	tuv_server_user, .Lfunc_end338ba-tuv_server_user
+	.size	tuv_server_set_user, .Lfunc_end338ba-tuv_server_set_user
 
 	.section	.text.tuv_version,"ax",@progbits
 	.globl	tuv_version

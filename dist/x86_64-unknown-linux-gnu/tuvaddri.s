@@ -20273,11 +20273,11 @@ tuv_backend_begin:
 	.long	.LBB0b35d_23-.LJTI0b35d_0
 	.long	.LBB0b35d_26-.LJTI0b35d_0
 
-	.section	.text.tuv_end_again,"ax",@progbits
-	.globl	tuv_end_again
+	.section	.text.tuv_end_last_packet,"ax",@progbits
+	.globl	tuv_end_last_packet
 	.p2align	4
-	.type	tuv_end_again,@function
-tuv_end_again:
+	.type	tuv_end_last_packet,@function
+tuv_end_last_packet:
 	pushq	%rbx
 	movq	%rsi, %rcx
 	movq	%rdi, %rax
@@ -20421,8 +20421,8 @@ tuv_end_again:
 	je	.LBBa1694_4
 	jmp	.LBBa1694_24
 .Lfunc_enda1694:
-	.size	tuv_end_again, .Lfunc_enda1694-tuv_end_again
-	.section	.rodata.tuv_end_again,"a",@progbits
+	.size	tuv_end_last_packet, .Lfunc_enda1694-tuv_end_last_packet
+	.section	.rodata.tuv_end_last_packet,"a",@progbits
 	.p2align	2, 0x0
 .LJTIa1694_0:
 	.long	.LBBa1694_5-.LJTIa1694_0
@@ -24596,11 +24596,11 @@ tuv_server_timeout:
 .Lfunc_enda4dc4:
 	.size	tuv_server_timeout, .Lfunc_enda4dc4-tuv_server_timeout
 
-	.section	.text.tuv_server_user,"ax",@progbits
-	.globl	tuv_server_user
+	.section	.text.tuv_server_set_user,"ax",@progbits
+	.globl	tuv_server_set_user
 	.p2align	4
-	.type	tuv_server_user,@function
-tuv_server_user:
+	.type	tuv_server_set_user,@function
+tuv_server_set_user:
 	pushq	%r14
 	pushq	%rbx
 	pushq	%rax
@@ -24667,8 +24667,8 @@ tuv_server_user:
 	popq	%r14
 	retq
 .Lfunc_end338ba:
-	.size	tuv_server_user, .Lfunc_end338ba-tuv_server_user
-	.section	.rodata.tuv_server_user,"a",@progbits
+	.size	tuv_server_set_user, .Lfunc_end338ba-tuv_server_set_user
+	.section	.rodata.tuv_server_set_user,"a",@progbits
 	.p2align	2, 0x0
 .LJTI338ba_0:
 	.long	.LBB338ba_5-.LJTI338ba_0
