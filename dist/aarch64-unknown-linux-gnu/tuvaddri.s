@@ -18514,140 +18514,6 @@ tuv_backend_begin:
 .Lfunc_end0b35d:
 	.size	tuv_backend_begin, .Lfunc_end0b35d-tuv_backend_begin
 
-	.section	.text.tuv_end_last_packet,"ax",@progbits
-	.globl	tuv_end_last_packet
-	.p2align	2
-	.type	tuv_end_last_packet,@function
-tuv_end_last_packet:
-	stp	x29, x30, [sp, #-32]!
-	ldr	x10, [x0]
-	str	x19, [sp, #16]
-	cmp	x1, #0
-	mov	w9, #4096
-	mov	x8, x1
-	mov	x29, sp
-	ldrb	w19, [x10]
-	csel	x9, x9, xzr, eq
-	add	x0, x1, x9
-	cmp	w19, #2
-	b.le	.LBBa1694_5
-	cmp	w19, #4
-	b.gt	.LBBa1694_8
-	cmp	w19, #3
-	b.ne	.LBBa1694_9
-	add	x1, x10, #784
-	add	x10, x10, #2288
-	ldr	x19, [x10]
-	cmp	x19, x2
-	b.ls	.LBBa1694_13
-.LBBa1694_4:
-	mov	x0, x19
-	ldr	x19, [sp, #16]
-	ldp	x29, x30, [sp], #32
-	ret
-.LBBa1694_5:
-	cbz	w19, .LBBa1694_10
-	cmp	w19, #1
-	b.ne	.LBBa1694_11
-	ldr	x1, [x10, #1328]
-	add	x10, x1, #1504
-	ldr	x19, [x10]
-	cmp	x19, x2
-	b.hi	.LBBa1694_4
-	b	.LBBa1694_13
-.LBBa1694_8:
-	cmp	w19, #5
-	b.ne	.LBBa1694_12
-.LBBa1694_9:
-	ldr	x1, [x10, #2624]
-	add	x10, x1, #1504
-	ldr	x19, [x10]
-	cmp	x19, x2
-	b.hi	.LBBa1694_4
-	b	.LBBa1694_13
-.LBBa1694_10:
-	adrp	x1, .Lstatic.0
-	add	x1, x1, :lo12:.Lstatic.0
-	b	.LBBa1694_17
-.LBBa1694_11:
-	ldr	x1, [x10, #1976]
-	add	x10, x1, #1504
-	ldr	x19, [x10]
-	cmp	x19, x2
-	b.hi	.LBBa1694_4
-	b	.LBBa1694_13
-.LBBa1694_12:
-	ldr	x1, [x10, #1528]
-	add	x10, x1, #1504
-	ldr	x19, [x10]
-	cmp	x19, x2
-	b.hi	.LBBa1694_4
-.LBBa1694_13:
-	sub	x10, x0, x1
-	cmp	x10, x19
-	b.hs	.LBBa1694_17
-	cmp	x19, #8
-	b.lo	.LBBa1694_16
-	add	x10, x9, x8
-	sub	x10, x10, x1
-	cmp	x10, #32
-	b.hs	.LBBa1694_18
-.LBBa1694_16:
-	mov	x10, xzr
-	b	.LBBa1694_26
-.LBBa1694_17:
-	mov	x2, x19
-	bl	memmove
-	mov	x0, x19
-	ldr	x19, [sp, #16]
-	ldp	x29, x30, [sp], #32
-	ret
-.LBBa1694_18:
-	cmp	x19, #32
-	b.hs	.LBBa1694_20
-	mov	x10, xzr
-	b	.LBBa1694_24
-.LBBa1694_20:
-	add	x13, x9, x8
-	and	x11, x19, #0x18
-	and	x10, x19, #0xffffffffffffffe0
-	add	x12, x1, #16
-	add	x13, x13, #16
-	and	x14, x19, #0xffffffffffffffe0
-.LBBa1694_21:
-	ldp	q0, q1, [x12, #-16]
-	subs	x14, x14, #32
-	add	x12, x12, #32
-	stp	q0, q1, [x13, #-16]
-	add	x13, x13, #32
-	b.ne	.LBBa1694_21
-	cmp	x19, x10
-	b.eq	.LBBa1694_4
-	cbz	x11, .LBBa1694_26
-.LBBa1694_24:
-	mov	x11, x10
-	and	x10, x19, #0xfffffffffffffff8
-	add	x12, x9, x11
-	sub	x9, x11, x10
-	add	x11, x1, x11
-	add	x8, x8, x12
-.LBBa1694_25:
-	ldr	d0, [x11], #8
-	adds	x9, x9, #8
-	str	d0, [x8], #8
-	b.ne	.LBBa1694_25
-	b	.LBBa1694_27
-.LBBa1694_26:
-	ldrb	w8, [x1, x10]
-	strb	w8, [x0, x10]
-	add	x10, x10, #1
-.LBBa1694_27:
-	cmp	x19, x10
-	b.ne	.LBBa1694_26
-	b	.LBBa1694_4
-.Lfunc_enda1694:
-	.size	tuv_end_last_packet, .Lfunc_enda1694-tuv_end_last_packet
-
 	.section	.text.tuv_end_close,"ax",@progbits
 	.globl	tuv_end_close
 	.p2align	2
@@ -19039,6 +18905,140 @@ tuv_end_failure:
 	b	.LBB43b15_47
 .Lfunc_end43b15:
 	.size	tuv_end_failure, .Lfunc_end43b15-tuv_end_failure
+
+	.section	.text.tuv_end_last_packet,"ax",@progbits
+	.globl	tuv_end_last_packet
+	.p2align	2
+	.type	tuv_end_last_packet,@function
+tuv_end_last_packet:
+	stp	x29, x30, [sp, #-32]!
+	ldr	x10, [x0]
+	str	x19, [sp, #16]
+	cmp	x1, #0
+	mov	w9, #4096
+	mov	x8, x1
+	mov	x29, sp
+	ldrb	w19, [x10]
+	csel	x9, x9, xzr, eq
+	add	x0, x1, x9
+	cmp	w19, #2
+	b.le	.LBB0546d_5
+	cmp	w19, #4
+	b.gt	.LBB0546d_8
+	cmp	w19, #3
+	b.ne	.LBB0546d_9
+	add	x1, x10, #784
+	add	x10, x10, #2288
+	ldr	x19, [x10]
+	cmp	x19, x2
+	b.ls	.LBB0546d_13
+.LBB0546d_4:
+	mov	x0, x19
+	ldr	x19, [sp, #16]
+	ldp	x29, x30, [sp], #32
+	ret
+.LBB0546d_5:
+	cbz	w19, .LBB0546d_10
+	cmp	w19, #1
+	b.ne	.LBB0546d_11
+	ldr	x1, [x10, #1328]
+	add	x10, x1, #1504
+	ldr	x19, [x10]
+	cmp	x19, x2
+	b.hi	.LBB0546d_4
+	b	.LBB0546d_13
+.LBB0546d_8:
+	cmp	w19, #5
+	b.ne	.LBB0546d_12
+.LBB0546d_9:
+	ldr	x1, [x10, #2624]
+	add	x10, x1, #1504
+	ldr	x19, [x10]
+	cmp	x19, x2
+	b.hi	.LBB0546d_4
+	b	.LBB0546d_13
+.LBB0546d_10:
+	adrp	x1, .Lstatic.0
+	add	x1, x1, :lo12:.Lstatic.0
+	b	.LBB0546d_17
+.LBB0546d_11:
+	ldr	x1, [x10, #1976]
+	add	x10, x1, #1504
+	ldr	x19, [x10]
+	cmp	x19, x2
+	b.hi	.LBB0546d_4
+	b	.LBB0546d_13
+.LBB0546d_12:
+	ldr	x1, [x10, #1528]
+	add	x10, x1, #1504
+	ldr	x19, [x10]
+	cmp	x19, x2
+	b.hi	.LBB0546d_4
+.LBB0546d_13:
+	sub	x10, x0, x1
+	cmp	x10, x19
+	b.hs	.LBB0546d_17
+	cmp	x19, #8
+	b.lo	.LBB0546d_16
+	add	x10, x9, x8
+	sub	x10, x10, x1
+	cmp	x10, #32
+	b.hs	.LBB0546d_18
+.LBB0546d_16:
+	mov	x10, xzr
+	b	.LBB0546d_26
+.LBB0546d_17:
+	mov	x2, x19
+	bl	memmove
+	mov	x0, x19
+	ldr	x19, [sp, #16]
+	ldp	x29, x30, [sp], #32
+	ret
+.LBB0546d_18:
+	cmp	x19, #32
+	b.hs	.LBB0546d_20
+	mov	x10, xzr
+	b	.LBB0546d_24
+.LBB0546d_20:
+	add	x13, x9, x8
+	and	x11, x19, #0x18
+	and	x10, x19, #0xffffffffffffffe0
+	add	x12, x1, #16
+	add	x13, x13, #16
+	and	x14, x19, #0xffffffffffffffe0
+.LBB0546d_21:
+	ldp	q0, q1, [x12, #-16]
+	subs	x14, x14, #32
+	add	x12, x12, #32
+	stp	q0, q1, [x13, #-16]
+	add	x13, x13, #32
+	b.ne	.LBB0546d_21
+	cmp	x19, x10
+	b.eq	.LBB0546d_4
+	cbz	x11, .LBB0546d_26
+.LBB0546d_24:
+	mov	x11, x10
+	and	x10, x19, #0xfffffffffffffff8
+	add	x12, x9, x11
+	sub	x9, x11, x10
+	add	x11, x1, x11
+	add	x8, x8, x12
+.LBB0546d_25:
+	ldr	d0, [x11], #8
+	adds	x9, x9, #8
+	str	d0, [x8], #8
+	b.ne	.LBB0546d_25
+	b	.LBB0546d_27
+.LBB0546d_26:
+	ldrb	w8, [x1, x10]
+	strb	w8, [x0, x10]
+	add	x10, x10, #1
+.LBB0546d_27:
+	cmp	x19, x10
+	b.ne	.LBB0546d_26
+	b	.LBB0546d_4
+.Lfunc_end0546d:
+	.size	tuv_end_last_packet, .Lfunc_end0546d-tuv_end_last_packet
 
 	.section	.text.tuv_end_new,"ax",@progbits
 	.globl	tuv_end_new
@@ -22689,6 +22689,78 @@ tuv_server_restart:
 .Lfunc_endeb68b:
 	.size	tuv_server_restart, .Lfunc_endeb68b-tuv_server_restart
 
+	.section	.text.tuv_server_set_user,"ax",@progbits
+	.globl	tuv_server_set_user
+	.p2align	2
+	.type	tuv_server_set_user,@function
+tuv_server_set_user:
+	ldr	x8, [x1]
+	cmp	x8, #80
+	b.ne	.LBB6ae71_9
+	ldr	x8, [x1, #32]
+	sub	x8, x8, #1
+	cmp	x8, #252
+	b.hi	.LBB6ae71_10
+	ldr	x9, [x1, #64]
+	ldr	x8, [x1, #48]
+	cbz	x9, .LBB6ae71_11
+	sub	x9, x9, #32
+	cmp	x9, #33
+	b.hs	.LBB6ae71_12
+	tst	x8, #0xffffffffffffffef
+	b.ne	.LBB6ae71_12
+.LBB6ae71_5:
+	stp	x29, x30, [sp, #-32]!
+	stp	x20, x19, [sp, #16]
+	ldr	x20, [x0]
+	mov	w0, #9
+	mov	x29, sp
+	ldrb	w8, [x20]
+	cmp	w8, #3
+	b.le	.LBB6ae71_15
+	cmp	w8, #6
+	b.eq	.LBB6ae71_15
+	cmp	w8, #5
+	b.ne	.LBB6ae71_13
+	add	x0, x20, #1912
+	mov	x19, x1
+	mov	w1, wzr
+	mov	w2, #712
+	bl	memset
+	add	x0, x20, #8
+	mov	x1, x19
+	bl	"tuvaddri_c::by_method::add_users::<#93e2819ad231d5c1>"
+	b	.LBB6ae71_14
+.LBB6ae71_9:
+	mov	w0, #1
+	ret
+.LBB6ae71_10:
+	mov	w0, #5
+	ret
+.LBB6ae71_11:
+	cmp	x8, #16
+	b.eq	.LBB6ae71_5
+.LBB6ae71_12:
+	mov	w0, #6
+	ret
+.LBB6ae71_13:
+	mov	x19, x1
+	add	x0, x20, #1912
+	mov	w1, wzr
+	mov	w2, #712
+	bl	memset
+	add	x0, x20, #8
+	mov	x1, x19
+	bl	"tuvaddri_c::by_method::add_users::<#d37c63745cf5a212>"
+.LBB6ae71_14:
+	mov	w0, wzr
+.LBB6ae71_15:
+	ldp	x20, x19, [sp, #16]
+	ldp	x29, x30, [sp], #32
+	ret
+.Lfunc_end6ae71:
+	.size	tuv_server_set_user, .Lfunc_end6ae71-tuv_server_set_user
+
 	.section	.rodata.cst8,"aM",@progbits,8
 	.p2align	3, 0x0
 .LCPI79895_0:
@@ -22872,78 +22944,6 @@ tuv_server_timeout:
 	b	.LBBa4dc4_4
 .Lfunc_enda4dc4:
 	.size	tuv_server_timeout, .Lfunc_enda4dc4-tuv_server_timeout
-
-	.section	.text.tuv_server_set_user,"ax",@progbits
-	.globl	tuv_server_set_user
-	.p2align	2
-	.type	tuv_server_set_user,@function
-tuv_server_set_user:
-	ldr	x8, [x1]
-	cmp	x8, #80
-	b.ne	.LBB338ba_9
-	ldr	x8, [x1, #32]
-	sub	x8, x8, #1
-	cmp	x8, #252
-	b.hi	.LBB338ba_10
-	ldr	x9, [x1, #64]
-	ldr	x8, [x1, #48]
-	cbz	x9, .LBB338ba_11
-	sub	x9, x9, #32
-	cmp	x9, #33
-	b.hs	.LBB338ba_12
-	tst	x8, #0xffffffffffffffef
-	b.ne	.LBB338ba_12
-.LBB338ba_5:
-	stp	x29, x30, [sp, #-32]!
-	stp	x20, x19, [sp, #16]
-	ldr	x20, [x0]
-	mov	w0, #9
-	mov	x29, sp
-	ldrb	w8, [x20]
-	cmp	w8, #3
-	b.le	.LBB338ba_15
-	cmp	w8, #6
-	b.eq	.LBB338ba_15
-	cmp	w8, #5
-	b.ne	.LBB338ba_13
-	add	x0, x20, #1912
-	mov	x19, x1
-	mov	w1, wzr
-	mov	w2, #712
-	bl	memset
-	add	x0, x20, #8
-	mov	x1, x19
-	bl	"tuvaddri_c::by_method::add_users::<#93e2819ad231d5c1>"
-	b	.LBB338ba_14
-.LBB338ba_9:
-	mov	w0, #1
-	ret
-.LBB338ba_10:
-	mov	w0, #5
-	ret
-.LBB338ba_11:
-	cmp	x8, #16
-	b.eq	.LBB338ba_5
-.LBB338ba_12:
-	mov	w0, #6
-	ret
-.LBB338ba_13:
-	mov	x19, x1
-	add	x0, x20, #1912
-	mov	w1, wzr
-	mov	w2, #712
-	bl	memset
-	add	x0, x20, #8
-	mov	x1, x19
-	bl	"tuvaddri_c::by_method::add_users::<#d37c63745cf5a212>"
-.LBB338ba_14:
-	mov	w0, wzr
-.LBB338ba_15:
-	ldp	x20, x19, [sp, #16]
-	ldp	x29, x30, [sp], #32
-	ret
-.Lfunc_end338ba:
-	.size	tuv_server_set_user, .Lfunc_end338ba-tuv_server_set_user
 
 	.section	.text.tuv_version,"ax",@progbits
 	.globl	tuv_version

@@ -2489,62 +2489,6 @@
 	.cantunwind
 	.fnend
 
-	.section	".text.tuvaddri_c::session::End::last_packet","ax",%progbits
-	.p2align	2
-	.type	"tuvaddri_c::session::End::last_packet",%function
-	.code	32
-"tuvaddri_c::session::End::last_packet":
-	.fnstart
-	.save	{r4, lr}
-	push	{r4, lr}
-	mov	lr, r0
-	ldr	r0, .LCPI56d51_0
-	ldrb	r12, [lr]
-	adr	r4, .LJTI56d51_0
-.LPC23_0:
-	add	r0, pc, r0
-	mov	r2, #0
-	mov	r1, #0
-	ldr	r3, [r4, r12, lsl #2]
-	add	pc, r4, r3
-	.p2align	2
-.LJTI56d51_0:
-	.long	.LBB56d51_8-.LJTI56d51_0
-	.long	.LBB56d51_5-.LJTI56d51_0
-	.long	.LBB56d51_3-.LJTI56d51_0
-	.long	.LBB56d51_4-.LJTI56d51_0
-	.long	.LBB56d51_2-.LJTI56d51_0
-	.long	.LBB56d51_2-.LJTI56d51_0
-	.long	.LBB56d51_6-.LJTI56d51_0
-.LBB56d51_2:
-	ldr	r0, [lr, #2624]
-	b	.LBB56d51_7
-.LBB56d51_3:
-	ldr	r0, [lr, #1976]
-	b	.LBB56d51_7
-.LBB56d51_4:
-	ldr	r1, [lr, #2288]
-	add	r0, lr, #784
-	ldr	r2, [lr, #2292]
-	pop	{r4, pc}
-.LBB56d51_5:
-	ldr	r0, [lr, #1328]
-	b	.LBB56d51_7
-.LBB56d51_6:
-	ldr	r0, [lr, #1528]
-.LBB56d51_7:
-	ldr	r1, [r0, #1504]
-	ldr	r2, [r0, #1508]
-.LBB56d51_8:
-	pop	{r4, pc}
-	.p2align	2
-.LCPI56d51_0:
-	.long	.Lstatic.0-(.LPC23_0+8)
-.Lfunc_end56d51:
-	.size	"tuvaddri_c::session::End::last_packet", .Lfunc_end56d51-"tuvaddri_c::session::End::last_packet"
-	.cantunwind
-	.fnend
-
 	.section	".text.tuvaddri_c::deliver::deliver_to_peer","ax",%progbits
 	.p2align	2
 	.type	"tuvaddri_c::deliver::deliver_to_peer",%function
@@ -2929,7 +2873,7 @@
 	cmp	r4, #3
 	ldrb	r10, [r1, #1]
 	mov	r3, #3
-.LPC26_0:
+.LPC25_0:
 	add	r7, pc, r7
 	mov	r11, #0
 	movweq	r3, #2
@@ -2967,7 +2911,7 @@
 	b	.LBB47dfc_10
 	.p2align	2
 .LCPI47dfc_0:
-	.long	.Lstatic.0-(.LPC26_0+8)
+	.long	.Lstatic.0-(.LPC25_0+8)
 .Lfunc_end47dfc:
 	.size	"eap_packet::packet::decode", .Lfunc_end47dfc-"eap_packet::packet::decode"
 	.cantunwind
@@ -3146,7 +3090,7 @@
 	ldr	r1, .LCPIbd03d_0
 	mov	r3, #0
 	mov	r2, #6
-.LPC29_0:
+.LPC28_0:
 	add	r1, pc, r1
 	strd	r2, r3, [sp, #8]
 	str	r1, [sp]
@@ -3160,7 +3104,7 @@
 	bx	lr
 	.p2align	2
 .LCPIbd03d_0:
-	.long	.Lstatic.6-(.LPC29_0+8)
+	.long	.Lstatic.6-(.LPC28_0+8)
 .Lfunc_endbd03d:
 	.size	"eap_packet::expanded::is_ietf", .Lfunc_endbd03d-"eap_packet::expanded::is_ietf"
 	.cantunwind
@@ -3635,7 +3579,7 @@
 	add	r2, r8, r0
 	mov	r3, #0
 	ldr	r4, [sp, #12]
-.LPC34_0:
+.LPC33_0:
 	add	r6, pc, r6
 	strh	r3, [r2, #4]
 	subs	r6, r2, r6
@@ -3687,7 +3631,7 @@
 	pop	{r4, r5, r6, r7, r8, r9, r10, r11, pc}
 	.p2align	2
 .LCPIab94b_0:
-	.long	.Lstatic.6-(.LPC34_0+8)
+	.long	.Lstatic.6-(.LPC33_0+8)
 .Lfunc_endab94b:
 	.size	"peer_machine::machine::express", .Lfunc_endab94b-"peer_machine::machine::express"
 	.cantunwind
@@ -4121,7 +4065,7 @@
 	mov	r3, #2
 	ldr	r7, [sp, #28]
 	mov	r8, r0
-.LPC37_0:
+.LPC36_0:
 	add	r2, pc, r2
 	str	r2, [sp]
 	str	r1, [sp, #8]
@@ -4241,7 +4185,7 @@
 	.long	4
 	.long	0
 .LCPIbba59_4:
-	.long	.Lstatic.0-(.LPC37_0+8)
+	.long	.Lstatic.0-(.LPC36_0+8)
 .Lfunc_endbba59:
 	.size	"peer_machine::machine::PeerMachine::receive_octets::<#b05093cacc003912>", .Lfunc_endbba59-"peer_machine::machine::PeerMachine::receive_octets::<#b05093cacc003912>"
 	.cantunwind
@@ -4429,10 +4373,10 @@
 	cmp	r8, #0
 	ldr	r2, .LCPI9b16b_8
 	mov	r9, #0
-.LPC40_4:
+.LPC39_4:
 	add	r0, pc, r0
 	vst1.64	{d18, d19}, [r7]!
-.LPC40_5:
+.LPC39_5:
 	add	r2, pc, r2
 	movwne	r4, #2
 	vst1.64	{d16, d17}, [r3]!
@@ -4456,10 +4400,10 @@
 	vld1.64	{d18, d19}, [r1:128]
 	add	r1, sp, #40
 	mov	r6, r5
-.LPC40_0:
+.LPC39_0:
 	add	r3, pc, r3
 	mov	r7, r1
-.LPC40_1:
+.LPC39_1:
 	add	r2, pc, r2
 	vst1.64	{d18, d19}, [r7]!
 	cmp	r8, #0
@@ -4487,11 +4431,11 @@
 	vld1.64	{d16, d17}, [r1:128]
 	mov	r1, #11
 	mov	r4, r5
-.LPC40_2:
+.LPC39_2:
 	add	r0, pc, r0
 	strb	r1, [r7, #768]
 	add	r1, sp, #40
-.LPC40_3:
+.LPC39_3:
 	add	r2, pc, r2
 	cmp	r8, #0
 	mov	r7, r1
@@ -4541,17 +4485,17 @@
 	.long	3
 	.long	0
 .LCPI9b16b_3:
-	.long	.Lstatic.17-(.LPC40_0+8)
+	.long	.Lstatic.17-(.LPC39_0+8)
 .LCPI9b16b_4:
-	.long	.Lstatic.16-(.LPC40_1+8)
+	.long	.Lstatic.16-(.LPC39_1+8)
 .LCPI9b16b_5:
-	.long	.Lstatic.16-(.LPC40_2+8)
+	.long	.Lstatic.16-(.LPC39_2+8)
 .LCPI9b16b_6:
-	.long	.Lstatic.17-(.LPC40_3+8)
+	.long	.Lstatic.17-(.LPC39_3+8)
 .LCPI9b16b_7:
-	.long	.Lstatic.16-(.LPC40_4+8)
+	.long	.Lstatic.16-(.LPC39_4+8)
 .LCPI9b16b_8:
-	.long	.Lstatic.17-(.LPC40_5+8)
+	.long	.Lstatic.17-(.LPC39_5+8)
 .Lfunc_end9b16b:
 	.size	"peer_machine::machine::PeerMachine::method::<#b05093cacc003912>", .Lfunc_end9b16b-"peer_machine::machine::PeerMachine::method::<#b05093cacc003912>"
 	.cantunwind
@@ -5706,7 +5650,7 @@
 	vtbl.8	d23, {d8, d9}, d23
 	ldr	r4, .LCPI06db0_13
 	vtbl.8	d19, {d2, d3}, d20
-.LPC48_0:
+.LPC47_0:
 	add	r4, pc, r4
 	veor	d23, d23, d22
 	vtbl.8	d18, {d8, d9}, d18
@@ -5870,7 +5814,7 @@
 .LCPI06db0_12:
 	.byte	0,106,187,95,165,116,228,207
 .LCPI06db0_13:
-	.long	.Lstatic.11-(.LPC48_0+8)
+	.long	.Lstatic.11-(.LPC47_0+8)
 .Lfunc_end06db0:
 	.size	"aes_block::Aes128::new", .Lfunc_end06db0-"aes_block::Aes128::new"
 	.cantunwind
@@ -11611,7 +11555,7 @@
 	ldr	r5, .LCPIb0cdf_0
 	orr	r0, r1, r0
 	eor	r1, r10, r10, ror #14
-.LPC85_0:
+.LPC84_0:
 	add	r5, pc, r5
 	eor	r1, r10, r1, ror #5
 	add	r1, r4, r1, ror #6
@@ -12193,7 +12137,7 @@
 	pop	{r4, r5, r6, r7, r8, r9, r10, r11, pc}
 	.p2align	2
 .LCPIb0cdf_0:
-	.long	.Lstatic.12-(.LPC85_0+8)
+	.long	.Lstatic.12-(.LPC84_0+8)
 .Lfunc_endb0cdf:
 	.size	"sha2::block256::compress", .Lfunc_endb0cdf-"sha2::block256::compress"
 	.cantunwind
@@ -12217,7 +12161,7 @@
 	ldr	r1, .LCPI22a8e_0
 	mov	r3, #0
 	ldr	r7, [sp, #104]
-.LPC86_0:
+.LPC85_0:
 	add	r1, pc, r1
 	ldr	r6, [sp, #108]
 	rsb	r0, r7, #55
@@ -12277,7 +12221,7 @@
 	pop	{r4, r5, r6, r7, r11, pc}
 	.p2align	2
 .LCPI22a8e_0:
-	.long	.Lstatic.13-(.LPC86_0+8)
+	.long	.Lstatic.13-(.LPC85_0+8)
 .Lfunc_end22a8e:
 	.size	"sha2::Sha256Digest::finalize", .Lfunc_end22a8e-"sha2::Sha256Digest::finalize"
 	.cantunwind
@@ -13490,7 +13434,7 @@
 	ldr	r3, .LCPIe23de_0
 	str	r2, [sp, #968]
 	ldr	r2, [sp, #16]
-.LPC98_0:
+.LPC97_0:
 	add	r3, pc, r3
 	str	r3, [r0]
 	cmp	r2, #0
@@ -13502,10 +13446,10 @@
 	ldr	r0, .LCPIe23de_1
 	strb	r2, [sp, #1088]
 	ldr	r2, .LCPIe23de_2
-.LPC98_1:
+.LPC97_1:
 	add	r0, pc, r0
 	str	r10, [sp, #1100]
-.LPC98_2:
+.LPC97_2:
 	add	r2, pc, r2
 	str	r10, [sp, #1116]
 	movne	r2, r0
@@ -13537,11 +13481,11 @@
 	pop	{r4, r5, r6, r7, r8, r9, r10, r11, pc}
 	.p2align	2
 .LCPIe23de_0:
-	.long	.Lstatic.0-(.LPC98_0+8)
+	.long	.Lstatic.0-(.LPC97_0+8)
 .LCPIe23de_1:
-	.long	.Lstatic.14-(.LPC98_1+8)
+	.long	.Lstatic.14-(.LPC97_1+8)
 .LCPIe23de_2:
-	.long	.Lstatic.10-(.LPC98_2+8)
+	.long	.Lstatic.10-(.LPC97_2+8)
 .Lfunc_ende23de:
 	.size	"gpsk_ends::peer::turns::log_in::<#e0641de541981142>", .Lfunc_ende23de-"gpsk_ends::peer::turns::log_in::<#e0641de541981142>"
 	.cantunwind
@@ -14535,14 +14479,14 @@
 	mov	r2, #5
 	ldr	r0, [sp, #28]
 	str	r5, [sp, #372]
-.LPC104_3:
+.LPC103_3:
 	add	r3, pc, r3
 	str	r2, [sp, #368]
 	ldrb	r1, [r0]
 	ldr	r2, .LCPIfa406_4
 	cmp	r1, #0
 	mov	r1, #32
-.LPC104_4:
+.LPC103_4:
 	add	r2, pc, r2
 	movweq	r1, #16
 	movne	r2, r3
@@ -14633,15 +14577,15 @@
 	ldr	r12, .LCPIfa406_0
 	ldr	r1, .LCPIfa406_1
 	ldr	r2, .LCPIfa406_2
-.LPC104_0:
+.LPC103_0:
 	add	r12, pc, r12
 	ldr	r0, [sp, #28]
-.LPC104_1:
+.LPC103_1:
 	add	r1, pc, r1
 	str	r1, [sp, #376]
 	mov	r1, #3
 	str	r1, [sp, #368]
-.LPC104_2:
+.LPC103_2:
 	add	r2, pc, r2
 	ldrb	r3, [r0]
 	mov	r1, #32
@@ -14670,15 +14614,15 @@
 	b	.LBBfa406_5
 	.p2align	2
 .LCPIfa406_0:
-	.long	.Lstatic.14-(.LPC104_0+8)
+	.long	.Lstatic.14-(.LPC103_0+8)
 .LCPIfa406_1:
-	.long	.Lstatic.0-(.LPC104_1+8)
+	.long	.Lstatic.0-(.LPC103_1+8)
 .LCPIfa406_2:
-	.long	.Lstatic.10-(.LPC104_2+8)
+	.long	.Lstatic.10-(.LPC103_2+8)
 .LCPIfa406_3:
-	.long	.Lstatic.14-(.LPC104_3+8)
+	.long	.Lstatic.14-(.LPC103_3+8)
 .LCPIfa406_4:
-	.long	.Lstatic.10-(.LPC104_4+8)
+	.long	.Lstatic.10-(.LPC103_4+8)
 .Lfunc_endfa406:
 	.size	"gpsk_ends::peer::turns::known_reads::<#e0641de541981142>", .Lfunc_endfa406-"gpsk_ends::peer::turns::known_reads::<#e0641de541981142>"
 	.cantunwind
@@ -14744,7 +14688,7 @@
 	mov	r3, #0
 	ldrb	r4, [r1], #16
 	adr	r6, .LJTIe9c4d_0
-.LPC106_0:
+.LPC105_0:
 	add	r0, pc, r0
 	mov	r8, #0
 	ldr	r4, [r6, r4, lsl #2]
@@ -14782,7 +14726,7 @@
 	pop	{r4, r6, r8, pc}
 	.p2align	2
 .LCPIe9c4d_0:
-	.long	.Lstatic.0-(.LPC106_0+8)
+	.long	.Lstatic.0-(.LPC105_0+8)
 .Lfunc_ende9c4d:
 	.size	"gpsk_messages::parts::mac_part", .Lfunc_ende9c4d-"gpsk_messages::parts::mac_part"
 	.cantunwind
@@ -15225,7 +15169,7 @@
 	mov	r3, #6
 	str	r3, [sp, #8]
 	mov	r1, #0
-.LPC110_0:
+.LPC109_0:
 	add	r2, pc, r2
 	str	r2, [sp]
 	mov	r2, #6
@@ -15374,7 +15318,7 @@
 	mov	r2, #6
 	ldr	r0, .LCPI455d5_2
 	mov	r3, #0
-.LPC110_1:
+.LPC109_1:
 	add	r0, pc, r0
 	str	r0, [sp]
 	mov	r0, r7
@@ -15411,7 +15355,7 @@
 	mov	r2, #1
 	mov	r1, #0
 	str	r2, [sp, #8]
-.LPC110_2:
+.LPC109_2:
 	add	r0, pc, r0
 	str	r1, [sp, #12]
 .LBB455d5_40:
@@ -15432,11 +15376,11 @@
 	.long	3
 	.long	0
 .LCPI455d5_1:
-	.long	.Lstatic.6-(.LPC110_0+8)
+	.long	.Lstatic.6-(.LPC109_0+8)
 .LCPI455d5_2:
-	.long	.Lstatic.6-(.LPC110_1+8)
+	.long	.Lstatic.6-(.LPC109_1+8)
 .LCPI455d5_3:
-	.long	.Lstatic.5-(.LPC110_2+8)
+	.long	.Lstatic.5-(.LPC109_2+8)
 .Lfunc_end455d5:
 	.size	"server_machine::machine::SizedServer::read::<#8eedcce04f265703>", .Lfunc_end455d5-"server_machine::machine::SizedServer::read::<#8eedcce04f265703>"
 	.cantunwind
@@ -16048,7 +15992,7 @@
 	vmov.i32	q8, #0x0
 	mov	r4, #65536
 	vst1.64	{d18, d19}, [r0]!
-.LPC113_0:
+.LPC112_0:
 	add	r2, pc, r2
 	add	r6, sp, #40
 	str	r4, [r0]
@@ -16074,23 +16018,23 @@
 .LBB264c5_20:
 	ldr	r2, .LCPI264c5_2
 	mov	r0, #3
-.LPC113_1:
+.LPC112_1:
 	add	r2, pc, r2
 	b	.LBB264c5_25
 .LBB264c5_21:
 	ldr	r2, .LCPI264c5_5
-.LPC113_4:
+.LPC112_4:
 	add	r2, pc, r2
 	b	.LBB264c5_24
 .LBB264c5_22:
 	ldr	r2, .LCPI264c5_3
 	mov	r0, #3
-.LPC113_2:
+.LPC112_2:
 	add	r2, pc, r2
 	b	.LBB264c5_25
 .LBB264c5_23:
 	ldr	r2, .LCPI264c5_4
-.LPC113_3:
+.LPC112_3:
 	add	r2, pc, r2
 .LBB264c5_24:
 	mov	r0, #2
@@ -16124,15 +16068,15 @@
 	.long	4
 	.long	0
 .LCPI264c5_1:
-	.long	.Lstatic.20-(.LPC113_0+8)
+	.long	.Lstatic.20-(.LPC112_0+8)
 .LCPI264c5_2:
-	.long	.Lstatic.21-(.LPC113_1+8)
+	.long	.Lstatic.21-(.LPC112_1+8)
 .LCPI264c5_3:
-	.long	.Lstatic.22-(.LPC113_2+8)
+	.long	.Lstatic.22-(.LPC112_2+8)
 .LCPI264c5_4:
-	.long	.Lstatic.23-(.LPC113_3+8)
+	.long	.Lstatic.23-(.LPC112_3+8)
 .LCPI264c5_5:
-	.long	.Lstatic.24-(.LPC113_4+8)
+	.long	.Lstatic.24-(.LPC112_4+8)
 .Lfunc_end264c5:
 	.size	"server_machine::machine::SizedServer::propose::<#575f94f35bca5e04>", .Lfunc_end264c5-"server_machine::machine::SizedServer::propose::<#575f94f35bca5e04>"
 	.cantunwind
@@ -16206,7 +16150,7 @@
 	mov	r4, #8
 	vst1.64	{d16, d17}, [r0]!
 	uxtb	r1, r1
-.LPC115_0:
+.LPC114_0:
 	add	r2, pc, r2
 	str	r3, [r0]
 	add	r0, sp, #8
@@ -16233,23 +16177,23 @@
 .LBB83878_2:
 	ldr	r2, .LCPI83878_2
 	mov	r0, #3
-.LPC115_1:
+.LPC114_1:
 	add	r2, pc, r2
 	b	.LBB83878_7
 .LBB83878_3:
 	ldr	r2, .LCPI83878_5
-.LPC115_4:
+.LPC114_4:
 	add	r2, pc, r2
 	b	.LBB83878_6
 .LBB83878_4:
 	ldr	r2, .LCPI83878_3
 	mov	r0, #3
-.LPC115_2:
+.LPC114_2:
 	add	r2, pc, r2
 	b	.LBB83878_7
 .LBB83878_5:
 	ldr	r2, .LCPI83878_4
-.LPC115_3:
+.LPC114_3:
 	add	r2, pc, r2
 .LBB83878_6:
 	mov	r0, #2
@@ -16274,15 +16218,15 @@
 	.long	0
 	.long	0
 .LCPI83878_1:
-	.long	.Lstatic.20-(.LPC115_0+8)
+	.long	.Lstatic.20-(.LPC114_0+8)
 .LCPI83878_2:
-	.long	.Lstatic.21-(.LPC115_1+8)
+	.long	.Lstatic.21-(.LPC114_1+8)
 .LCPI83878_3:
-	.long	.Lstatic.22-(.LPC115_2+8)
+	.long	.Lstatic.22-(.LPC114_2+8)
 .LCPI83878_4:
-	.long	.Lstatic.23-(.LPC115_3+8)
+	.long	.Lstatic.23-(.LPC114_3+8)
 .LCPI83878_5:
-	.long	.Lstatic.24-(.LPC115_4+8)
+	.long	.Lstatic.24-(.LPC114_4+8)
 .Lfunc_end83878:
 	.size	"server_machine::outcome::ending", .Lfunc_end83878-"server_machine::outcome::ending"
 	.cantunwind
@@ -18197,9 +18141,9 @@
 	mov	r2, #3
 	ldr	r1, .LCPIc1a4a_1
 	ldrb	r3, [r5]
-.LPC128_0:
+.LPC127_0:
 	add	r0, pc, r0
-.LPC128_1:
+.LPC127_1:
 	add	r1, pc, r1
 	str	r2, [sp, #532]
 	cmp	r3, #0
@@ -18264,14 +18208,14 @@
 	ldr	r5, .LCPIc1a4a_2
 	ldr	r4, .LCPIc1a4a_3
 	str	r2, [r6, #40]
-.LPC128_2:
+.LPC127_2:
 	add	r5, pc, r5
 	str	r7, [r6, #44]
-.LPC128_3:
+.LPC127_3:
 	add	r4, pc, r4
 	ldr	r2, .LCPIc1a4a_4
 	strb	r0, [sp, #616]
-.LPC128_4:
+.LPC127_4:
 	add	r2, pc, r2
 	ldr	r0, [sp, #740]
 	str	r9, [r1]
@@ -18295,15 +18239,15 @@
 	pop	{r4, r5, r6, r7, r8, r9, r10, r11, pc}
 	.p2align	2
 .LCPIc1a4a_0:
-	.long	.Lstatic.14-(.LPC128_0+8)
+	.long	.Lstatic.14-(.LPC127_0+8)
 .LCPIc1a4a_1:
-	.long	.Lstatic.10-(.LPC128_1+8)
+	.long	.Lstatic.10-(.LPC127_1+8)
 .LCPIc1a4a_2:
-	.long	.Lstatic.14-(.LPC128_2+8)
+	.long	.Lstatic.14-(.LPC127_2+8)
 .LCPIc1a4a_3:
-	.long	.Lstatic.0-(.LPC128_3+8)
+	.long	.Lstatic.0-(.LPC127_3+8)
 .LCPIc1a4a_4:
-	.long	.Lstatic.10-(.LPC128_4+8)
+	.long	.Lstatic.10-(.LPC127_4+8)
 .Lfunc_endc1a4a:
 	.size	"gpsk_ends::server::gpsk2::log_in::<#e0641de541981142>", .Lfunc_endc1a4a-"gpsk_ends::server::gpsk2::log_in::<#e0641de541981142>"
 	.cantunwind
@@ -18457,6 +18401,62 @@
 	pop	{r4, r5, r6, r7, r8, r9, r10, r11, pc}
 .Lfunc_end5d6ad:
 	.size	"gpsk_ends::server::gpsk2::settle", .Lfunc_end5d6ad-"gpsk_ends::server::gpsk2::settle"
+	.cantunwind
+	.fnend
+
+	.section	".text.tuvaddri_c::session::End::last_packet","ax",%progbits
+	.p2align	2
+	.type	"tuvaddri_c::session::End::last_packet",%function
+	.code	32
+"tuvaddri_c::session::End::last_packet":
+	.fnstart
+	.save	{r4, lr}
+	push	{r4, lr}
+	mov	lr, r0
+	ldr	r0, .LCPI56d51_0
+	ldrb	r12, [lr]
+	adr	r4, .LJTI56d51_0
+.LPC129_0:
+	add	r0, pc, r0
+	mov	r2, #0
+	mov	r1, #0
+	ldr	r3, [r4, r12, lsl #2]
+	add	pc, r4, r3
+	.p2align	2
+.LJTI56d51_0:
+	.long	.LBB56d51_8-.LJTI56d51_0
+	.long	.LBB56d51_5-.LJTI56d51_0
+	.long	.LBB56d51_3-.LJTI56d51_0
+	.long	.LBB56d51_4-.LJTI56d51_0
+	.long	.LBB56d51_2-.LJTI56d51_0
+	.long	.LBB56d51_2-.LJTI56d51_0
+	.long	.LBB56d51_6-.LJTI56d51_0
+.LBB56d51_2:
+	ldr	r0, [lr, #2624]
+	b	.LBB56d51_7
+.LBB56d51_3:
+	ldr	r0, [lr, #1976]
+	b	.LBB56d51_7
+.LBB56d51_4:
+	ldr	r1, [lr, #2288]
+	add	r0, lr, #784
+	ldr	r2, [lr, #2292]
+	pop	{r4, pc}
+.LBB56d51_5:
+	ldr	r0, [lr, #1328]
+	b	.LBB56d51_7
+.LBB56d51_6:
+	ldr	r0, [lr, #1528]
+.LBB56d51_7:
+	ldr	r1, [r0, #1504]
+	ldr	r2, [r0, #1508]
+.LBB56d51_8:
+	pop	{r4, pc}
+	.p2align	2
+.LCPI56d51_0:
+	.long	.Lstatic.0-(.LPC129_0+8)
+.Lfunc_end56d51:
+	.size	"tuvaddri_c::session::End::last_packet", .Lfunc_end56d51-"tuvaddri_c::session::End::last_packet"
 	.cantunwind
 	.fnend
 
@@ -22996,89 +22996,6 @@ tuv_backend_begin:
 	.cantunwind
 	.fnend
 
-	.section	.text.tuv_end_last_packet,"ax",%progbits
-	.globl	tuv_end_last_packet
-	.p2align	2
-	.type	tuv_end_last_packet,%function
-	.code	32
-tuv_end_last_packet:
-	.fnstart
-	.save	{r4, r5, r6, r7, r8, r9, r10, lr}
-	push	{r4, r5, r6, r7, r8, r9, r10, lr}
-	ldr	r0, [r0]
-	cmp	r1, #0
-	mov	r6, #0
-	mov	r9, r3
-	mov	r7, r2
-	mov	r5, r1
-	mov	r8, #0
-	movweq	r6, #4096
-	bl	"tuvaddri_c::session::End::last_packet"
-	mov	r10, r1
-	mov	r1, r2
-	subs	r2, r7, r10
-	sbcs	r2, r9, r1
-	blo	.LBBa1694_8
-	add	r12, r5, r6
-	subs	r3, r12, r0
-	sbc	r7, r8, #0
-	subs	r3, r3, r10
-	sbcs	r3, r7, r1
-	bhs	.LBBa1694_9
-	subs	r7, r10, #16
-	mov	r3, #0
-	sbcs	r7, r1, #0
-	mov	r7, #0
-	blo	.LBBa1694_7
-	sub	r7, r12, r0
-	cmp	r7, #16
-	mov	r7, #0
-	blo	.LBBa1694_7
-	bic	r3, r10, #15
-	mov	r6, #0
-	mov	r7, r1
-	mov	r5, #0
-.LBBa1694_5:
-	add	r4, r0, r5
-	vld1.8	{d16, d17}, [r4]
-	add	r4, r12, r5
-	adds	r5, r5, #16
-	adc	r6, r6, #0
-	vst1.8	{d16, d17}, [r4]
-	eor	r4, r5, r3
-	eor	r2, r6, r1
-	orrs	r2, r4, r2
-	bne	.LBBa1694_5
-	eor	r2, r10, r3
-	eor	r6, r1, r1
-	orrs	r2, r2, r6
-	beq	.LBBa1694_8
-.LBBa1694_7:
-	ldrb	r2, [r0, r3]
-	strb	r2, [r12, r3]
-	adds	r3, r3, #1
-	adc	r7, r7, #0
-	subs	r2, r3, r10
-	sbcs	r2, r7, r1
-	blo	.LBBa1694_7
-.LBBa1694_8:
-	mov	r0, r10
-	pop	{r4, r5, r6, r7, r8, r9, r10, pc}
-.LBBa1694_9:
-	mov	r3, r0
-	mov	r5, r1
-	mov	r0, r12
-	mov	r1, r3
-	mov	r2, r10
-	bl	memmove
-	mov	r1, r5
-	mov	r0, r10
-	pop	{r4, r5, r6, r7, r8, r9, r10, pc}
-.Lfunc_enda1694:
-	.size	tuv_end_last_packet, .Lfunc_enda1694-tuv_end_last_packet
-	.cantunwind
-	.fnend
-
 	.section	.text.tuv_end_close,"ax",%progbits
 	.globl	tuv_end_close
 	.p2align	2
@@ -23153,6 +23070,89 @@ tuv_end_close:
 	pop	{r4, r5, r6, r7, r8, r9, r10, r11, pc}
 .Lfunc_endaaabf:
 	.size	tuv_end_close, .Lfunc_endaaabf-tuv_end_close
+	.cantunwind
+	.fnend
+
+	.section	.text.tuv_end_last_packet,"ax",%progbits
+	.globl	tuv_end_last_packet
+	.p2align	2
+	.type	tuv_end_last_packet,%function
+	.code	32
+tuv_end_last_packet:
+	.fnstart
+	.save	{r4, r5, r6, r7, r8, r9, r10, lr}
+	push	{r4, r5, r6, r7, r8, r9, r10, lr}
+	ldr	r0, [r0]
+	cmp	r1, #0
+	mov	r6, #0
+	mov	r9, r3
+	mov	r7, r2
+	mov	r5, r1
+	mov	r8, #0
+	movweq	r6, #4096
+	bl	"tuvaddri_c::session::End::last_packet"
+	mov	r10, r1
+	mov	r1, r2
+	subs	r2, r7, r10
+	sbcs	r2, r9, r1
+	blo	.LBB0546d_8
+	add	r12, r5, r6
+	subs	r3, r12, r0
+	sbc	r7, r8, #0
+	subs	r3, r3, r10
+	sbcs	r3, r7, r1
+	bhs	.LBB0546d_9
+	subs	r7, r10, #16
+	mov	r3, #0
+	sbcs	r7, r1, #0
+	mov	r7, #0
+	blo	.LBB0546d_7
+	sub	r7, r12, r0
+	cmp	r7, #16
+	mov	r7, #0
+	blo	.LBB0546d_7
+	bic	r3, r10, #15
+	mov	r6, #0
+	mov	r7, r1
+	mov	r5, #0
+.LBB0546d_5:
+	add	r4, r0, r5
+	vld1.8	{d16, d17}, [r4]
+	add	r4, r12, r5
+	adds	r5, r5, #16
+	adc	r6, r6, #0
+	vst1.8	{d16, d17}, [r4]
+	eor	r4, r5, r3
+	eor	r2, r6, r1
+	orrs	r2, r4, r2
+	bne	.LBB0546d_5
+	eor	r2, r10, r3
+	eor	r6, r1, r1
+	orrs	r2, r2, r6
+	beq	.LBB0546d_8
+.LBB0546d_7:
+	ldrb	r2, [r0, r3]
+	strb	r2, [r12, r3]
+	adds	r3, r3, #1
+	adc	r7, r7, #0
+	subs	r2, r3, r10
+	sbcs	r2, r7, r1
+	blo	.LBB0546d_7
+.LBB0546d_8:
+	mov	r0, r10
+	pop	{r4, r5, r6, r7, r8, r9, r10, pc}
+.LBB0546d_9:
+	mov	r3, r0
+	mov	r5, r1
+	mov	r0, r12
+	mov	r1, r3
+	mov	r2, r10
+	bl	memmove
+	mov	r1, r5
+	mov	r0, r10
+	pop	{r4, r5, r6, r7, r8, r9, r10, pc}
+.Lfunc_end0546d:
+	.size	tuv_end_last_packet, .Lfunc_end0546d-tuv_end_last_packet
 	.cantunwind
 	.fnend
 
@@ -24951,28 +24951,28 @@ tuv_server_set_user:
 	bl	"end_objects::refusals::user_refusal"
 	uxtb	r0, r0
 	cmp	r0, #1
-	bne	.LBB338ba_2
+	bne	.LBB6ae71_2
 	add	r0, r1, #1
 	pop	{r4, r5, r11, pc}
-.LBB338ba_2:
+.LBB6ae71_2:
 	ldr	r5, [r5]
 	mov	r0, #9
 	ldrb	r1, [r5]
-	adr	r2, .LJTI338ba_0
+	adr	r2, .LJTI6ae71_0
 	ldr	r1, [r2, r1, lsl #2]
 	add	pc, r2, r1
 	.p2align	2
-.LJTI338ba_0:
-	.long	.LBB338ba_4-.LJTI338ba_0
-	.long	.LBB338ba_4-.LJTI338ba_0
-	.long	.LBB338ba_4-.LJTI338ba_0
-	.long	.LBB338ba_4-.LJTI338ba_0
-	.long	.LBB338ba_5-.LJTI338ba_0
-	.long	.LBB338ba_6-.LJTI338ba_0
-	.long	.LBB338ba_4-.LJTI338ba_0
-.LBB338ba_4:
+.LJTI6ae71_0:
+	.long	.LBB6ae71_4-.LJTI6ae71_0
+	.long	.LBB6ae71_4-.LJTI6ae71_0
+	.long	.LBB6ae71_4-.LJTI6ae71_0
+	.long	.LBB6ae71_4-.LJTI6ae71_0
+	.long	.LBB6ae71_5-.LJTI6ae71_0
+	.long	.LBB6ae71_6-.LJTI6ae71_0
+	.long	.LBB6ae71_4-.LJTI6ae71_0
+.LBB6ae71_4:
 	pop	{r4, r5, r11, pc}
-.LBB338ba_5:
+.LBB6ae71_5:
 	movw	r0, #1912
 	mov	r1, #0
 	add	r0, r5, r0
@@ -24983,7 +24983,7 @@ tuv_server_set_user:
 	bl	"tuvaddri_c::by_method::add_users::<#d37c63745cf5a212>"
 	mov	r0, #0
 	pop	{r4, r5, r11, pc}
-.LBB338ba_6:
+.LBB6ae71_6:
 	movw	r0, #1912
 	mov	r1, #0
 	add	r0, r5, r0
@@ -24994,8 +24994,8 @@ tuv_server_set_user:
 	bl	"tuvaddri_c::by_method::add_users::<#93e2819ad231d5c1>"
 	mov	r0, #0
 	pop	{r4, r5, r11, pc}
-.Lfunc_end338ba:
-	.size	tuv_server_set_user, .Lfunc_end338ba-tuv_server_set_user
+.Lfunc_end6ae71:
+	.size	tuv_server_set_user, .Lfunc_end6ae71-tuv_server_set_user
 	.cantunwind
 	.fnend
 

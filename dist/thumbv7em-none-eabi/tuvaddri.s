@@ -2933,58 +2933,6 @@
 	.cantunwind
 	.fnend
 
-	.section	".text.tuvaddri_c::session::End::last_packet","ax",%progbits
-	.p2align	2
-	.type	"tuvaddri_c::session::End::last_packet",%function
-	.code	16
-	.thumb_func
-"tuvaddri_c::session::End::last_packet":
-	.fnstart
-	mov	r12, r0
-	ldrb	r3, [r0]
-	movw	r0, :lower16:.Lstatic.0
-	movs	r1, #0
-	movt	r0, :upper16:.Lstatic.0
-	.save	{r7, lr}
-	push	{r7, lr}
-	movs	r2, #0
-.LCPI56d51_0:
-	tbb	[pc, r3]
-.LJTI56d51_0:
-	.byte	(.LBB56d51_8-(.LCPI56d51_0+4))/2
-	.byte	(.LBB56d51_5-(.LCPI56d51_0+4))/2
-	.byte	(.LBB56d51_3-(.LCPI56d51_0+4))/2
-	.byte	(.LBB56d51_4-(.LCPI56d51_0+4))/2
-	.byte	(.LBB56d51_2-(.LCPI56d51_0+4))/2
-	.byte	(.LBB56d51_2-(.LCPI56d51_0+4))/2
-	.byte	(.LBB56d51_6-(.LCPI56d51_0+4))/2
-	.p2align	1
-.LBB56d51_2:
-	ldr.w	r0, [r12, #2624]
-	b	.LBB56d51_7
-.LBB56d51_3:
-	ldr.w	r0, [r12, #1976]
-	b	.LBB56d51_7
-.LBB56d51_4:
-	ldr.w	r1, [r12, #2288]
-	ldr.w	r2, [r12, #2292]
-	add.w	r0, r12, #784
-	pop	{r7, pc}
-.LBB56d51_5:
-	ldr.w	r0, [r12, #1328]
-	b	.LBB56d51_7
-.LBB56d51_6:
-	ldr.w	r0, [r12, #1528]
-.LBB56d51_7:
-	ldr.w	r1, [r0, #1504]
-	ldr.w	r2, [r0, #1508]
-.LBB56d51_8:
-	pop	{r7, pc}
-.Lfunc_end56d51:
-	.size	"tuvaddri_c::session::End::last_packet", .Lfunc_end56d51-"tuvaddri_c::session::End::last_packet"
-	.cantunwind
-	.fnend
-
 	.section	".text.tuvaddri_c::deliver::deliver_to_peer","ax",%progbits
 	.p2align	2
 	.type	"tuvaddri_c::deliver::deliver_to_peer",%function
@@ -19370,6 +19318,58 @@
 	.cantunwind
 	.fnend
 
+	.section	".text.tuvaddri_c::session::End::last_packet","ax",%progbits
+	.p2align	2
+	.type	"tuvaddri_c::session::End::last_packet",%function
+	.code	16
+	.thumb_func
+"tuvaddri_c::session::End::last_packet":
+	.fnstart
+	mov	r12, r0
+	ldrb	r3, [r0]
+	movw	r0, :lower16:.Lstatic.0
+	movs	r1, #0
+	movt	r0, :upper16:.Lstatic.0
+	.save	{r7, lr}
+	push	{r7, lr}
+	movs	r2, #0
+.LCPI56d51_0:
+	tbb	[pc, r3]
+.LJTI56d51_0:
+	.byte	(.LBB56d51_8-(.LCPI56d51_0+4))/2
+	.byte	(.LBB56d51_5-(.LCPI56d51_0+4))/2
+	.byte	(.LBB56d51_3-(.LCPI56d51_0+4))/2
+	.byte	(.LBB56d51_4-(.LCPI56d51_0+4))/2
+	.byte	(.LBB56d51_2-(.LCPI56d51_0+4))/2
+	.byte	(.LBB56d51_2-(.LCPI56d51_0+4))/2
+	.byte	(.LBB56d51_6-(.LCPI56d51_0+4))/2
+	.p2align	1
+.LBB56d51_2:
+	ldr.w	r0, [r12, #2624]
+	b	.LBB56d51_7
+.LBB56d51_3:
+	ldr.w	r0, [r12, #1976]
+	b	.LBB56d51_7
+.LBB56d51_4:
+	ldr.w	r1, [r12, #2288]
+	ldr.w	r2, [r12, #2292]
+	add.w	r0, r12, #784
+	pop	{r7, pc}
+.LBB56d51_5:
+	ldr.w	r0, [r12, #1328]
+	b	.LBB56d51_7
+.LBB56d51_6:
+	ldr.w	r0, [r12, #1528]
+.LBB56d51_7:
+	ldr.w	r1, [r0, #1504]
+	ldr.w	r2, [r0, #1508]
+.LBB56d51_8:
+	pop	{r7, pc}
+.Lfunc_end56d51:
+	.size	"tuvaddri_c::session::End::last_packet", .Lfunc_end56d51-"tuvaddri_c::session::End::last_packet"
+	.cantunwind
+	.fnend
+
 	.section	".text.tuvaddri_c::failure::shown_failure","ax",%progbits
 	.p2align	2
 	.type	"tuvaddri_c::failure::shown_failure",%function
@@ -23778,99 +23778,6 @@ tuv_backend_begin:
 	.cantunwind
 	.fnend
 
-	.section	.text.tuv_end_last_packet,"ax",%progbits
-	.globl	tuv_end_last_packet
-	.p2align	2
-	.type	tuv_end_last_packet,%function
-	.code	16
-	.thumb_func
-tuv_end_last_packet:
-	.fnstart
-	.save	{r4, r5, r6, r7, r8, r9, lr}
-	push.w	{r4, r5, r6, r7, r8, r9, lr}
-	.pad	#4
-	sub	sp, #4
-	ldr	r0, [r0]
-	mov	r9, r1
-	mov	r6, r3
-	mov	r7, r2
-	cmp	r1, #0
-	it	eq
-	addeq.w	r9, r9, #4096
-	bl	"tuvaddri_c::session::End::last_packet"
-	mov	r8, r1
-	mov	r1, r2
-	subs.w	r2, r7, r8
-	sbcs.w	r2, r6, r1
-	blo	.LBBa1694_11
-	subs.w	r2, r9, r0
-	mov.w	r3, #0
-	sbc	r3, r3, #0
-	subs.w	r2, r2, r8
-	sbcs.w	r2, r3, r1
-	bhs	.LBBa1694_4
-	subs.w	r2, r8, #4
-	sbcs	r2, r1, #0
-	and	r12, r8, #3
-	bhs	.LBBa1694_5
-	movs	r3, #0
-	b	.LBBa1694_8
-.LBBa1694_4:
-	mov	r2, r0
-	mov	r0, r9
-	mov	r4, r1
-	mov	r1, r2
-	mov	r2, r8
-	bl	__aeabi_memmove
-	mov	r1, r4
-	b	.LBBa1694_11
-.LBBa1694_5:
-	bic	lr, r8, #3
-	movs	r3, #0
-	movs	r6, #0
-	.p2align	2
-.LBBa1694_6:
-	ldrb	r2, [r0, r3]
-	strb.w	r2, [r9, r3]
-	orr	r2, r3, #1
-	ldrb	r5, [r0, r2]
-	strb.w	r5, [r9, r2]
-	orr	r2, r3, #2
-	ldrb	r5, [r0, r2]
-	strb.w	r5, [r9, r2]
-	orr	r2, r3, #3
-	adds	r3, #4
-	adc	r6, r6, #0
-	ldrb	r5, [r0, r2]
-	eor.w	r7, r3, lr
-	eor.w	r4, r6, r1
-	orrs	r4, r7
-	strb.w	r5, [r9, r2]
-	bne	.LBBa1694_6
-	cmp.w	r12, #0
-	beq	.LBBa1694_11
-.LBBa1694_8:
-	ldrb	r2, [r0, r3]
-	cmp.w	r12, #1
-	strb.w	r2, [r9, r3]
-	beq	.LBBa1694_11
-	adds	r2, r3, #1
-	ldrb	r7, [r0, r2]
-	cmp.w	r12, #2
-	strb.w	r7, [r9, r2]
-	beq	.LBBa1694_11
-	adds	r2, r3, #2
-	ldrb	r0, [r0, r2]
-	strb.w	r0, [r9, r2]
-.LBBa1694_11:
-	mov	r0, r8
-	add	sp, #4
-	pop.w	{r4, r5, r6, r7, r8, r9, pc}
-.Lfunc_enda1694:
-	.size	tuv_end_last_packet, .Lfunc_enda1694-tuv_end_last_packet
-	.cantunwind
-	.fnend
-
 	.section	.text.tuv_end_close,"ax",%progbits
 	.globl	tuv_end_close
 	.p2align	2
@@ -23943,6 +23850,99 @@ tuv_end_close:
 	pop.w	{r4, r5, r6, r7, r8, r9, r10, r11, pc}
 .Lfunc_endaaabf:
 	.size	tuv_end_close, .Lfunc_endaaabf-tuv_end_close
+	.cantunwind
+	.fnend
+
+	.section	.text.tuv_end_last_packet,"ax",%progbits
+	.globl	tuv_end_last_packet
+	.p2align	2
+	.type	tuv_end_last_packet,%function
+	.code	16
+	.thumb_func
+tuv_end_last_packet:
+	.fnstart
+	.save	{r4, r5, r6, r7, r8, r9, lr}
+	push.w	{r4, r5, r6, r7, r8, r9, lr}
+	.pad	#4
+	sub	sp, #4
+	ldr	r0, [r0]
+	mov	r9, r1
+	mov	r6, r3
+	mov	r7, r2
+	cmp	r1, #0
+	it	eq
+	addeq.w	r9, r9, #4096
+	bl	"tuvaddri_c::session::End::last_packet"
+	mov	r8, r1
+	mov	r1, r2
+	subs.w	r2, r7, r8
+	sbcs.w	r2, r6, r1
+	blo	.LBB0546d_11
+	subs.w	r2, r9, r0
+	mov.w	r3, #0
+	sbc	r3, r3, #0
+	subs.w	r2, r2, r8
+	sbcs.w	r2, r3, r1
+	bhs	.LBB0546d_4
+	subs.w	r2, r8, #4
+	sbcs	r2, r1, #0
+	and	r12, r8, #3
+	bhs	.LBB0546d_5
+	movs	r3, #0
+	b	.LBB0546d_8
+.LBB0546d_4:
+	mov	r2, r0
+	mov	r0, r9
+	mov	r4, r1
+	mov	r1, r2
+	mov	r2, r8
+	bl	__aeabi_memmove
+	mov	r1, r4
+	b	.LBB0546d_11
+.LBB0546d_5:
+	bic	lr, r8, #3
+	movs	r3, #0
+	movs	r6, #0
+	.p2align	2
+.LBB0546d_6:
+	ldrb	r2, [r0, r3]
+	strb.w	r2, [r9, r3]
+	orr	r2, r3, #1
+	ldrb	r5, [r0, r2]
+	strb.w	r5, [r9, r2]
+	orr	r2, r3, #2
+	ldrb	r5, [r0, r2]
+	strb.w	r5, [r9, r2]
+	orr	r2, r3, #3
+	adds	r3, #4
+	adc	r6, r6, #0
+	ldrb	r5, [r0, r2]
+	eor.w	r7, r3, lr
+	eor.w	r4, r6, r1
+	orrs	r4, r7
+	strb.w	r5, [r9, r2]
+	bne	.LBB0546d_6
+	cmp.w	r12, #0
+	beq	.LBB0546d_11
+.LBB0546d_8:
+	ldrb	r2, [r0, r3]
+	cmp.w	r12, #1
+	strb.w	r2, [r9, r3]
+	beq	.LBB0546d_11
+	adds	r2, r3, #1
+	ldrb	r7, [r0, r2]
+	cmp.w	r12, #2
+	strb.w	r7, [r9, r2]
+	beq	.LBB0546d_11
+	adds	r2, r3, #2
+	ldrb	r0, [r0, r2]
+	strb.w	r0, [r9, r2]
+.LBB0546d_11:
+	mov	r0, r8
+	add	sp, #4
+	pop.w	{r4, r5, r6, r7, r8, r9, pc}
+.Lfunc_end0546d:
+	.size	tuv_end_last_packet, .Lfunc_end0546d-tuv_end_last_packet
 	.cantunwind
 	.fnend
 
@@ -25366,24 +25366,24 @@ tuv_server_set_user:
 	itt	eq
 	addeq	r0, r1, #1
 	popeq	{r4, r5, r7, pc}
-.LBB338ba_1:
+.LBB6ae71_1:
 	ldr	r1, [r5]
 	movs	r0, #9
 	ldrb	r2, [r1]
-.LCPI338ba_0:
+.LCPI6ae71_0:
 	tbb	[pc, r2]
-.LJTI338ba_0:
-	.byte	(.LBB338ba_3-(.LCPI338ba_0+4))/2
-	.byte	(.LBB338ba_3-(.LCPI338ba_0+4))/2
-	.byte	(.LBB338ba_3-(.LCPI338ba_0+4))/2
-	.byte	(.LBB338ba_3-(.LCPI338ba_0+4))/2
-	.byte	(.LBB338ba_4-(.LCPI338ba_0+4))/2
-	.byte	(.LBB338ba_5-(.LCPI338ba_0+4))/2
-	.byte	(.LBB338ba_3-(.LCPI338ba_0+4))/2
+.LJTI6ae71_0:
+	.byte	(.LBB6ae71_3-(.LCPI6ae71_0+4))/2
+	.byte	(.LBB6ae71_3-(.LCPI6ae71_0+4))/2
+	.byte	(.LBB6ae71_3-(.LCPI6ae71_0+4))/2
+	.byte	(.LBB6ae71_3-(.LCPI6ae71_0+4))/2
+	.byte	(.LBB6ae71_4-(.LCPI6ae71_0+4))/2
+	.byte	(.LBB6ae71_5-(.LCPI6ae71_0+4))/2
+	.byte	(.LBB6ae71_3-(.LCPI6ae71_0+4))/2
 	.p2align	1
-.LBB338ba_3:
+.LBB6ae71_3:
 	pop	{r4, r5, r7, pc}
-.LBB338ba_4:
+.LBB6ae71_4:
 	add.w	r5, r1, #8
 	add.w	r0, r1, #1912
 	mov.w	r1, #712
@@ -25393,7 +25393,7 @@ tuv_server_set_user:
 	bl	"tuvaddri_c::by_method::add_users::<#d37c63745cf5a212>"
 	movs	r0, #0
 	pop	{r4, r5, r7, pc}
-.LBB338ba_5:
+.LBB6ae71_5:
 	add.w	r5, r1, #8
 	add.w	r0, r1, #1912
 	mov.w	r1, #712
@@ -25403,8 +25403,8 @@ tuv_server_set_user:
 	bl	"tuvaddri_c::by_method::add_users::<#93e2819ad231d5c1>"
 	movs	r0, #0
 	pop	{r4, r5, r7, pc}
-.Lfunc_end338ba:
-	.size	tuv_server_set_user, .Lfunc_end338ba-tuv_server_set_user
+.Lfunc_end6ae71:
+	.size	tuv_server_set_user, .Lfunc_end6ae71-tuv_server_set_user
 	.cantunwind
 	.fnend
 
