@@ -96,6 +96,24 @@ impl<M: PeerMethod> Supplicant<M> {
         }
     }
 
+    /// The same over this peer, each of whose methods has an object.
+    pub fn over(peer: PeerMachine<M>, limits: Limits, control: Control) -> Supplicant<M>
+        requires { table.has_objects M.peer_shown peer ≡ true }
+        ensures { shows M.peer_shown result
+            ≡ table.initial_supplicant limits control (now_of M.peer_shown peer) }
+    {
+        Supplicant {
+            limits,
+            control,
+            logged_off: false,
+            state: PaeState::Disconnected,
+            authorized: false,
+            start_count: 0,
+            timer: 0,
+            peer,
+        }
+    }
+
     /// The link comes up.
     #[tactic(auto, unfolding(crate::specs::Table::link_comes_up))]
     pub fn link_up_step(&mut self, frame: &mut EapolFrame) -> SupplicantStep
