@@ -126,6 +126,7 @@ PROVED(tuv_peer_method_begin, SETTINGS, __attribute__((unused)) NONCE)
 PROVED(tuv_server_method_begin, SETTINGS, __attribute__((unused)) NONCE,
        __attribute__((unused)) uint8_t id)
 PROVED(tuv_server_method_user, SETTINGS)
+PROVED(tuv_supplicant_begin, SETTINGS, __attribute__((unused)) const struct tuv_supplicant_limits *limits)
 
 /* The struct of version 2 ends behind `barred`, padded as a size_t; and a page is the
  * most that is read. */
@@ -159,7 +160,8 @@ static void try_settings(size_t size, size_t at, uint8_t octet)
 	const struct tuv_settings *settings = (const void *) &room;
 	struct tuv_settings wanted = { .size = sizeof(wanted) };
 	bool is_good = size >= FIRST && size <= MOST && !(octet && at >= sizeof(wanted));
-	uint8_t answers[7];
+	static const struct tuv_supplicant_limits limits;
+	uint8_t answers[8];
 	size_t i;
 
 	memset(&room, 0, sizeof(room));
@@ -177,10 +179,11 @@ static void try_settings(size_t size, size_t at, uint8_t octet)
 	answers[4] = tuv_peer_method_begin(NULL, settings, nonce);
 	answers[5] = tuv_server_method_begin(NULL, settings, nonce, 1);
 	answers[6] = tuv_server_method_user(NULL, settings);
-	for (i = 0; i < 7; i++)
+	answers[7] = tuv_supplicant_begin(NULL, settings, &limits);
+	for (i = 0; i < 8; i++)
 		holds(answers[i] == (is_good ? TUV_OK : TUV_BAD_SIZE),
 		      "settings are taken or refused by another size");
-	holds(calls == (is_good ? 7 : 0), "settings that are refused are handed on");
+	holds(calls == (is_good ? 8 : 0), "settings that are refused are handed on");
 	holds(!is_good || (handed.name.at && handed.other.at && handed.psk_key.at && handed.gpsk_key.at),
 	      "no octets are handed on as null");
 	set_places(&handed, NULL);

@@ -172,6 +172,8 @@ TAKES_SETTINGS(tuv_peer_begin, (END, NONCE), (end, WHOLE, nonce))
 TAKES_SETTINGS(tuv_server_begin, (END, NONCE, uint8_t first_id, uint8_t max_retrans),
 	       (end, WHOLE, nonce, first_id, max_retrans))
 TAKES_SETTINGS(tuv_backend_begin, (END, NONCE), (end, WHOLE, nonce))
+TAKES_SETTINGS(tuv_supplicant_begin, (END, const struct tuv_supplicant_limits *limits),
+	       (end, WHOLE, limits))
 TAKES_SETTINGS(tuv_server_set_user, (END), (end, WHOLE))
 TAKES_SETTINGS(tuv_peer_method_begin, (END, NONCE), (end, WHOLE, nonce))
 TAKES_SETTINGS(tuv_server_method_begin, (END, NONCE, uint8_t id),

@@ -57,6 +57,39 @@ static void write_turns(void)
 	FIELD(method_turn, decision);
 }
 
+static void write_of_802_1x(void)
+{
+	SIZE(supplicant_turn);
+	FIELD(supplicant_turn, sends);
+	FIELD(supplicant_turn, discards);
+	FIELD(supplicant_turn, misplaced);
+	FIELD(supplicant_turn, took_nonce);
+	FIELD(supplicant_turn, authorized);
+	FIELD(supplicant_turn, cause);
+	FIELD(supplicant_turn, state);
+	SIZE(port_turn);
+	FIELD(port_turn, to_station);
+	FIELD(port_turn, to_server);
+	FIELD(port_turn, discards);
+	FIELD(port_turn, misplaced);
+	FIELD(port_turn, authorized);
+	FIELD(port_turn, awaits_server);
+	FIELD(port_turn, cause);
+	FIELD(port_turn, state);
+	SIZE(supplicant_limits);
+	FIELD(supplicant_limits, start_period);
+	FIELD(supplicant_limits, max_start);
+	FIELD(supplicant_limits, auth_period);
+	FIELD(supplicant_limits, held_period);
+	FIELD(supplicant_limits, port_valid);
+	SIZE(port_limits);
+	FIELD(port_limits, quiet_period);
+	FIELD(port_limits, server_timeout);
+	FIELD(port_limits, retrans_period);
+	FIELD(port_limits, re_auth_period);
+	FIELD(port_limits, re_auth_max);
+}
+
 int main(void)
 {
 	SIZE(end);
@@ -70,8 +103,9 @@ int main(void)
 	SIZE(failure);
 	FIELD(failure, reason);
 	FIELD(failure, code);
-	printf("limits %d %d %d %d %d %d %d\n", TUV_VERSION, TUV_PACKET_MAX,
+	write_of_802_1x();
+	printf("limits %d %d %d %d %d %d %d %d\n", TUV_VERSION, TUV_PACKET_MAX,
 	       TUV_NAME_MAX, TUV_KEY_MAX, TUV_NONCE_LEN, TUV_RAND_MAX,
-	       TUV_SESSION_ID_MAX);
+	       TUV_SESSION_ID_MAX, TUV_FRAME_MAX);
 	return 0;
 }

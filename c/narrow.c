@@ -39,6 +39,22 @@ static struct tuv_failure failure_of(uint64_t octets)
 	return failure;
 }
 
+static struct tuv_supplicant_turn supplicant_turn_of(uint64_t octets)
+{
+	struct tuv_supplicant_turn turn;
+
+	memcpy(&turn, &octets, sizeof(turn));
+	return turn;
+}
+
+static struct tuv_port_turn port_turn_of(uint64_t octets)
+{
+	struct tuv_port_turn turn;
+
+	memcpy(&turn, &octets, sizeof(turn));
+	return turn;
+}
+
 #define CALL(result, by, name, words, handed)					\
 	uint64_t proved_##name words(uint64_t);					\
 	result name words(size_t)						\
@@ -48,6 +64,10 @@ static struct tuv_failure failure_of(uint64_t octets)
 #define TURN(name, words, handed) CALL(struct tuv_turn, turn_of, name, words, handed)
 #define METHOD_TURN(name, words, handed)					\
 	CALL(struct tuv_method_turn, method_turn_of, name, words, handed)
+#define SUPPLICANT(name, words, handed)						\
+	CALL(struct tuv_supplicant_turn, supplicant_turn_of, name, words, handed)
+#define PORT(name, words, handed)						\
+	CALL(struct tuv_port_turn, port_turn_of, name, words, handed)
 #define SIZE(name, words, handed) CALL(size_t, (size_t), name, words, handed)
 
 #define END(len_type) (struct tuv_end *end)
@@ -55,6 +75,12 @@ static struct tuv_failure failure_of(uint64_t octets)
 #define OCTETS(len_type) (struct tuv_end *end, const uint8_t *octets, len_type len)
 #define ASKED(len_type)								\
 	(struct tuv_end *end, const uint8_t *octets, len_type len, uint8_t next_id)
+#define NUMBER(len_type) (struct tuv_end *end, uint8_t number)
+#define FRESH_OCTETS(len_type)							\
+	(struct tuv_end *end, const uint8_t *octets, len_type len,		\
+	 const uint8_t nonce[TUV_NONCE_LEN])
+#define CODED(len_type)								\
+	(struct tuv_end *end, uint8_t code, const uint8_t *octets, len_type len)
 #define ROOM(len_type) (struct tuv_end *end, uint8_t *room, len_type len)
 #define ID_ROOM(len_type) (struct tuv_end *end, uint8_t room[TUV_SESSION_ID_MAX])
 #define NAME_ROOM(len_type)							\
@@ -81,6 +107,18 @@ TURN(tuv_pass_aaa_timeout, END, (end))
 TURN(tuv_pass_aaa_noreq, END, (end))
 METHOD_TURN(tuv_peer_method_handle, OCTETS, (end, octets, len))
 METHOD_TURN(tuv_server_method_handle, ASKED, (end, octets, len, next_id))
+SUPPLICANT(tuv_supplicant_link, NUMBER, (end, number))
+SUPPLICANT(tuv_supplicant_frame, FRESH_OCTETS, (end, octets, len, nonce))
+SUPPLICANT(tuv_supplicant_second, END, (end))
+SUPPLICANT(tuv_supplicant_logoff, NUMBER, (end, number))
+SUPPLICANT(tuv_supplicant_control, NUMBER, (end, number))
+PORT(tuv_port_link, NUMBER, (end, number))
+PORT(tuv_port_frame, OCTETS, (end, octets, len))
+PORT(tuv_port_second, END, (end))
+PORT(tuv_port_answer, CODED, (end, code, octets, len))
+PORT(tuv_port_aaa_timeout, END, (end))
+PORT(tuv_port_control, NUMBER, (end, number))
+PORT(tuv_port_reauthenticate, END, (end))
 CALL(struct tuv_failure, failure_of, tuv_end_failure, END, (end))
 SIZE(tuv_end_size, NOTHING, ())
 SIZE(tuv_end_packet, ROOM, (end, room, len))
@@ -126,6 +164,8 @@ _Static_assert(offsetof(struct tuv_report, server_rand) - REPORT_FRONT == 671, "
 _Static_assert(sizeof(struct tuv_turn) == 5, "size of a turn");
 _Static_assert(sizeof(struct tuv_method_turn) == 6, "size of a method's turn");
 _Static_assert(sizeof(struct tuv_failure) == 2, "size of a failure");
+_Static_assert(sizeof(struct tuv_supplicant_turn) == 7, "size of a supplicant's turn");
+_Static_assert(sizeof(struct tuv_port_turn) == 8, "size of a port's turn");
 
 static bool report_by(bool (*proved)(struct tuv_end *, struct wide_report *),
 		      struct tuv_end *end, struct tuv_report *report)

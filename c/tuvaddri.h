@@ -30,10 +30,10 @@ uint32_t tuv_version(void);
 enum { TUV_KIND_PSK = 47, TUV_KIND_GPSK = 51 };
 enum { TUV_SUITE_CMAC = 1, TUV_SUITE_HMAC = 2 };
 
-/* The most octets of a packet, of a name, of a key, of a nonce in a report and of
- * a Session-Id. */
+/* The most octets of a packet, of a name, of a key, of a nonce in a report, of a
+ * Session-Id and of an EAPOL frame behind the header of Ethernet. */
 enum { TUV_PACKET_MAX = 1500, TUV_NAME_MAX = 253, TUV_KEY_MAX = 64,
-       TUV_RAND_MAX = 32, TUV_SESSION_ID_MAX = 33 };
+       TUV_RAND_MAX = 32, TUV_SESSION_ID_MAX = 33, TUV_FRAME_MAX = 1504 };
 
 /* The octets of a nonce.  Each begin and each restart wants 32 fresh ones, from
  * getrandom(2) or its like, that were never used before, by this end or another,
@@ -179,8 +179,45 @@ enum {
 	TUV_CAUSE_BAD_NONCE = 27,	/* the nonce of PCHANNEL is not the awaited one */
 	TUV_CAUSE_BAD_TAG = 28,		/* a MAC or a tag is wrong */
 	TUV_CAUSE_BAD_RESULT = 29,	/* R is 0 */
-	TUV_CAUSE_EXTENDED = 30		/* the extended channel of EAP-PSK, or R = 1 */
+	TUV_CAUSE_EXTENDED = 30,	/* the extended channel of EAP-PSK, or R = 1 */
+	/* of a supplicant and of a port alone: */
+	TUV_CAUSE_FRAME_SHORT = 64,	/* fewer than four octets of a frame */
+	TUV_CAUSE_FRAME_TRUNCATED = 65,	/* its body's length is over what came */
+	TUV_CAUSE_FRAME_TYPE = 66,	/* a packet type that this end doesn't take */
+	TUV_CAUSE_FRAME_STATE = 67,	/* in this state nothing of its kind is taken */
+	TUV_CAUSE_NOT_REQUEST = 68	/* no Request begins the login, or is in a Challenge */
 };
+
+/* portControl of a supplicant, AuthControlledPortControl of a port, by the numbers of
+ * IEEE8021-PAE-MIB. */
+enum { TUV_CONTROL_FORCE_UNAUTHORIZED = 1, TUV_CONTROL_AUTO = 2,
+       TUV_CONTROL_FORCE_AUTHORIZED = 3 };
+
+/* The states of the Supplicant PAE (IEEE 802.1X-2004 clause 8.2.11) in which it stands
+ * between two calls, by the numbers of dot1xSuppPaeState. */
+enum {
+	TUV_SUPPLICANT_DISCONNECTED = 1,	/* there is no link */
+	TUV_SUPPLICANT_LOGOFF = 2,
+	TUV_SUPPLICANT_CONNECTING = 3,
+	TUV_SUPPLICANT_AUTHENTICATING = 4,
+	TUV_SUPPLICANT_AUTHENTICATED = 5,
+	TUV_SUPPLICANT_HELD = 7,
+	TUV_SUPPLICANT_S_FORCE_AUTH = 9,
+	TUV_SUPPLICANT_S_FORCE_UNAUTH = 10
+};
+
+/* The same of the Authenticator PAE (clause 8.2.4), by those of dot1xAuthPaeState. */
+enum {
+	TUV_PORT_INITIALIZE = 1,	/* there is no link */
+	TUV_PORT_AUTHENTICATING = 4,
+	TUV_PORT_AUTHENTICATED = 5,
+	TUV_PORT_HELD = 7,
+	TUV_PORT_FORCE_AUTH = 8,
+	TUV_PORT_FORCE_UNAUTH = 9
+};
+
+/* The Codes of a server's answer (RFC 2865 section 3). */
+enum { TUV_ACCESS_ACCEPT = 2, TUV_ACCESS_REJECT = 3, TUV_ACCESS_CHALLENGE = 11 };
 
 /* methodState and decision of a method alone (RFC 4137 section 4.2). */
 enum { TUV_METHOD_NONE = 0, TUV_METHOD_INIT = 1, TUV_METHOD_CONT = 2,
@@ -209,6 +246,61 @@ struct tuv_method_turn {
 	uint8_t state;		/* TUV_METHOD_.. */
 	uint8_t decision;	/* TUV_DECISION_.. */
 };
+
+/* What a call of a supplicant came to. */
+struct tuv_supplicant_turn {
+	bool sends;		/* a frame goes to the authenticator: tuv_end_packet */
+	bool discards;		/* what came is discarded, for `cause` */
+	bool misplaced;		/* it has no place at this end, and changes nothing */
+	bool took_nonce;	/* a login began with the nonce: the next call needs another */
+	bool authorized;	/* suppPortStatus: the port is open */
+	uint8_t cause;		/* TUV_CAUSE_.. of a discard, else 0 */
+	uint8_t state;		/* TUV_SUPPLICANT_.. after it; 0 if misplaced */
+};
+
+/* What a call of a port came to.  At most one of the first two is true, and what is to
+ * be sent is there by tuv_end_packet. */
+struct tuv_port_turn {
+	bool to_station;	/* a frame goes to the station */
+	bool to_server;		/* an EAP packet goes to the server, in an Access-Request */
+	bool discards;		/* what came is discarded, for `cause` */
+	bool misplaced;		/* it has no place at this end, and changes nothing */
+	bool authorized;	/* authPortStatus: the port is open */
+	bool awaits_server;	/* if false, an outstanding Access-Request is given up */
+	uint8_t cause;		/* TUV_CAUSE_.. of a discard, else 0 */
+	uint8_t state;		/* TUV_PORT_.. after it; 0 if misplaced */
+};
+
+/* The timers of a supplicant, in seconds, and its count (IEEE 802.1X-2004 clauses
+ * 8.2.11.1 and 8.2.12.1); 0 ends with the first second. */
+struct tuv_supplicant_limits {
+	uint32_t start_period;	/* startPeriod: between two EAPOL-Starts */
+	uint32_t max_start;	/* maxStart: the EAPOL-Starts that go unanswered */
+	uint32_t auth_period;	/* authPeriod: without a packet amid a login */
+	uint32_t held_period;	/* heldPeriod: after a failure */
+	/* portValid if no authenticator answers: any number but 0 opens the port without
+	 * a login, as the standard has it. */
+	uint8_t port_valid;
+};
+
+/* The times of a port, in seconds, and its bound (clauses 8.2.4.1, 8.2.8.1 and
+ * 8.2.9.1). */
+struct tuv_port_limits {
+	uint32_t quiet_period;	/* quietPeriod: in HELD */
+	uint32_t server_timeout; /* serverTimeout: for an answer of the server */
+	uint32_t retrans_period; /* after which a Request is sent again */
+	uint32_t re_auth_period; /* reAuthPeriod; 0 is reAuthEnabled false */
+	uint8_t re_auth_max;	/* reAuthMax: the rounds that don't shut the port */
+};
+
+/* The standard's defaults: { 30, 3, 30, 60, 0 } and { 60, 30, 3, 3600, 2 }. */
+#ifdef __cplusplus
+#define TUV_SUPPLICANT_LIMITS (tuv_supplicant_limits { 30, 3, 30, 60, 0 })
+#define TUV_PORT_LIMITS (tuv_port_limits { 60, 30, 3, 3600, 2 })
+#else
+#define TUV_SUPPLICANT_LIMITS ((struct tuv_supplicant_limits) { 30, 3, 30, 60, 0 })
+#define TUV_PORT_LIMITS ((struct tuv_port_limits) { 60, 30, 3, 3600, 2 })
+#endif
 
 /* What an end holds after a method that succeeded.  `size` is sizeof(struct
  * tuv_report), and no more is written: what a larger struct has behind the one that
@@ -269,7 +361,8 @@ void tuv_end_free(struct tuv_end *end);
 /* The length of the packet of the end's last turn (or of tuv_server_method_begin),
  * 0 if that turn didn't say `sends`: after a discard, a misplaced call, a begin.
  * The packet is copied to `room` if it fits, as it always does into TUV_PACKET_MAX
- * octets.  If it doesn't, nothing is copied, and it can be asked for again. */
+ * octets, or a supplicant's or a port's frame into TUV_FRAME_MAX.  If it doesn't,
+ * nothing is copied, and it can be asked for again. */
 size_t tuv_end_packet(struct tuv_end *end, uint8_t *room, size_t room_len);
 
 /* The same of the packet that the end has sent last, whatever came since; 0 if
@@ -285,7 +378,8 @@ size_t tuv_end_last_packet(struct tuv_end *end, uint8_t *room, size_t room_len);
  * were there. */
 bool tuv_end_report(struct tuv_end *end, struct tuv_report *report);
 
-/* The same of a peer or a peer's method alone, and of any other end alone. */
+/* The same of a peer, a peer's method or a supplicant alone, and of any other end
+ * alone. */
 bool tuv_peer_report(struct tuv_end *end, struct tuv_report *report);
 bool tuv_server_report(struct tuv_end *end, struct tuv_report *report);
 
@@ -398,6 +492,65 @@ struct tuv_turn tuv_pass_timeout(struct tuv_end *end);
 struct tuv_turn tuv_pass_aaa_timeout(struct tuv_end *end);
 struct tuv_turn tuv_pass_aaa_noreq(struct tuv_end *end);
 
+/* --- the supplicant of IEEE 802.1X-2004 (clauses 8.2.11 and 8.2.12), over a peer --- */
+
+/* A supplicant without a link, under TUV_CONTROL_AUTO, over a peer with these settings.
+ * tuv_end_report, tuv_end_session_id and tuv_end_failure speak of its last login; a login
+ * has succeeded if the state is AUTHENTICATED and there is a report. */
+uint8_t tuv_supplicant_begin(struct tuv_end *end, const struct tuv_settings *settings,
+			     const struct tuv_supplicant_limits *limits);
+
+/* portEnabled: the link comes up, or is lost (0), which shuts the port. */
+struct tuv_supplicant_turn tuv_supplicant_link(struct tuv_end *end, uint8_t port_enabled);
+
+/* The octets of a frame came, behind the header of Ethernet, with padding or not.  The
+ * nonce is fresh as at a begin: a Request that begins a login takes it. */
+struct tuv_supplicant_turn tuv_supplicant_frame(struct tuv_end *end, const uint8_t *octets,
+						size_t len,
+						const uint8_t nonce[TUV_NONCE_LEN]);
+
+/* A second has gone by: call it each second. */
+struct tuv_supplicant_turn tuv_supplicant_second(struct tuv_end *end);
+
+/* userLogoff: the user logs off, or on again (0). */
+struct tuv_supplicant_turn tuv_supplicant_logoff(struct tuv_end *end, uint8_t user_logoff);
+
+/* portControl, TUV_CONTROL_..; another number is misplaced. */
+struct tuv_supplicant_turn tuv_supplicant_control(struct tuv_end *end, uint8_t port_control);
+
+/* --- the port of an authenticator (clauses 8.2.4, 8.2.8, 8.2.9), over a pass-through --- */
+
+/* A port without a link, which is shut, under TUV_CONTROL_AUTO, for one station.  The
+ * numbers are those of tuv_pass_begin: its Identity Requests have the Identifier
+ * `first_id`.  It answers TUV_OK, TUV_MANY_RETRIES or TUV_NO_MEMORY. */
+uint8_t tuv_port_begin(struct tuv_end *end, uint8_t first_id, uint8_t max_retrans,
+		       const struct tuv_port_limits *limits);
+
+/* portEnabled: the link comes up, or goes down (0), which shuts the port. */
+struct tuv_port_turn tuv_port_link(struct tuv_end *end, uint8_t port_enabled);
+
+/* The octets of a frame of the station came, behind the header of Ethernet. */
+struct tuv_port_turn tuv_port_frame(struct tuv_end *end, const uint8_t *octets, size_t len);
+
+/* A second has gone by: call it each second. */
+struct tuv_port_turn tuv_port_second(struct tuv_end *end);
+
+/* The answer to the outstanding Access-Request came: its Code, TUV_ACCESS_.. (another
+ * number is misplaced), and the EAP packet that it carries, no octets if it has none.
+ * Its authenticators are good: who calls has checked them (RFC 2865 section 3, RFC 3579
+ * section 3.2).  The Code decides (RFC 3579 section 2.6.3). */
+struct tuv_port_turn tuv_port_answer(struct tuv_end *end, uint8_t code, const uint8_t *octets,
+				     size_t len);
+
+/* aaaTimeout (RFC 4137 section 7.1): no answer comes any more. */
+struct tuv_port_turn tuv_port_aaa_timeout(struct tuv_end *end);
+
+/* AuthControlledPortControl, TUV_CONTROL_..; another number is misplaced. */
+struct tuv_port_turn tuv_port_control(struct tuv_end *end, uint8_t port_control);
+
+/* reAuthenticate (clause 8.2.8): a station that is in logs in again. */
+struct tuv_port_turn tuv_port_reauthenticate(struct tuv_end *end);
+
 /* --- a method alone, for a program with machines of its own --- */
 
 /* These machines do what RFC 4137's do.  A peer's answers a Request that comes again
@@ -463,10 +616,12 @@ void tuv_clear_stack(void);
 /* Whether the processor has what the library was built for (README.md). */
 bool tuv_cpu_supported(void);
 
-/* For a log: the name of a cause, of a state, of what a begin answers and of a
- * reason; "?" for a number that has none. */
+/* For a log: the name of a cause, of a state, also of a supplicant and of a port, of
+ * what a begin answers and of a reason; "?" for a number that has none. */
 const char *tuv_cause_word(uint8_t cause);
 const char *tuv_state_word(uint8_t state);
+const char *tuv_supplicant_word(uint8_t state);
+const char *tuv_port_word(uint8_t state);
 const char *tuv_refusal_word(uint8_t answer);
 const char *tuv_failure_word(uint8_t reason);
 

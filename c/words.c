@@ -13,6 +13,10 @@ _Static_assert(offsetof(struct tuv_report, server_rand) == 679, "its octets");
 _Static_assert(sizeof(struct tuv_turn) == 5, "size of a turn");
 _Static_assert(sizeof(struct tuv_method_turn) == 6, "size of a method's turn");
 _Static_assert(sizeof(struct tuv_failure) == 2, "size of a failure");
+_Static_assert(sizeof(struct tuv_supplicant_turn) == 7, "size of a supplicant's turn");
+_Static_assert(sizeof(struct tuv_port_turn) == 8, "size of a port's turn");
+_Static_assert(sizeof(struct tuv_supplicant_limits) == 20, "size of a supplicant's limits");
+_Static_assert(sizeof(struct tuv_port_limits) == 20, "size of a port's limits");
 
 static const char *const causes[] = {
 	[TUV_CAUSE_SHORT] = "Short",
@@ -46,6 +50,11 @@ static const char *const causes[] = {
 	[TUV_CAUSE_BAD_TAG] = "BadTag",
 	[TUV_CAUSE_BAD_RESULT] = "BadResult",
 	[TUV_CAUSE_EXTENDED] = "Extended",
+	[TUV_CAUSE_FRAME_SHORT] = "FrameShort",
+	[TUV_CAUSE_FRAME_TRUNCATED] = "FrameTruncated",
+	[TUV_CAUSE_FRAME_TYPE] = "FrameType",
+	[TUV_CAUSE_FRAME_STATE] = "FrameState",
+	[TUV_CAUSE_NOT_REQUEST] = "NotRequest",
 };
 
 static const char *const states[] = {
@@ -84,6 +93,26 @@ static const char *const states[] = {
 	[TUV_STATE_TIMEOUT_FAILURE2] = "TIMEOUT_FAILURE2",
 };
 
+static const char *const supplicant_states[] = {
+	[TUV_SUPPLICANT_DISCONNECTED] = "DISCONNECTED",
+	[TUV_SUPPLICANT_LOGOFF] = "LOGOFF",
+	[TUV_SUPPLICANT_CONNECTING] = "CONNECTING",
+	[TUV_SUPPLICANT_AUTHENTICATING] = "AUTHENTICATING",
+	[TUV_SUPPLICANT_AUTHENTICATED] = "AUTHENTICATED",
+	[TUV_SUPPLICANT_HELD] = "HELD",
+	[TUV_SUPPLICANT_S_FORCE_AUTH] = "S_FORCE_AUTH",
+	[TUV_SUPPLICANT_S_FORCE_UNAUTH] = "S_FORCE_UNAUTH",
+};
+
+static const char *const port_states[] = {
+	[TUV_PORT_INITIALIZE] = "INITIALIZE",
+	[TUV_PORT_AUTHENTICATING] = "AUTHENTICATING",
+	[TUV_PORT_AUTHENTICATED] = "AUTHENTICATED",
+	[TUV_PORT_HELD] = "HELD",
+	[TUV_PORT_FORCE_AUTH] = "FORCE_AUTH",
+	[TUV_PORT_FORCE_UNAUTH] = "FORCE_UNAUTH",
+};
+
 static const char *const answers[] = {
 	[TUV_OK] = "Ok",
 	[TUV_BAD_SIZE] = "BadSize",
@@ -108,7 +137,7 @@ static const char *const reasons[] = {
 };
 
 #define WORD(words, number) \
-	((number) < sizeof(words) / sizeof((words)[0]) ? (words)[number] : "?")
+	((number) < sizeof(words) / sizeof((words)[0]) && (words)[number] ? (words)[number] : "?")
 
 const char *tuv_cause_word(uint8_t cause)
 {
@@ -118,6 +147,16 @@ const char *tuv_cause_word(uint8_t cause)
 const char *tuv_state_word(uint8_t state)
 {
 	return WORD(states, state);
+}
+
+const char *tuv_supplicant_word(uint8_t state)
+{
+	return WORD(supplicant_states, state);
+}
+
+const char *tuv_port_word(uint8_t state)
+{
+	return WORD(port_states, state);
 }
 
 const char *tuv_refusal_word(uint8_t answer)

@@ -15,10 +15,14 @@ HERE = os.path.dirname(os.path.realpath(__file__))
 sys.path.insert(0, f"{HERE}/python")
 from tuvaddri._abi import VERSION, Turn, ident, library
 
+# The causes from here on are of frames: the texts have none.
+OF_FRAMES = 64
 # The names of each group in the header, and the call that has their words.
 GROUPS = {
     "tuv_cause_word": r"TUV_CAUSE_(\w+)",
     "tuv_state_word": r"TUV_STATE_(\w+)",
+    "tuv_supplicant_word": r"TUV_SUPPLICANT_(\w+)",
+    "tuv_port_word": r"TUV_PORT_(\w+)",
     "tuv_failure_word": r"TUV_FAILURE_(\w+)",
     "tuv_refusal_word": r"TUV_(OK|BAD_SIZE|NO_METHOD|NO_SUITE|BAD_NAME|BAD_OTHER|BAD_KEY|MANY_RETRIES|NO_MEMORY|WRONG_END)",
 }
@@ -59,14 +63,14 @@ def faults():
             yield f"the header has no number for {call}"
         for number in range(256):
             word, wanted = getattr(library, call)(number).decode(), words.get(number, "?")
-            if call != "tuv_state_word":
+            if call not in ("tuv_state_word", "tuv_supplicant_word", "tuv_port_word"):
                 wanted = wanted.title().replace("_", "")
             if word != wanted:
                 yield f"{call}({number}) is {word}, and not {wanted}"
     yield from faults_of_texts()
     table = text_of("../docs/TEXTS.md").split("<!-- made: causes -->")[1].split("<!-- end of made -->")[0]
     told = set(re.findall(r"^\| (\w+) \|", table, re.M)) - {"Cause"}
-    causes = {library.tuv_cause_word(number).decode() for number in range(256)} - {"?"}
+    causes = {library.tuv_cause_word(number).decode() for number in range(OF_FRAMES)} - {"?"}
     for word in sorted(told ^ causes):
         yield f"the cause {word} is in one of the header and docs/TEXTS.md alone"
     if f"#define TUV_VERSION {VERSION}\n" not in text_of("tuvaddri.h") or library.tuv_version() != VERSION:

@@ -24,6 +24,8 @@ int main(void)
 	printf("%s\nversion %" PRIu32 "\nturn %s\n", tuv_ident, tuv_version(), text);
 	write_words("cause", tuv_cause_word);
 	write_words("state", tuv_state_word);
+	write_words("supplicant", tuv_supplicant_word);
+	write_words("port", tuv_port_word);
 	write_words("answer", tuv_refusal_word);
 	write_words("reason", tuv_failure_word);
 	return 0;

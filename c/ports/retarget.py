@@ -179,7 +179,7 @@ def narrowed(text):
         if count != 1:
             raise Unported(f"the module declares rattle_{name} {count} times")
     # (what comes in one register of 64 bits comes in two here)
-    for bits, name, given in re.findall(r"^define i(16|40|48) @(tuv_\w+)\((.*?)\) #", text, re.M):
+    for bits, name, given in re.findall(r"^define i(16|40|48|56) @(tuv_\w+)\((.*?)\) #", text, re.M):
         text = re.sub(rf"@{name}\(", f"@in_{name}(", text)
         text = text.replace(f"define i{bits} @in_{name}(", f"define internal i{bits} @in_{name}(")
         given = given.replace("noundef ", "")

@@ -1,4 +1,4 @@
-/* border.c's seven calls with settings, each with a struct of each size. */
+/* border.c's eight calls with settings, each with a struct of each size. */
 #include "frama_c.h"
 #include "__fc_builtin.h"
 #include "../border.c"
@@ -9,6 +9,7 @@ enum { FIRST_ID = 77, MAX_RETRANS = 9, ANSWERS = 9 };
 static uint8_t arena[4352];
 static uint8_t name[253], other[253], psk_key[64], gpsk_key[64], drawn[TUV_NONCE_LEN];
 static struct tuv_end handle;
+static const struct tuv_supplicant_limits limits_given;
 static const void *given;
 static int calls, is_empty;
 
@@ -60,6 +61,8 @@ PROVED(tuv_peer_begin, (END, NONCE), nonce, FIRST_ID, MAX_RETRANS)
 PROVED(tuv_server_begin, (END, NONCE, uint8_t first_id, uint8_t max_retrans),
        nonce, first_id, max_retrans)
 PROVED(tuv_backend_begin, (END, NONCE), nonce, FIRST_ID, MAX_RETRANS)
+PROVED(tuv_supplicant_begin, (END, const struct tuv_supplicant_limits *limits),
+       limits == &limits_given ? drawn : NULL, FIRST_ID, MAX_RETRANS)
 PROVED(tuv_server_set_user, (END), drawn, FIRST_ID, MAX_RETRANS)
 PROVED(tuv_peer_method_begin, (END, NONCE), nonce, FIRST_ID, MAX_RETRANS)
 PROVED(tuv_server_method_begin, (END, NONCE, uint8_t id), nonce, id, MAX_RETRANS)
@@ -74,6 +77,7 @@ static uint8_t call(int which, const void *at)
 	case 3: return tuv_server_set_user(&handle, at);
 	case 4: return tuv_peer_method_begin(&handle, at, drawn);
 	case 5: return tuv_server_method_begin(&handle, at, drawn, FIRST_ID);
+	case 6: return tuv_supplicant_begin(&handle, at, &limits_given);
 	default: return tuv_server_method_user(&handle, at);
 	}
 }
@@ -114,7 +118,7 @@ static void settings_of(size_t size, uint8_t rest)
 		memset(at + sizeof(told), rest, held - sizeof(told));
 	given = at;
 	calls = 0;
-	answer = call(Frama_C_interval(0, 6), at);
+	answer = call(Frama_C_interval(0, 7), at);
 	if (size < 80 || size > 4096 || (size > 80 && rest)) {
 		/*@ check refused: answer == TUV_BAD_SIZE; */
 		/*@ check not_called: calls == 0; */

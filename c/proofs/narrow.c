@@ -13,6 +13,7 @@ enum { OLD = 99, LEN = 1500, FIRST_ID = 77, MAX_RETRANS = 9, MOST = 0x7fffffff }
 static uint8_t name[253], other[253], psk_key[64], gpsk_key[64], drawn[TUV_NONCE_LEN];
 static uint8_t octets_given[LEN], room_given[LEN];
 static struct tuv_end handle;
+static const struct tuv_supplicant_limits limits_given;
 static int calls, is_held;
 static uint64_t word;	/* that a proved call answers */
 
@@ -80,6 +81,8 @@ BEGUN(tuv_peer_begin, (OF_SETTINGS, const uint8_t *nonce), nonce, FIRST_ID, MAX_
 BEGUN(tuv_server_begin, (OF_SETTINGS, const uint8_t *nonce, uint8_t id, uint8_t most),
       nonce, id, most)
 BEGUN(tuv_backend_begin, (OF_SETTINGS, const uint8_t *nonce), nonce, FIRST_ID, MAX_RETRANS)
+BEGUN(tuv_supplicant_begin, (OF_SETTINGS, const struct tuv_supplicant_limits *limits),
+      limits == &limits_given ? drawn : NULL, FIRST_ID, MAX_RETRANS)
 BEGUN(tuv_server_set_user, (OF_SETTINGS), drawn, FIRST_ID, MAX_RETRANS)
 BEGUN(tuv_peer_method_begin, (OF_SETTINGS, const uint8_t *nonce), nonce, FIRST_ID, MAX_RETRANS)
 BEGUN(tuv_server_method_begin, (OF_SETTINGS, const uint8_t *nonce, uint8_t id),
@@ -135,6 +138,24 @@ OF_OCTETS(tuv_peer_method_handle)
 PROVED(tuv_server_method_handle,
        (struct tuv_end *end, const uint8_t *at, uint64_t len, uint8_t next_id),
        takes_end(end); takes_octets(at, len); takes_numbers(next_id, MAX_RETRANS))
+#define OF_NUMBER(call)								\
+	PROVED(call, (struct tuv_end *end, uint8_t number),			\
+	       takes_end(end); takes_numbers(number, MAX_RETRANS))
+OF_NUMBER(tuv_supplicant_link)
+PROVED(tuv_supplicant_frame,
+       (struct tuv_end *end, const uint8_t *at, uint64_t len, const uint8_t *nonce),
+       takes_end(end); takes_octets(at, len); takes_nonce(nonce))
+OF_END(tuv_supplicant_second)
+OF_NUMBER(tuv_supplicant_logoff)
+OF_NUMBER(tuv_supplicant_control)
+OF_NUMBER(tuv_port_link)
+OF_OCTETS(tuv_port_frame)
+OF_END(tuv_port_second)
+PROVED(tuv_port_answer, (struct tuv_end *end, uint8_t code, const uint8_t *at, uint64_t len),
+       takes_end(end); takes_numbers(code, MAX_RETRANS); takes_octets(at, len))
+OF_END(tuv_port_aaa_timeout)
+OF_NUMBER(tuv_port_control)
+OF_END(tuv_port_reauthenticate)
 OF_END(tuv_end_failure)
 PROVED(tuv_end_size, (void), calls++)
 OF_ROOM(tuv_end_packet)
@@ -213,7 +234,8 @@ static void settings(void)
 	tuv_peer_method_begin(&handle, &told, drawn);
 	tuv_server_method_begin(&handle, &told, drawn, FIRST_ID);
 	tuv_server_method_user(&handle, &told);
-	/*@ check begun: calls == 7; */
+	tuv_supplicant_begin(&handle, &told, &limits_given);
+	/*@ check begun: calls == 8; */
 }
 
 static void is_turn(struct tuv_turn turn)
@@ -252,6 +274,47 @@ static void method_turns(void)
 	failure = tuv_end_failure(&handle);
 	/*@ check failure_told: failure.reason == 6 && failure.code == 3; */
 	/*@ check method_turned: calls == 3; */
+}
+
+static void is_supplicant_turn(struct tuv_supplicant_turn turn)
+{
+	/*@ check supplicant_told: turn.sends == 1 && turn.discards == 0 && turn.misplaced == 1; */
+	/*@ check supplicant_port: turn.took_nonce == 0 && turn.authorized == 1; */
+	/*@ check supplicant_words: turn.cause == 4 && turn.state == 5; */
+}
+
+static void supplicant_turns(void)
+{
+	word = 0x05040100010001;
+	calls = 0;
+	is_supplicant_turn(tuv_supplicant_link(&handle, FIRST_ID));
+	is_supplicant_turn(tuv_supplicant_frame(&handle, octets_given, LEN, drawn));
+	is_supplicant_turn(tuv_supplicant_second(&handle));
+	is_supplicant_turn(tuv_supplicant_logoff(&handle, FIRST_ID));
+	is_supplicant_turn(tuv_supplicant_control(&handle, FIRST_ID));
+	/*@ check supplicant_turned: calls == 5; */
+}
+
+static void is_port_turn(struct tuv_port_turn turn)
+{
+	/*@ check port_sends: turn.to_station == 1 && turn.to_server == 0; */
+	/*@ check port_told: turn.discards == 1 && turn.misplaced == 0; */
+	/*@ check port_port: turn.authorized == 1 && turn.awaits_server == 0; */
+	/*@ check port_words: turn.cause == 4 && turn.state == 5; */
+}
+
+static void port_turns(void)
+{
+	word = 0x0504000100010001;
+	calls = 0;
+	is_port_turn(tuv_port_link(&handle, FIRST_ID));
+	is_port_turn(tuv_port_frame(&handle, octets_given, LEN));
+	is_port_turn(tuv_port_second(&handle));
+	is_port_turn(tuv_port_answer(&handle, FIRST_ID, octets_given, LEN));
+	is_port_turn(tuv_port_aaa_timeout(&handle));
+	is_port_turn(tuv_port_control(&handle, FIRST_ID));
+	is_port_turn(tuv_port_reauthenticate(&handle));
+	/*@ check port_turned: calls == 7; */
 }
 
 static void is_size(size_t size)
@@ -325,6 +388,8 @@ int main(void)
 	settings();
 	turns();
 	method_turns();
+	supplicant_turns();
+	port_turns();
 	sizes();
 	/*@ loop unroll 2; */
 	for (is_held = 0; is_held < 2; is_held++) {

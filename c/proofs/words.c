@@ -51,6 +51,8 @@ int main(void)
 	for (int n = 0; n < 256; n++) {
 		is_text(tuv_cause_word((uint8_t) n), 15);
 		is_text(tuv_state_word((uint8_t) n), 22);
+		is_text(tuv_supplicant_word((uint8_t) n), 22);
+		is_text(tuv_port_word((uint8_t) n), 22);
 		is_text(tuv_refusal_word((uint8_t) n), 11);
 		is_text(tuv_failure_word((uint8_t) n), 11);
 	}
@@ -59,7 +61,7 @@ int main(void)
 	for (int state = 0; state <= STATES; state++) {
 		text_of(false, false, true, any(255), number(state, STATES));
 		text_of(false, false, false, any(255), number(state, STATES));
-		/*@ loop unroll 40; */
+		/*@ loop unroll 80; */
 		for (int cause = 0; cause <= CAUSES; cause++)
 			text_of(false, true, any(1), number(cause, CAUSES), number(state, STATES));
 	}

@@ -1,6 +1,7 @@
 """EAP logins by shared keys: the ends of Tuvaddri's library for C.
 
-Peer, Server, Backend and PassThrough are the ends of RFC 4137, Method is one method alone. Each is a context manager: at
+Peer, Server, Backend and PassThrough are the ends of RFC 4137, Supplicant and Port those of IEEE 802.1X-2004 over them, Method is
+one method alone. Each is a context manager: at
 the end of the block the end is closed, and its block and the stack are cleared. README.md beside this package shows a
 login; tuvaddri.h says what each call does.
 
@@ -22,12 +23,15 @@ from typing import Any, ContextManager, Dict, Iterator, List, NamedTuple, NoRetu
 from . import _abi
 from ._abi import library as _library
 
-__all__ = ["PSK", "GPSK", "CMAC", "HMAC", "Backend", "Closed", "Error", "Failure", "Method", "MethodTurn", "Misplaced",
-           "PassThrough", "Peer", "Refused", "Report", "Server", "Turn", "Unsupported", "ident", "request_name",
-           "response_name"]
+__all__ = ["PSK", "GPSK", "CMAC", "HMAC", "AUTO", "FORCE_AUTHORIZED", "FORCE_UNAUTHORIZED", "ACCESS_ACCEPT", "ACCESS_CHALLENGE",
+           "ACCESS_REJECT", "Backend", "Closed", "Error", "Failure", "Method", "MethodTurn", "Misplaced", "PassThrough", "Peer",
+           "Port", "PortTurn", "Refused", "Report", "Server", "Supplicant", "SupplicantTurn", "Turn", "Unsupported", "ident",
+           "request_name", "response_name"]
 
 PSK, GPSK = 47, 51  # the methods
 CMAC, HMAC = 1, 2  # the suites of EAP-GPSK
+FORCE_UNAUTHORIZED, AUTO, FORCE_AUTHORIZED = 1, 2, 3  # portControl
+ACCESS_ACCEPT, ACCESS_REJECT, ACCESS_CHALLENGE = 2, 3, 11  # the Codes of a RADIUS server's answer
 
 Octets = Union[bytes, bytearray, memoryview]
 Name = Union[str, Octets]
@@ -91,6 +95,27 @@ class MethodTurn(NamedTuple):
     cause: Optional[str]
     state: str
     decision: str
+
+
+class SupplicantTurn(NamedTuple):
+    """What a call of a supplicant came to."""
+
+    frame: Optional[bytes]  # to be sent to the authenticator, behind the header of Ethernet
+    cause: Optional[str]  # why what came is discarded, as BadTag
+    state: str  # of the Supplicant PAE, as AUTHENTICATED
+    authorized: bool  # the port is open
+    took_nonce: bool  # a login began with the nonce
+
+
+class PortTurn(NamedTuple):
+    """What a call of a port came to."""
+
+    frame: Optional[bytes]  # to be sent to the station, behind the header of Ethernet
+    packet: Optional[bytes]  # to be sent to the server, in an Access-Request
+    cause: Optional[str]
+    state: str  # of the Authenticator PAE, as AUTHENTICATED
+    authorized: bool  # the port is open
+    awaits_server: bool  # if false, an outstanding Access-Request is given up
 
 
 class Failure(NamedTuple):
@@ -157,6 +182,14 @@ def _number(named: str, value: int) -> int:
     if not 0 <= value <= 255:
         raise ValueError(f"{named} is 0 to 255, and not {value}")
     return value
+
+
+def _seconds(**named: int) -> List[int]:
+    """Times and counts, as a struct of limits takes them."""
+    for name, value in named.items():
+        if not 0 <= value < 1 << 32:
+            raise ValueError(f"{name} is 0 to 4294967295, and not {value}")
+    return list(named.values())
 
 
 def _room(octets: Octets) -> Any:
@@ -255,8 +288,8 @@ class _End(_Cleared):
         return turn, packet, _library.tuv_cause_word(turn.cause).decode() if turn.discards else None
 
     def _packet(self, name: str) -> Optional[bytes]:
-        room = (ctypes.c_uint8 * _abi.PACKET_MAX)()
-        length = self._call(name, room, _abi.PACKET_MAX)
+        room = (ctypes.c_uint8 * _abi.FRAME_MAX)()
+        length = self._call(name, room, _abi.FRAME_MAX)
         return bytes(room[:length]) if length else None
 
     @property
@@ -395,6 +428,91 @@ class PassThrough(_End):
     def aaa_noreq(self) -> Turn:
         """In AAA_IDLE: the backend has no Request to send."""
         return self._turn("pass_aaa_noreq")
+
+
+class Supplicant(_End):
+    """The supplicant of IEEE 802.1X-2004 (clauses 8.2.11 and 8.2.12) over a peer, without a link, under AUTO. The times are in
+    seconds."""
+
+    def __init__(self, name: Name, server: Name = b"", *, psk_key: Octets = b"", gpsk_key: Octets = b"", methods: Sequence[int] = (),
+                 suites: Sequence[int] = (), expanded: bool = False, start_period: int = 30, max_start: int = 3,
+                 auth_period: int = 30, held_period: int = 60, port_valid: bool = False) -> None:
+        times = _seconds(start_period=start_period, max_start=max_start, auth_period=auth_period, held_period=held_period)
+        limits = _abi.SupplicantLimits(*times, bool(port_valid))
+        super().__init__("supplicant_begin", _told(name, server, psk_key, gpsk_key, methods, suites, expanded), limits)
+
+    def _step(self, name: str, *words: Any) -> SupplicantTurn:
+        with self._lock:
+            turn, frame, cause = self._taken(name, *words)
+            self._state = _library.tuv_supplicant_word(turn.state).decode()
+            return SupplicantTurn(frame, cause, self._state, turn.authorized, turn.took_nonce)
+
+    def link(self, port_enabled: bool) -> SupplicantTurn:
+        """The link comes up, or is lost."""
+        return self._step("supplicant_link", bool(port_enabled))
+
+    def frame(self, octets: Octets, nonce: Optional[Octets] = None) -> SupplicantTurn:
+        """The octets of a frame come, behind the header of Ethernet."""
+        return self._step("supplicant_frame", *_sized(octets), _nonce(nonce))
+
+    def second(self) -> SupplicantTurn:
+        """A second has gone by."""
+        return self._step("supplicant_second")
+
+    def logoff(self, user_logoff: bool) -> SupplicantTurn:
+        """The user logs off, or on again."""
+        return self._step("supplicant_logoff", bool(user_logoff))
+
+    def control(self, port_control: int) -> SupplicantTurn:
+        """AUTO, FORCE_AUTHORIZED or FORCE_UNAUTHORIZED."""
+        return self._step("supplicant_control", _number("port_control", port_control))
+
+
+class Port(_End):
+    """The port of an authenticator of IEEE 802.1X-2004 (clauses 8.2.4, 8.2.8 and 8.2.9) over a pass-through, for one station,
+    without a link, under AUTO. The times are in seconds."""
+
+    def __init__(self, *, first_id: int = 0, max_retrans: int = 4, quiet_period: int = 60, server_timeout: int = 30,
+                 retrans_period: int = 3, re_auth_period: int = 3600, re_auth_max: int = 2) -> None:
+        times = _seconds(quiet_period=quiet_period, server_timeout=server_timeout, retrans_period=retrans_period,
+                         re_auth_period=re_auth_period)
+        limits = _abi.PortLimits(*times, _number("re_auth_max", re_auth_max))
+        super().__init__("port_begin", None, _number("first_id", first_id), _number("max_retrans", max_retrans), limits)
+
+    def _step(self, name: str, *words: Any) -> PortTurn:
+        with self._lock:
+            turn, sent, cause = self._taken(name, *words)
+            self._state = _library.tuv_port_word(turn.state).decode()
+            frame, packet = (sent, None) if turn.to_station else (None, sent)
+            return PortTurn(frame, packet, cause, self._state, turn.authorized, turn.awaits_server)
+
+    def link(self, port_enabled: bool) -> PortTurn:
+        """The link comes up, or goes down."""
+        return self._step("port_link", bool(port_enabled))
+
+    def frame(self, octets: Octets) -> PortTurn:
+        """The octets of a frame of the station come, behind the header of Ethernet."""
+        return self._step("port_frame", *_sized(octets))
+
+    def second(self) -> PortTurn:
+        """A second has gone by."""
+        return self._step("port_second")
+
+    def answer(self, code: int, octets: Octets) -> PortTurn:
+        """The server's answer comes, whose authenticators are good: ACCESS_.., and the EAP packet that it carries."""
+        return self._step("port_answer", _number("code", code), *_sized(octets))
+
+    def aaa_timeout(self) -> PortTurn:
+        """No answer of the server comes any more."""
+        return self._step("port_aaa_timeout")
+
+    def control(self, port_control: int) -> PortTurn:
+        """AUTO, FORCE_AUTHORIZED or FORCE_UNAUTHORIZED."""
+        return self._step("port_control", _number("port_control", port_control))
+
+    def reauthenticate(self) -> PortTurn:
+        """A station that is in logs in again."""
+        return self._step("port_reauthenticate")
 
 
 class Method(_End):

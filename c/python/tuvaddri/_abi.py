@@ -10,7 +10,7 @@ from pathlib import Path
 from typing import Any, List
 
 VERSION = 2
-PACKET_MAX, NAME_MAX, KEY_MAX, NONCE_LEN, RAND_MAX, SESSION_ID_MAX = 1500, 253, 64, 32, 32, 33
+PACKET_MAX, NAME_MAX, KEY_MAX, NONCE_LEN, RAND_MAX, SESSION_ID_MAX, FRAME_MAX = 1500, 253, 64, 32, 32, 33, 1504
 NAME = f"libtuvaddri.so.{VERSION}"
 
 
@@ -54,6 +54,29 @@ class Report(Structure):
     ]
 
 
+class SupplicantTurn(Structure):
+    _fields_ = [*_fields(c_bool, "sends discards misplaced took_nonce authorized"), *_fields(c_uint8, "cause state")]
+
+
+class PortTurn(Structure):
+    _fields_ = [
+        *_fields(c_bool, "to_station to_server discards misplaced authorized awaits_server"),
+        *_fields(c_uint8, "cause state"),
+    ]
+
+    @property
+    def sends(self) -> bool:
+        return bool(self.to_station or self.to_server)
+
+
+class SupplicantLimits(Structure):
+    _fields_ = [*_fields(c_uint32, "start_period max_start auth_period held_period"), ("port_valid", c_uint8)]
+
+
+class PortLimits(Structure):
+    _fields_ = [*_fields(c_uint32, "quiet_period server_timeout retrans_period re_auth_period"), ("re_auth_max", c_uint8)]
+
+
 class Failure(Structure):
     _fields_ = _fields(c_uint8, "reason code")
 
@@ -73,6 +96,15 @@ _CALLS: List[Any] = [
     (c_uint8, [_END, _TOLD, _ROOM, c_uint8], "server_method_begin"),
     (c_uint8, [_END, c_uint8, c_uint8], "pass_begin"),
     (c_uint8, [_END, _TOLD], "server_set_user server_method_user"),
+    (c_uint8, [_END, _TOLD, POINTER(SupplicantLimits)], "supplicant_begin"),
+    (SupplicantTurn, [_END, *_PACKET, _ROOM], "supplicant_frame"),
+    (SupplicantTurn, [_END, c_uint8], "supplicant_link supplicant_logoff supplicant_control"),
+    (SupplicantTurn, [_END], "supplicant_second"),
+    (c_uint8, [_END, c_uint8, c_uint8, POINTER(PortLimits)], "port_begin"),
+    (PortTurn, [_END, *_PACKET], "port_frame"),
+    (PortTurn, [_END, c_uint8, *_PACKET], "port_answer"),
+    (PortTurn, [_END, c_uint8], "port_link port_control"),
+    (PortTurn, [_END], "port_second port_aaa_timeout port_reauthenticate"),
     (c_size_t, [_END, *_PACKET], "end_packet end_last_packet"),
     (c_size_t, [_END, _ROOM], "end_session_id end_session_id_wpa"),
     (c_size_t, [*_PACKET, _ROOM], "request_name response_name"),
@@ -83,7 +115,7 @@ _CALLS: List[Any] = [
     (Failure, [_END], "end_failure"),
     (None, [_END], "end_close end_free"),
     (None, [], "clear_stack"),
-    (c_char_p, [c_uint8], "cause_word state_word refusal_word failure_word"),
+    (c_char_p, [c_uint8], "cause_word state_word supplicant_word port_word refusal_word failure_word"),
     (c_uint32, [], "version"),
 ]
 

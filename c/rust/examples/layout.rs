@@ -25,6 +25,10 @@ fn main() {
         "turn" Turn: sends discards misplaced cause state;
         "method_turn" MethodTurn: sends discards misplaced cause state decision;
         "failure" Failure: reason code;
+        "supplicant_turn" SupplicantTurn: sends discards misplaced took_nonce authorized cause state;
+        "port_turn" PortTurn: to_station to_server discards misplaced authorized awaits_server cause state;
+        "supplicant_limits" SupplicantLimits: start_period max_start auth_period held_period port_valid;
+        "port_limits" PortLimits: quiet_period server_timeout retrans_period re_auth_period re_auth_max;
     }
-    println!("limits {VERSION} {PACKET_MAX} {NAME_MAX} {KEY_MAX} {NONCE_LEN} {RAND_MAX} {SESSION_ID_MAX}");
+    println!("limits {VERSION} {PACKET_MAX} {NAME_MAX} {KEY_MAX} {NONCE_LEN} {RAND_MAX} {SESSION_ID_MAX} {FRAME_MAX}");
 }

@@ -82,6 +82,17 @@ numbers!(
     FAILURE2 = 31, TIMEOUT_FAILURE2 = 32
 );
 numbers!(
+    /// A state of the Supplicant PAE (IEEE 802.1X-2004 clause 8.2.11).
+    SupplicantState by tuv_supplicant_word:
+    DISCONNECTED = 1, LOGOFF = 2, CONNECTING = 3, AUTHENTICATING = 4, AUTHENTICATED = 5, HELD = 7, S_FORCE_AUTH = 9,
+    S_FORCE_UNAUTH = 10
+);
+numbers!(
+    /// A state of the Authenticator PAE (IEEE 802.1X-2004 clause 8.2.4).
+    PortState by tuv_port_word:
+    INITIALIZE = 1, AUTHENTICATING = 4, AUTHENTICATED = 5, HELD = 7, FORCE_AUTH = 8, FORCE_UNAUTH = 9
+);
+numbers!(
     /// Why a packet is discarded.
     Cause by tuv_cause_word: BAD_TAG = 28
 );
@@ -234,6 +245,100 @@ pub struct Turn {
     pub cause: Option<Cause>,
     /// The state after it.
     pub state: State,
+}
+
+/// portControl of a supplicant, AuthControlledPortControl of a port.
+#[derive(Clone, Copy, PartialEq, Eq, Debug)]
+#[allow(missing_docs)]
+#[repr(u8)]
+pub enum Control {
+    ForceUnauthorized = 1,
+    Auto = 2,
+    ForceAuthorized = 3,
+}
+
+/// The Code of a RADIUS server's answer (RFC 2865 section 3).
+#[derive(Clone, Copy, PartialEq, Eq, Debug)]
+#[allow(missing_docs)]
+#[repr(u8)]
+pub enum Code {
+    AccessAccept = 2,
+    AccessReject = 3,
+    AccessChallenge = 11,
+}
+
+/// The timers of a supplicant, in seconds, and its count; the standard's defaults are [`SupplicantLimits::default`].
+#[derive(Clone, Copy, PartialEq, Eq, Debug)]
+pub struct SupplicantLimits {
+    /// Between two EAPOL-Starts.
+    pub start_period: u32,
+    /// The EAPOL-Starts that go unanswered.
+    pub max_start: u32,
+    /// Without a packet amid a login.
+    pub auth_period: u32,
+    /// After a failure.
+    pub held_period: u32,
+    /// Whether the port opens **without a login** if no authenticator answers.
+    pub port_valid: bool,
+}
+
+impl Default for SupplicantLimits {
+    fn default() -> SupplicantLimits {
+        SupplicantLimits { start_period: 30, max_start: 3, auth_period: 30, held_period: 60, port_valid: false }
+    }
+}
+
+/// The times of a port, in seconds, and its bound; the standard's defaults are [`PortLimits::default`].
+#[derive(Clone, Copy, PartialEq, Eq, Debug)]
+pub struct PortLimits {
+    /// In HELD.
+    pub quiet_period: u32,
+    /// For an answer of the server.
+    pub server_timeout: u32,
+    /// After which a Request is sent again.
+    pub retrans_period: u32,
+    /// After which a station logs in again; 0: never.
+    pub re_auth_period: u32,
+    /// The rounds of a login that don't shut the port.
+    pub re_auth_max: u8,
+}
+
+impl Default for PortLimits {
+    fn default() -> PortLimits {
+        PortLimits { quiet_period: 60, server_timeout: 30, retrans_period: 3, re_auth_period: 3600, re_auth_max: 2 }
+    }
+}
+
+/// What a call of a supplicant came to.
+#[derive(Clone, PartialEq, Eq, Debug)]
+pub struct SupplicantTurn {
+    /// What is to be sent to the authenticator, behind the header of Ethernet.
+    pub frame: Option<Vec<u8>>,
+    /// Why what came is discarded.
+    pub cause: Option<Cause>,
+    /// The state after it.
+    pub state: SupplicantState,
+    /// Whether the port is open.
+    pub authorized: bool,
+    /// Whether a login began with the nonce.
+    pub took_nonce: bool,
+}
+
+/// What a call of a port came to.
+#[derive(Clone, PartialEq, Eq, Debug)]
+pub struct PortTurn {
+    /// What is to be sent to the station, behind the header of Ethernet.
+    pub frame: Option<Vec<u8>>,
+    /// What is to be sent to the server, in an Access-Request.
+    pub packet: Option<Vec<u8>>,
+    /// Why what came is discarded.
+    pub cause: Option<Cause>,
+    /// The state after it.
+    pub state: PortState,
+    /// Whether the port is open.
+    pub authorized: bool,
+    /// If false, an outstanding Access-Request is given up.
+    pub awaits_server: bool,
 }
 
 /// methodState of RFC 4137 section 4.2.
@@ -395,7 +500,7 @@ impl End {
     }
 
     fn packet(&mut self, of: Room) -> Option<Vec<u8>> {
-        let mut room = [0; sys::PACKET_MAX];
+        let mut room = [0; sys::FRAME_MAX];
         // SAFETY: the room is there, and has this length.
         let len = self.ask(|end| unsafe { of(end, room.as_mut_ptr(), room.len()) });
         room.get(..len).filter(|it| !it.is_empty()).map(<[u8]>::to_vec)
@@ -447,6 +552,19 @@ impl End {
             _ => Decision::Fail,
         };
         Ok(MethodTurn { packet, cause, state, decision })
+    }
+
+    fn supplicant_told(&mut self, turn: sys::SupplicantTurn) -> Result<SupplicantTurn, Error> {
+        let (frame, cause) = self.came_to(turn.sends, turn.discards, turn.misplaced, turn.cause)?;
+        let state = SupplicantState(turn.state);
+        Ok(SupplicantTurn { frame, cause, state, authorized: turn.authorized, took_nonce: turn.took_nonce })
+    }
+
+    fn port_told(&mut self, turn: sys::PortTurn) -> Result<PortTurn, Error> {
+        let (sent, cause) = self.came_to(turn.to_station || turn.to_server, turn.discards, turn.misplaced, turn.cause)?;
+        let (frame, packet) = if turn.to_station { (sent, None) } else { (None, sent) };
+        let state = PortState(turn.state);
+        Ok(PortTurn { frame, packet, cause, state, authorized: turn.authorized, awaits_server: turn.awaits_server })
     }
 
     fn user(&mut self, give: unsafe extern "C" fn(*mut sys::End, *const sys::Settings) -> u8, told: &Settings) -> Result<(), Error> {
@@ -570,13 +688,19 @@ pub struct Backend(End);
 /// The pass-through (section 7). What its calls send goes to the peer, but after `from_peer` to the backend.
 pub struct PassThrough(End);
 
+/// The supplicant of IEEE 802.1X-2004 (clauses 8.2.11 and 8.2.12), over a peer.
+pub struct Supplicant(End);
+
+/// The port of an authenticator of IEEE 802.1X-2004 (clauses 8.2.4, 8.2.8 and 8.2.9), over a pass-through, for one station.
+pub struct Port(End);
+
 /// A peer's method alone, for a program with machines of its own.
 pub struct PeerMethod(End);
 
 /// A server's method alone.
 pub struct ServerMethod(End);
 
-an_end!(Peer, Server, Backend, PassThrough, PeerMethod, ServerMethod);
+an_end!(Peer, Server, Backend, PassThrough, Supplicant, Port, PeerMethod, ServerMethod);
 a_machine! {
     Peer: tuv_peer_deliver, tuv_peer_restart;
     Server: tuv_server_deliver, tuv_server_restart;
@@ -657,6 +781,109 @@ impl PassThrough {
     /// Octets come from the backend.
     pub fn from_backend(&mut self, octets: &[u8]) -> Result<Turn, Error> {
         self.0.hear(sys::tuv_pass_from_backend, octets)
+    }
+}
+
+impl Supplicant {
+    /// Begins without a link, under [`Control::Auto`].
+    pub fn begin(told: &Settings, limits: SupplicantLimits) -> Result<Supplicant, Error> {
+        let SupplicantLimits { start_period, max_start, auth_period, held_period, port_valid } = limits;
+        let limits = sys::SupplicantLimits { start_period, max_start, auth_period, held_period, port_valid: port_valid.into() };
+        // SAFETY: as in by_settings; the limits are lent.
+        End::new()?.begun(|end| unsafe { sys::tuv_supplicant_begin(end, &told.told(), &limits) }).map(Supplicant)
+    }
+
+    /// The link comes up, or is lost.
+    pub fn link(&mut self, port_enabled: bool) -> Result<SupplicantTurn, Error> {
+        self.by_number(sys::tuv_supplicant_link, port_enabled.into())
+    }
+
+    /// The octets of a frame come, behind the header of Ethernet. A Request that begins a login takes the nonce.
+    pub fn frame(&mut self, octets: &[u8], nonce: Nonce) -> Result<SupplicantTurn, Error> {
+        // SAFETY: the octets are lent, the nonce has 32.
+        let frame = |end| unsafe { sys::tuv_supplicant_frame(end, octets.as_ptr(), octets.len(), nonce.0.as_ptr()) };
+        let turn = self.0.ask(frame);
+        self.0.supplicant_told(turn)
+    }
+
+    /// A second has gone by.
+    pub fn second(&mut self) -> Result<SupplicantTurn, Error> {
+        // SAFETY: the end is one of tuv_end_new.
+        let turn = self.0.ask(|end| unsafe { sys::tuv_supplicant_second(end) });
+        self.0.supplicant_told(turn)
+    }
+
+    /// The user logs off, or on again.
+    pub fn logoff(&mut self, user_logoff: bool) -> Result<SupplicantTurn, Error> {
+        self.by_number(sys::tuv_supplicant_logoff, user_logoff.into())
+    }
+
+    /// The management sets portControl.
+    pub fn control(&mut self, port_control: Control) -> Result<SupplicantTurn, Error> {
+        self.by_number(sys::tuv_supplicant_control, port_control as u8)
+    }
+
+    fn by_number(&mut self, call: unsafe extern "C" fn(*mut sys::End, u8) -> sys::SupplicantTurn, number: u8) -> Result<SupplicantTurn, Error> {
+        // SAFETY: the end is one of tuv_end_new.
+        let turn = self.0.ask(|end| unsafe { call(end, number) });
+        self.0.supplicant_told(turn)
+    }
+}
+
+impl Port {
+    /// Begins without a link, under [`Control::Auto`]; the numbers are those of [`PassThrough::begin`].
+    pub fn begin(first_id: u8, max_retrans: u8, limits: PortLimits) -> Result<Port, Error> {
+        let PortLimits { quiet_period, server_timeout, retrans_period, re_auth_period, re_auth_max } = limits;
+        let limits = sys::PortLimits { quiet_period, server_timeout, retrans_period, re_auth_period, re_auth_max };
+        // SAFETY: the end is new, the limits are lent.
+        End::new()?.begun(|end| unsafe { sys::tuv_port_begin(end, first_id, max_retrans, &limits) }).map(Port)
+    }
+
+    /// The link comes up, or goes down.
+    pub fn link(&mut self, port_enabled: bool) -> Result<PortTurn, Error> {
+        // SAFETY: the end is one of tuv_end_new.
+        self.by(|end| unsafe { sys::tuv_port_link(end, port_enabled.into()) })
+    }
+
+    /// The octets of a frame of the station come, behind the header of Ethernet.
+    pub fn frame(&mut self, octets: &[u8]) -> Result<PortTurn, Error> {
+        // SAFETY: the octets are lent.
+        self.by(|end| unsafe { sys::tuv_port_frame(end, octets.as_ptr(), octets.len()) })
+    }
+
+    /// A second has gone by.
+    pub fn second(&mut self) -> Result<PortTurn, Error> {
+        // SAFETY: the end is one of tuv_end_new.
+        self.by(|end| unsafe { sys::tuv_port_second(end) })
+    }
+
+    /// The server's answer comes, whose authenticators are good, and the EAP packet that it carries.
+    pub fn answer(&mut self, code: Code, octets: &[u8]) -> Result<PortTurn, Error> {
+        // SAFETY: the octets are lent.
+        self.by(|end| unsafe { sys::tuv_port_answer(end, code as u8, octets.as_ptr(), octets.len()) })
+    }
+
+    /// No answer of the server comes any more.
+    pub fn aaa_timeout(&mut self) -> Result<PortTurn, Error> {
+        // SAFETY: the end is one of tuv_end_new.
+        self.by(|end| unsafe { sys::tuv_port_aaa_timeout(end) })
+    }
+
+    /// The management sets AuthControlledPortControl.
+    pub fn control(&mut self, port_control: Control) -> Result<PortTurn, Error> {
+        // SAFETY: the end is one of tuv_end_new.
+        self.by(|end| unsafe { sys::tuv_port_control(end, port_control as u8) })
+    }
+
+    /// A station that is in logs in again.
+    pub fn reauthenticate(&mut self) -> Result<PortTurn, Error> {
+        // SAFETY: the end is one of tuv_end_new.
+        self.by(|end| unsafe { sys::tuv_port_reauthenticate(end) })
+    }
+
+    fn by(&mut self, call: impl FnOnce(*mut sys::End) -> sys::PortTurn) -> Result<PortTurn, Error> {
+        let turn = self.0.ask(call);
+        self.0.port_told(turn)
     }
 }
 

@@ -9,6 +9,7 @@ pub const KEY_MAX: usize = 64;
 pub const NONCE_LEN: usize = 32;
 pub const RAND_MAX: usize = 32;
 pub const SESSION_ID_MAX: usize = 33;
+pub const FRAME_MAX: usize = 1504;
 
 #[repr(C)]
 pub struct End {
@@ -79,6 +80,51 @@ pub struct Failure {
     pub code: u8,
 }
 
+#[repr(C)]
+#[derive(Clone, Copy)]
+pub struct SupplicantTurn {
+    pub sends: bool,
+    pub discards: bool,
+    pub misplaced: bool,
+    pub took_nonce: bool,
+    pub authorized: bool,
+    pub cause: u8,
+    pub state: u8,
+}
+
+#[repr(C)]
+#[derive(Clone, Copy)]
+pub struct PortTurn {
+    pub to_station: bool,
+    pub to_server: bool,
+    pub discards: bool,
+    pub misplaced: bool,
+    pub authorized: bool,
+    pub awaits_server: bool,
+    pub cause: u8,
+    pub state: u8,
+}
+
+#[repr(C)]
+#[derive(Clone, Copy)]
+pub struct SupplicantLimits {
+    pub start_period: u32,
+    pub max_start: u32,
+    pub auth_period: u32,
+    pub held_period: u32,
+    pub port_valid: u8,
+}
+
+#[repr(C)]
+#[derive(Clone, Copy)]
+pub struct PortLimits {
+    pub quiet_period: u32,
+    pub server_timeout: u32,
+    pub retrans_period: u32,
+    pub re_auth_period: u32,
+    pub re_auth_max: u8,
+}
+
 extern "C" {
     pub fn tuv_version() -> u32;
     pub fn tuv_cpu_supported() -> bool;
@@ -112,6 +158,20 @@ extern "C" {
     pub fn tuv_pass_timeout(end: *mut End) -> Turn;
     pub fn tuv_pass_aaa_timeout(end: *mut End) -> Turn;
     pub fn tuv_pass_aaa_noreq(end: *mut End) -> Turn;
+    pub fn tuv_supplicant_begin(end: *mut End, told: *const Settings, limits: *const SupplicantLimits) -> u8;
+    pub fn tuv_supplicant_link(end: *mut End, port_enabled: u8) -> SupplicantTurn;
+    pub fn tuv_supplicant_frame(end: *mut End, octets: *const u8, len: usize, nonce: *const u8) -> SupplicantTurn;
+    pub fn tuv_supplicant_second(end: *mut End) -> SupplicantTurn;
+    pub fn tuv_supplicant_logoff(end: *mut End, user_logoff: u8) -> SupplicantTurn;
+    pub fn tuv_supplicant_control(end: *mut End, port_control: u8) -> SupplicantTurn;
+    pub fn tuv_port_begin(end: *mut End, first_id: u8, retrans: u8, limits: *const PortLimits) -> u8;
+    pub fn tuv_port_link(end: *mut End, port_enabled: u8) -> PortTurn;
+    pub fn tuv_port_frame(end: *mut End, octets: *const u8, len: usize) -> PortTurn;
+    pub fn tuv_port_second(end: *mut End) -> PortTurn;
+    pub fn tuv_port_answer(end: *mut End, code: u8, octets: *const u8, len: usize) -> PortTurn;
+    pub fn tuv_port_aaa_timeout(end: *mut End) -> PortTurn;
+    pub fn tuv_port_control(end: *mut End, port_control: u8) -> PortTurn;
+    pub fn tuv_port_reauthenticate(end: *mut End) -> PortTurn;
     pub fn tuv_peer_method_begin(end: *mut End, told: *const Settings, nonce: *const u8) -> u8;
     pub fn tuv_peer_method_handle(end: *mut End, octets: *const u8, len: usize) -> MethodTurn;
     pub fn tuv_server_method_begin(end: *mut End, told: *const Settings, nonce: *const u8, id: u8) -> u8;
@@ -121,6 +181,8 @@ extern "C" {
     pub fn tuv_response_name(octets: *const u8, len: usize, room: *mut u8) -> usize;
     pub fn tuv_cause_word(cause: u8) -> *const c_char;
     pub fn tuv_state_word(state: u8) -> *const c_char;
+    pub fn tuv_supplicant_word(state: u8) -> *const c_char;
+    pub fn tuv_port_word(state: u8) -> *const c_char;
     pub fn tuv_refusal_word(answer: u8) -> *const c_char;
     pub fn tuv_failure_word(reason: u8) -> *const c_char;
     // (an array of the library's, whose length isn't told)

@@ -69,6 +69,37 @@ fn both_methods_log_in_and_again() {
 }
 
 #[test]
+fn a_supplicant_logs_in_at_a_port() {
+    for kind in [Kind::Psk, Kind::Gpsk] {
+        let (peer, servers) = told(kind);
+        let mut supplicant = Supplicant::begin(&peer, SupplicantLimits::default()).unwrap();
+        let mut port = Port::begin(0, 4, PortLimits::default()).unwrap();
+        let mut server = Backend::begin(&servers, fresh()).unwrap();
+        assert_eq!(supplicant.link(true).unwrap().frame.unwrap(), [2, 1, 0, 0]);
+        let mut asked = port.link(true).unwrap().frame;
+        let came = loop {
+            let came = supplicant.frame(&asked.unwrap(), fresh()).unwrap();
+            let packet = match &came.frame {
+                Some(frame) => port.frame(frame).unwrap().packet.unwrap(),
+                None => break came,
+            };
+            let turn = server.deliver(&packet).unwrap();
+            let code = if turn.state == State::SUCCESS { Code::AccessAccept } else { Code::AccessChallenge };
+            asked = port.answer(code, &turn.packet.unwrap()).unwrap().frame;
+        };
+        assert!(came.authorized && is_same(&supplicant.report().unwrap(), &server.report().unwrap()));
+        assert_eq!((came.state, came.cause), (SupplicantState::AUTHENTICATED, None));
+        let turn = port.second().unwrap();
+        assert_eq!((turn.state, turn.authorized, turn.awaits_server), (PortState::AUTHENTICATED, true, false));
+        assert_eq!(port.frame(&supplicant.logoff(true).unwrap().frame.unwrap()).unwrap().state, PortState::AUTHENTICATING);
+        assert!(!port.reauthenticate().unwrap().authorized && !port.aaa_timeout().unwrap().authorized);
+        assert!(supplicant.second().unwrap().frame.is_none());
+        assert!(supplicant.control(Control::ForceAuthorized).unwrap().frame.is_none());
+        assert!(supplicant.logoff(false).unwrap().authorized && port.control(Control::ForceAuthorized).unwrap().authorized);
+    }
+}
+
+#[test]
 fn a_wrong_key_is_a_discard() {
     for kind in [Kind::Psk, Kind::Gpsk] {
         let (told, _) = told(kind);

@@ -1,5 +1,5 @@
 -- What a machine has is what the object of its current method has.
-use Rattle.std.proofs.Common.{◌≡◌, ℕ, Option, Some, None, refl, sym}
+use Rattle.std.proofs.Common.{◌≡◌, ℕ, Option, Some, None, refl, sym, subst}
 use Rattle.eap_method.specs.Peer as peers
 use Rattle.eap_method.specs.Peer.{PeerShown, PeerViews}
 use Rattle.eap_method.specs.Server as servers
@@ -42,6 +42,17 @@ of_peer m None selected view =
 of_peer m (Some shown) selected view =
     let now = peer.now_of peer_object_shown m in
     rw (sym selected, peer_reported now.views now.vars.selected, view shown refl) refl
+
+-- the same of a supplicant's peer, as a borrow of it shows
+pub of_peer_at : (m at : PeerValue PeerObject) (seen : Option PeerShown) → at ≡ m
+    → seen ≡ selected_shown_of at
+    → ((shown : PeerShown) → seen ≡ Some shown
+    → peer.selected_view (peer.now_of peer_object_shown at) ≡ Some shown)
+    → both (peer.peer_reports (peer.now_of peer_object_shown m)) (nonces_of_peer
+    (selected_shown_of m)) ≡ peer_stored seen
+of_peer_at m at seen is selected view = subst (λ (it : PeerValue PeerObject).
+    both (peer.peer_reports (peer.now_of peer_object_shown it)) (nonces_of_peer
+    (selected_shown_of it)) ≡ peer_stored seen) is (of_peer at seen selected view)
 
 pub of_server : (m : ServerValue ServerObject) (seen : Option ServerShown)
     → seen ≡ current_shown_of m

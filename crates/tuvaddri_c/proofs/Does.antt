@@ -27,6 +27,14 @@ use Rattle.eap_method.specs.declared.turn.ServerAnswer.TheVariants as server_ans
 use Rattle.tuvaddri_c.specs.Methods.{PeerTurns, ServerTurns, peer_brief, server_brief}
 use Rattle.end_objects.specs.declared.objects.PeerObject.{PeerObject}
 use Rattle.end_objects.specs.declared.objects.ServerObject.{ServerObject}
+use Rattle.supplicant.specs.Table as supplicant
+use Rattle.supplicant.specs.Table.{SupplicantValue}
+use Rattle.supplicant.specs.declared.step.SupplicantStep as supplicant_brief
+use Rattle.switch_port.specs.Port as port
+use Rattle.switch_port.specs.Port.{PortVariables, PortAnswer}
+use Rattle.switch_port.specs.declared.step.PortStep as port_brief
+use Rattle.tuvaddri_c.specs.Supplicants.{SupplicantDoes, turn_of_step}
+use Rattle.tuvaddri_c.specs.Ports.{PortDoes, port_turn, sent_by}
 
 sends_so : (b : Bool) (p : List ℕ) → is_some (if b then Some p else None) ≡ b
 sends_so true p = refl
@@ -109,3 +117,31 @@ pub server_turns : (out : ServerOutcome ServerShown) (b : server_briefs.ServerAn
 server_turns out b packet tags after before sent e s =
     subst (λ (o : ServerOutcome ServerShown). ServerTurns o before (server_brief b) sent after)
     (sym e) (server_asks b packet tags after before sent s)
+
+-- a supplicant's step sends the frame that it wrote, where it says so
+supplicant_turn_is : (step : supplicant_brief.SupplicantStep) (frame : List ℕ)
+    (after : SupplicantValue PeerObject) → turn_of_step step after.authorized after.state
+    ≡ record (turn_of_step step after.authorized after.state)
+    { sends = is_some (if step.sends then Some frame else None) }
+supplicant_turn_is step frame after = ap (λ (b : Bool).
+    record (turn_of_step step after.authorized after.state) { sends = b })
+    (sym (sends_so step.sends frame))
+
+pub supplicant_does : (row : supplicant.Answer) (step : supplicant_brief.SupplicantStep)
+    (frame : List ℕ) (after : SupplicantValue PeerObject) (before sent : Sent)
+    → row ≡ supplicant.answer (supplicant.step_with step frame)
+    (supplicant.shows peer_object_shown after)
+    → sent ≡ after_turn (if step.sends then Some frame else None) before
+    → SupplicantDoes row before (turn_of_step step after.authorized after.state) sent after
+supplicant_does row step frame after before sent e s = subst (λ (r : supplicant.Answer).
+    SupplicantDoes r before (turn_of_step step after.authorized after.state) sent after) (sym e)
+    (record { turn_is = supplicant_turn_is step frame after; sent_is = s; machine = refl })
+
+pub port_does : (row : PortAnswer) (step : port_brief.PortStep) (packet : List ℕ)
+    (after : PortVariables) (before sent : Sent)
+    → row ≡ port.answer (port.step_with step packet) after
+    → sent ≡ after_turn (sent_by (port.step_with step packet)) before
+    → PortDoes row before (port_turn (port.step_with step packet) after) sent after
+port_does row step packet after before sent e s = subst (λ (r : PortAnswer).
+    PortDoes r before (port_turn (port.step_with step packet) after) sent after) (sym e)
+    (record { turn_is = refl; sent_is = s; machine = refl })

@@ -69,9 +69,14 @@ receives_responses e =
 abbrev pub is_peer : End → Bool
 is_peer e = elim e [ ends.Peer m ↦ true | _ ↦ false ]
 
--- whether the end is a peer or a peer's method
+-- whether the end is a peer, a peer's method or a supplicant
 abbrev pub is_at_peer : End → Bool
-is_at_peer e = elim e [ ends.Peer m ↦ true | ends.PeerMethod object key last ↦ true | _ ↦ false ]
+is_at_peer e = elim e [
+  | ends.Peer m ↦ true
+  | ends.PeerMethod object key last ↦ true
+  | ends.Supplicant m last ↦ true
+  | _ ↦ false
+]
 
 -- whether the lower layer may report to the peer: it has not ended
 abbrev pub is_running_peer : End → Bool
@@ -145,6 +150,8 @@ end_reports (ends.Peer m) = peer_reports (peer.now_of peer_object_shown m)
 end_reports (ends.Server m last) = server_reports (server.now_of server_object_shown m)
 end_reports (ends.Backend m last) = server_reports (server.now_of server_object_shown m)
 end_reports (ends.Pass m last) = None
+end_reports (ends.Supplicant m last) = peer_reports (peer.now_of peer_object_shown m.peer)
+end_reports (ends.Port m last) = None
 
 -- its nonces
 abbrev pub nonces_of_peer : Option PeerShown → Option Nonces
@@ -163,3 +170,5 @@ end_nonces (ends.Peer m) = nonces_of_peer (selected_shown_of m)
 end_nonces (ends.Server m last) = nonces_of_server (current_shown_of m)
 end_nonces (ends.Backend m last) = nonces_of_server (current_shown_of m)
 end_nonces (ends.Pass m last) = None
+end_nonces (ends.Supplicant m last) = nonces_of_peer (selected_shown_of m.peer)
+end_nonces (ends.Port m last) = None

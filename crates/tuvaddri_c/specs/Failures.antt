@@ -8,6 +8,10 @@ use Rattle.eap_method.specs.Peer.{PeerShown}
 use Rattle.eap_method.specs.Server.{ServerShown, server_kind}
 use Rattle.end_objects.specs.Objects.{peer_object_shown, server_object_shown, peer_has_failed}
 use Rattle.end_objects.specs.Objects.{is_unknown, server_has_failed}
+use Rattle.end_objects.specs.declared.objects.PeerObject.{PeerObject}
+use Rattle.peer_machine.specs.PeerTable.{PeerValue}
+use Rattle.switch_port.specs.declared.settings.Phase.{Phase}
+use Rattle.switch_port.specs.declared.settings.Phase.TheVariants as phase
 use Rattle.tuvaddri_c.specs.declared.failure.TuvFailure.{TuvFailure}
 use Rattle.tuvaddri_c.specs.declared.session.End.{End}
 use Rattle.tuvaddri_c.specs.declared.session.End.TheVariants as ends
@@ -89,6 +93,15 @@ pass_ended s = elim s [
   | _ ↦ not_failed
 ]
 
+-- a supplicant's peer, which has sent its lastRespData last
+abbrev pub machine_failure : PeerValue PeerObject → TuvFailure
+machine_failure m = peer_failure (selected_shown_of m) m.vars.last_response
+    (peer_ended m.vars.state (selected_shown_of m))
+
+-- a port in HELD: the server rejected the station
+abbrev pub port_ended : Phase → TuvFailure
+port_ended p = elim p [ phase.Held ↦ other_end | _ ↦ not_failed ]
+
 -- why the login of an end, which has sent this packet last, has failed
 abbrev pub end_failure : End → List ℕ → TuvFailure
 end_failure ends.Closed sent = not_failed
@@ -103,3 +116,5 @@ end_failure (ends.Server m last) sent =
 end_failure (ends.Backend m last) sent =
     server_failure (current_shown_of m) (server_ended m.vars.state)
 end_failure (ends.Pass m last) sent = pass_ended m.state
+end_failure (ends.Supplicant m last) sent = machine_failure m.peer
+end_failure (ends.Port m last) sent = port_ended m.phase

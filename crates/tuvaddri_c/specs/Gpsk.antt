@@ -47,6 +47,8 @@ end_key (ends.Peer m) name = m.vars.setup.psk51
 end_key (ends.Server m last) name = key_in m.vars.setup.users name
 end_key (ends.Backend m last) name = key_in m.vars.setup.users name
 end_key (ends.Pass m last) name = None
+end_key (ends.Supplicant m last) name = m.peer.vars.setup.psk51
+end_key (ends.Port m last) name = None
 
 -- EAP-GPSK's Session-Id
 abbrev pub gpsk_session_id : Suite → List ℕ → EndReport → List ℕ

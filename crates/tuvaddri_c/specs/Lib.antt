@@ -32,3 +32,7 @@ pub mod Settled
 pub mod Turns
 -- A server's one user, given while it runs.
 pub mod Users
+-- The supplicant of IEEE 802.1X, as a program in C sees it.
+pub mod Supplicants
+-- The port of IEEE 802.1X, likewise.
+pub mod Ports

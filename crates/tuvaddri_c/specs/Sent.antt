@@ -13,7 +13,8 @@ pub record Sent : Type 0 where
 abbrev pub sent_so : List ℕ → Bool → Sent
 sent_so packet fresh = record { packet = packet; fresh = fresh }
 
--- the packet that an end sent last; a peer's is its lastRespData (RFC 4137 section 4.3.1)
+-- the packet that an end sent last; a peer's is its lastRespData (RFC 4137 section 4.3.1); of a
+-- supplicant a frame, of a port a frame or a packet
 abbrev pub sent_packet : End → List ℕ
 sent_packet ends.Closed = []
 sent_packet (ends.PeerMethod object key last) = last.value
@@ -22,6 +23,8 @@ sent_packet (ends.Peer m) = m.vars.last_response
 sent_packet (ends.Server m last) = last.value
 sent_packet (ends.Backend m last) = last.value
 sent_packet (ends.Pass m last) = last.value
+sent_packet (ends.Supplicant m last) = last.value
+sent_packet (ends.Port m last) = last.value
 
 abbrev pub sent_of : Session → Sent
 sent_of session = sent_so (sent_packet session.end) session.fresh

@@ -5,7 +5,7 @@ ghost use Rattle.eap_packet.specs.Fault.{packet_of};
 ghost use Rattle.end_objects.specs.Objects.{peer_object_shown, server_object_shown};
 ghost use Rattle.tuvaddri_c.specs.Failures.{failing, code_in, sent_code, peer_failure, peer_ended};
 ghost use Rattle.tuvaddri_c.specs.Failures.{shown_failure, server_failure, server_ended};
-ghost use Rattle.tuvaddri_c.specs.Failures.{pass_ended, end_failure};
+ghost use Rattle.tuvaddri_c.specs.Failures.{pass_ended, port_ended, machine_failure, end_failure};
 ghost use Rattle.tuvaddri_c.specs.Sent.{sent_of};
 
 use crate::by_method::{code_by, repeated_by};
@@ -15,6 +15,8 @@ use eap_method::ServerMethod;
 use eap_packet::{Code, State, decode, write_plain};
 use end_objects::{PeerObject, ServerObject};
 use octet_lists::Packet;
+use peer_machine::PeerMachine;
+use switch_port::Phase;
 
 /// Why a login has failed.
 #[repr(C)]
@@ -151,6 +153,25 @@ fn pass_ended(state: State) -> TuvFailure
     }
 }
 
+/// A port in this phase.
+fn port_ended(phase: Phase) -> TuvFailure
+    ensures { result ≡ port_ended phase }
+{
+    match phase {
+        Phase::Held => failing(6, 0),
+        _ => failing(0, 0),
+    }
+}
+
+/// A peer of RFC 4137 section 4.
+fn of_machine(machine: &PeerMachine<PeerObject>) -> TuvFailure
+    ensures { result ≡ machine_failure machine.now }
+{
+    let selected = machine.selected();
+    let other = peer_ended(machine.state(), selected);
+    peer_failure(selected, machine.last_response(), other)
+}
+
 /// Why the login has failed, as far as the end can know.
 #[unsafe(no_mangle)]
 pub extern "C" fn tuv_end_failure(end: &mut TuvEnd) -> TuvFailure
@@ -173,5 +194,7 @@ pub extern "C" fn tuv_end_failure(end: &mut TuvEnd) -> TuvFailure
             server_ended(machine.state()),
         ),
         End::Pass(machine, _) => pass_ended(machine.state()),
+        End::Supplicant(machine, _) => of_machine(machine.peer()),
+        End::Port(machine, _) => port_ended(machine.phase()),
     }
 }

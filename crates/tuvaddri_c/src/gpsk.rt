@@ -91,6 +91,10 @@ pub fn key_of(end: &End, name: &[u8]) -> Option<Secret>
         End::Server(machine, _) => key_in(&machine.setup().users, name),
         End::Backend(machine, _) => key_in(&machine.setup().users, name),
         End::Pass(_, _) => None,
+        End::Supplicant(machine, _) => {
+            machine.peer().setup().psk51.as_ref().map(|key| key.copy())
+        }
+        End::Port(_, _) => None,
     }
 }
 

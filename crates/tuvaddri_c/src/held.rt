@@ -78,6 +78,8 @@ pub fn object_of<'a>(end: &'a End) -> Object<'a>
         End::Server(machine, _) => of_server(machine.current()),
         End::Backend(machine, _) => of_server(machine.current()),
         End::Pass(_, _) => Object::None,
+        End::Supplicant(machine, _) => of_peer(machine.peer().selected()),
+        End::Port(_, _) => Object::None,
     }
 }
 
@@ -89,6 +91,7 @@ pub fn peer_object_of<'a>(end: &'a End) -> Option<&'a PeerObject>
     match end {
         End::PeerMethod(object, _, _) => Some(object),
         End::Peer(machine) => machine.selected(),
+        End::Supplicant(machine, _) => machine.peer().selected(),
         _ => None,
     }
 }

@@ -4,6 +4,7 @@ ghost use Rattle.std.specs.Prelude.{◌≡◌, ◌≤◌, [], length, if◌then�
 ghost use Rattle.octet_lists.specs.Sizes.{max_packet};
 ghost use Rattle.tuvaddri_c.specs.Sent.{sent_so, after_turn};
 
+use eapol_frame::EapolFrame;
 use octet_lists::Packet;
 use std::alloc::Global;
 
@@ -13,6 +14,17 @@ pub fn empty_packet(alloc: Global) -> Option<Box<Packet>>
     ensures { IfSome result (λ last. last.value ≡ []) }
 {
     match Box::new(alloc, Packet::new()) {
+        Err(_) => None,
+        Ok(last) => Some(last),
+    }
+}
+
+/// A frame of no octets, in a block of its own; None for want of memory.
+#[inline(never)]
+pub fn empty_frame(alloc: Global) -> Option<Box<EapolFrame>>
+    ensures { IfSome result (λ last. last.value ≡ []) }
+{
+    match Box::new(alloc, EapolFrame::new()) {
         Err(_) => None,
         Ok(last) => Some(last),
     }

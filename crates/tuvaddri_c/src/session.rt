@@ -3,11 +3,14 @@
 ghost use Rattle.std.specs.Prelude.{All, IsTrue};
 ghost use Rattle.login_setup.specs.Setup.{has_valid_key};
 
+use eapol_frame::EapolFrame;
 use end_objects::{MAX_OTHERS, OtherUsers, PeerObject, ServerObject};
 use octet_lists::{Packet, Secret};
 use pass_through::PassThrough;
 use peer_machine::PeerMachine;
 use server_machine::{SizedBackend, SizedServer};
+use supplicant::Supplicant;
+use switch_port::SwitchPort;
 
 /// A stand-alone server with room for the users that settings give.
 pub type Server = SizedServer<ServerObject, MAX_OTHERS>;
@@ -16,7 +19,7 @@ pub type Server = SizedServer<ServerObject, MAX_OTHERS>;
 pub type Backend = SizedBackend<ServerObject, MAX_OTHERS>;
 
 /// Which end a session is. But for a peer it has the packet that it sent last since its begin or restart, of no octets
-/// before the first; a peer's is its lastRespData.
+/// before the first; a peer's is its lastRespData. A supplicant has the frame, a port the frame or the server's packet.
 #[derive(Drop)]
 pub enum End {
     /// None.
@@ -33,6 +36,10 @@ pub enum End {
     Backend(Backend, Box<Packet>),
     /// A pass-through.
     Pass(PassThrough, Box<Packet>),
+    /// A supplicant of IEEE 802.1X.
+    Supplicant(Supplicant<PeerObject>, Box<EapolFrame>),
+    /// The port of an authenticator of IEEE 802.1X.
+    Port(SwitchPort, Box<EapolFrame>),
 }
 
 impl End {
@@ -50,12 +57,12 @@ impl End {
         }
     }
 
-    /// Whether it is a peer's machine or a peer's method.
+    /// Whether it is a peer's machine, a peer's method or a supplicant.
     pub fn is_at_peer(&self) -> bool
         ensures { result ≡ is_at_peer self.now }
     {
         match self {
-            End::Peer(_) | End::PeerMethod(_, _, _) => true,
+            End::Peer(_) | End::PeerMethod(_, _, _) | End::Supplicant(_, _) => true,
             _ => false,
         }
     }
@@ -72,6 +79,8 @@ impl End {
             End::Server(_, last) => last.as_slice(),
             End::Backend(_, last) => last.as_slice(),
             End::Pass(_, last) => last.as_slice(),
+            End::Supplicant(_, last) => last.as_slice(),
+            End::Port(_, last) => last.as_slice(),
         }
     }
 }
