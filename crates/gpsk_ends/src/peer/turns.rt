@@ -146,8 +146,41 @@ fn answer_first<R: Records>(
     }
 }
 
-/// GPSK-3 that repeats the fields of the login is answered by GPSK-4, and the login has succeeded.
-/// `BadTag`: its MAC is wrong.
+/// GPSK-3 that repeats the fields of the login, whose MAC is checked again, is answered by GPSK-4, and the login has succeeded. It
+/// is never inlined, so that the second check is one of its own. `BadTag`: its MAC is wrong.
+#[tactic(auto, unfolding(eap_method::specs::GpskPeer::confirms))]
+#[inline(never)]
+fn confirm_again<R: Records>(
+    login: &Login,
+    phase: &mut Phase,
+    id: u8,
+    view: &GpskMessage,
+    body: &[u8],
+    packet: &mut Packet,
+    tags: &mut Tags<R>,
+) -> PeerAnswer
+    requires received { IsReceived (message_of view.now) body.now }
+    requires waits { phase.old ≡ Wait }
+    ensures turn { outcome_with result packet.new tags.new (view_in login.now phase.new)
+        ≡ confirms login.now id (message_of view.now)
+        (fault_if (not (is_tagged_by login.now (message_of view.now))) BadTag None) }
+    ensures capacity { replies result ≡ true → HasCapacity packet.new }
+{
+    if login.is_tagged(view, body) {
+        login.accept(view, body, &mut tags.accepted);
+        login.gpsk4(id, packet, &mut tags.made);
+        *phase = Phase::Over { good: true };
+        PeerAnswer::Reply {
+            state: MethodState::Done,
+            decision: Decision::CondSucc,
+        }
+    } else {
+        PeerAnswer::Discard(Cause::BadTag)
+    }
+}
+
+/// GPSK-3 that repeats the fields of the login is answered by GPSK-4, and the login has succeeded. Its MAC is checked twice, so that
+/// one check is left where a processor skips an instruction of the other. `BadTag`: its MAC is wrong.
 #[tactic(auto, unfolding(eap_method::specs::GpskPeer::confirms))]
 fn confirm<R: Records>(
     login: &Login,
@@ -168,13 +201,7 @@ fn confirm<R: Records>(
     if !login.is_tagged(view, body) {
         return PeerAnswer::Discard(Cause::BadTag);
     }
-    login.accept(view, body, &mut tags.accepted);
-    login.gpsk4(id, packet, &mut tags.made);
-    *phase = Phase::Over { good: true };
-    PeerAnswer::Reply {
-        state: MethodState::Done,
-        decision: Decision::CondSucc,
-    }
+    confirm_again(login, phase, id, view, body, packet, tags)
 }
 
 /// GPSK-Fail is answered by itself, and the login is over.
