@@ -40,7 +40,7 @@ enum { TUV_PACKET_MAX = 1500, TUV_NAME_MAX = 253, TUV_KEY_MAX = 64,
  * and are never used again; EAP-PSK takes the first 16. */
 enum { TUV_NONCE_LEN = 32 };
 
-/* No call goes deeper into the stack. */
+/* No call goes deeper into the stack, but those that clear it. */
 #define TUV_STACK_MAX 13312
 
 /* Octets that belong to the caller. */
@@ -609,8 +609,9 @@ struct tuv_method_turn tuv_server_method_handle(struct tuv_end *end,
  * from the first call to the clear, or clear that stack too. */
 void tuv_clear_stack_of(size_t octets);
 
-/* Clears TUV_STACK_MAX octets, as above: for the function that made the calls, or one
- * above it, if the frames of both and of all between have at most 2,000 octets. */
+/* Clears TUV_STACK_MAX octets, on Linux 20,480 since signals lie below the calls, as
+ * above: for the function that made the calls, or one above it, if the frames of both
+ * and of all between have at most 2,000 octets. */
 void tuv_clear_stack(void);
 
 /* Whether the processor has what the library was built for (README.md). */

@@ -21,7 +21,7 @@ ADDRESS = re.compile(r": R_\w+\t(.+?)(?:[+-]0x[0-9a-f]+)?$", re.M)
 PART = re.compile(r"\.(?:part|isra|constprop|cold)\b.*$")
 # What calls itself does so for each method of an end, of which there are two.
 AGAIN = 3
-# Of machine.c: its room is what it clears, TUV_STACK_MAX or what the program says.
+# Of machine.c: its room is what it clears.
 CLEARS = "clear_room"
 # Of border.c: it calls by a pointer what its callers name.
 CALLS_GIVEN = "report_by"
