@@ -1,4 +1,5 @@
-"""What has another text than at a commit, or than at each of several: of the crates, of the pages, of tests, cases and edits."""
+"""What has another text than at a commit, or than at each of several: of the crates, of the pages, of tests, cases and edits, of C
+and of what its programs and scripts try."""
 
 from __future__ import annotations
 
@@ -9,7 +10,7 @@ import tarfile
 from itertools import chain
 from typing import Iterator
 
-from lib import edits, pages
+from lib import cuts, edits, pages
 from lib.common import ROOT, Refused, said_by
 from lib.promises import Key, others_in, pieces_of
 from lib.sources import Call, Repository, Source
@@ -17,7 +18,8 @@ from lib.sources import Call, Repository, Source
 # The texts by their places. (the pages of crates are made of what is listed here)
 Texts = dict[str, str]
 READ = re.compile(r"crates\.txt|crates/\w+/(src|specs)/.*\.(rt|antt)|(?!crates/\w+/).*\.md|(.*/)?cases/[\w-]+\.(cases|py|sh)"
-                  r"|wrong/\w+\.edits|(wrong|crates)/.*\.edit|wrong/scripts\.lines")
+                  r"|wrong/\w+\.edits|(wrong|crates)/.*\.edit|wrong/scripts\.lines"
+                  r"|c/\w+\.[ch]|c/check|test|tools/lib/\w+\.txt|crates/\w+/proofs/.*\.antt")
 # Of these one that is new changes nothing that was said.
 MORE = ("test", "case", "edit", "import")
 
@@ -54,7 +56,8 @@ def pieces(texts: Texts) -> dict[Key, str]:
         elif place.endswith(".edit"):
             found["edit", place] = text
         elif not place.startswith("crates"):
-            found.update(cases_in(place, text))
+            found.update(cuts.of(place, text))
+    found.update(cuts.joined(cuts.lemmas_in(texts.get("docs/PROOF.md", ""), texts)))
     return found
 
 
@@ -63,13 +66,6 @@ def tests_in(source: Source) -> dict[Key, str]:
     calls = {it.place: "\n".join(source.lines[at - 1] for at in sorted(it.lines)) + it.code for it in source.items if isinstance(it, Call)}
     others = {f"{source.crate}::{place}": source.text[begin:end] for place, begin, end in others_in(source)}
     return {("test", place): text for place, text in {**others, **calls}.items()}
-
-
-def cases_in(place: str, text: str) -> dict[Key, str]:
-    """The cases of a file of texts, and the functions of one in Python or shell."""
-    head = {"cases": r"^(?=case )", "lines": r"^(?=by )"}.get(place.rpartition(".")[2], r"^(?=def |class |\w+\(\) \{)")
-    first, *others = re.split(head, text, flags=re.M)
-    return {("case", place): first, **{("case", f"{place}: {it.partition(chr(10))[0]}"): it for it in others}}
 
 
 def sentences(text: str) -> Iterator[str]:
