@@ -1,5 +1,6 @@
 //! An example for makers: a method of one's own that derives keys: EAP-PAX (RFC 4746), its exchange PAX_STD with a shared
-//! key of 16 octets, HMAC_SHA256_128, and neither a Diffie-Hellman group nor a public key.
+//! key of 16 octets, HMAC_SHA256_128, and neither a Diffie-Hellman group nor a public key. It has no HMAC_SHA1_128 (MAC ID
+//! 0x01), and so no login with an end that has no other MAC.
 #![tactic(auto)]
 
 mod keys;
