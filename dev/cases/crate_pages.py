@@ -33,4 +33,15 @@ def case_every_crate(_: Run) -> Iterator[Optional[str]]:
         bare = re.findall(r"(?m)^### (`[^`]*`)\n\n\n", page)
         yield holds(not bare, f"{crate} doesn't say what {', '.join(bare)} do")
         if "use " in file.read_text():
-            yield holds(re.search("## Its (calls|laws)", page) or crate in ("eap_base", "eap_login_main", "own_method", "part_tests", "login_tests", "call_tests"), f"{crate} has no call")
+            yield holds(re.search("## Its (calls|laws)", page) or crate in ("eap_base", "eap_login_main", "own_method", "login_tests", "call_tests"), f"{crate} has no call")
+
+
+NAMES = """Accepts Event Failed Identity Kinds Later LineReader MemSink MemSource Mode NextLine Nonce Nonces Octets Packet Party PeerSetup Port
+    Secret ServerSetup Setup Sink Source StdSink StdSource Suite Suites SureSink SureSource User Users"""
+
+
+def case_names_of_the_facade(_: Run) -> Iterator[Optional[str]]:
+    """What `eap_base` re-exports: other repositories stand on these names."""
+    found = re.findall(r"pub use \w+::\{([^}]*)\}", (ROOT / "crates/eap_base/src/lib.rt").read_text())
+    names = sorted(re.findall(r"\w+", " ".join(found)))
+    yield holds(names == NAMES.split(), f"eap_base has other names: {names}")

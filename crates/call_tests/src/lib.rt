@@ -1,19 +1,27 @@
-//! Tests of the one call, of the texts that it reads and of the worlds that it runs: at sources and sinks that cut and fail, over runs
-//! stepped by hand, and of the program from its arguments to its exit status. What is a text in and a text out is in cases/.
+//! Tests of public calls that the program doesn't make, or that no text of it reaches: ciphers, MACs, messages, RADIUS packets, lists
+//! and streams; captures and values; worlds stepped by hand. What is a text in and a text out is in cases/.
 #![tactic(auto)]
 
 #[cfg(test)]
-mod call;
-#[cfg(test)]
 mod captures;
 #[cfg(test)]
-mod faults;
+mod ciphers;
 #[cfg(test)]
-mod reads;
+mod macs;
+#[cfg(test)]
+mod messages;
+#[cfg(test)]
+mod objects;
+#[cfg(test)]
+mod radius;
 #[cfg(test)]
 mod reflections;
 #[cfg(test)]
-mod runs;
+mod row;
+#[cfg(test)]
+mod settings;
+#[cfg(test)]
+mod streams;
 #[cfg(test)]
 mod values;
 #[cfg(test)]

@@ -1,7 +1,7 @@
 //! Tags that come back to the end that made them, and whether either end made them. Octets of packets were computed with
 //! Python from RFC 5433 and RFC 4764.
 
-use crate::call::ObjectWorld;
+use crate::objects::ObjectWorld;
 use crate::worlds::{begun, step};
 use login_setup::Event;
 use octet_lists::GPSK_KIND;

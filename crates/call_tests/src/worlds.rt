@@ -3,7 +3,7 @@
 ghost use Rattle.std.specs.Prelude.{IfOk};
 ghost use Rattle.scenario_text.specs.Valid.{IsValidSetup};
 
-use crate::call::{ObjectWorld, world};
+use crate::objects::{ObjectWorld, world};
 use eap_world::{Brief, MAX_EVENTS, SentNumber, Skip};
 use login_setup::{Event, Party, Setup};
 use scenario_text::ScenarioReader;

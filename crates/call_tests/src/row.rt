@@ -33,11 +33,6 @@ impl<'a> Row<'a> {
 
     /// The octets that the next word spells, at most 1,500; a dash stands for none.
     pub(crate) fn octets(&mut self) -> Packet {
-        self.list()
-    }
-
-    /// The octets that the next word spells, at most `N`; a dash stands for none.
-    pub(crate) fn list<const N: usize>(&mut self) -> Octets<N> {
         let word = self.word();
         let digits = if word == "-" { "" } else { word };
         let mut room = [0; MAX_PACKET];
@@ -54,12 +49,6 @@ impl<'a> Row<'a> {
         let mut array = [0; N];
         self.is_sound &= decode_to_slice(self.word(), &mut array).is_ok();
         array
-    }
-
-    /// The octet that the next word spells.
-    pub(crate) fn octet(&mut self) -> u8 {
-        let octet: [u8; 1] = self.array();
-        octet[0]
     }
 
     /// The number that the next word spells in decimal digits.

@@ -1,11 +1,9 @@
-//! Sources and sinks, and reads and writes that fail.
+//! Sources and sinks in memory, and their reads and writes that fail.
 
-ghost use Rattle.std.specs.Prelude.{◌≤◌, ℕ, IfOk, None};
+ghost use Rattle.std.specs.Prelude.{ℕ, None};
 ghost use Rattle.octet_io.specs.Shown.{HasRisen};
 
-use octet_io::{MemSink, MemSource, Sink, Source, StdSink, StdSource, SureSink, SureSource};
-use std::io;
-use std::io::{ErrorKind, Read, Write};
+use octet_io::{MemSink, MemSource, Sink, Source, SureSink, SureSource};
 use std::test::Fail;
 
 /// Marks a fault among the answers to reads and writes.
@@ -65,65 +63,4 @@ fn the_sure_ones_never_fail(rt: HostRuntime) -> Result<(), Fail> {
     let is_whole = writes(&mut SureSink::new(), b"abc", &[3]);
     assert!(rt; are_same && is_whole && buf == *b"ebcd");
     Ok(())
-}
-
-/// A reader and a writer that give or take two octets, fail with this error, and then give or take no more.
-#[derive(Drop)]
-struct Stream {
-    calls: u8,
-    error: ErrorKind,
-}
-
-impl Stream {
-    fn next(&mut self, size: usize) -> io::Result<usize>
-        ensures { IfOk result (λ n. n ≤ size) }
-    {
-        self.calls = self.calls.saturating_add(1);
-        match self.calls {
-            1 => Ok(size.min(2)),
-            2 => Err(io::Error::from(self.error)),
-            _ => Ok(0),
-        }
-    }
-}
-
-impl Read for Stream {
-    fn read(&mut self, buf: &mut [u8]) -> io::Result<usize> {
-        self.next(buf.len())
-    }
-}
-
-impl Write for Stream {
-    fn write(&mut self, buf: &[u8]) -> io::Result<usize> {
-        self.next(buf.len())
-    }
-
-    fn flush(&mut self) -> io::Result<()> {
-        Ok(())
-    }
-}
-
-/// Whether a reader fails midway, as its source.
-fn reader_fails(error: ErrorKind) -> bool {
-    let mut source = StdSource::new(Stream { calls: 0, error });
-    reads(&mut source, &mut [0; 4], &[2, FAULT, 0])
-}
-
-/// Whether a writer fails midway, as its sink. A write that takes nothing of something is a fault too.
-fn writer_fails(error: ErrorKind) -> bool {
-    let mut sink = StdSink::new(Stream { calls: 0, error });
-    let is_fault = writes(&mut sink, b"abcd", &[2, FAULT, FAULT]);
-    is_fault & writes(&mut sink, b"", &[0])
-}
-
-// An interrupted call isn't made again, and one that would block isn't waited for.
-#[test]
-fn readers_and_writers_fail_midway(rt: HostRuntime) {
-    for error in [
-        ErrorKind::TimedOut,
-        ErrorKind::Interrupted,
-        ErrorKind::WouldBlock,
-    ] {
-        assert!(rt; reader_fails(error) && writer_fails(error));
-    }
 }
