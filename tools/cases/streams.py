@@ -24,7 +24,8 @@ from typing import IO, Iterator, NamedTuple, Optional, Sequence, Union
 from cases.lib.small import Run, holds
 
 READ_FAULT, WRITE_FAULT = 3, 4
-SECONDS = 60
+# (one that doesn't end fails; a busy machine takes its time)
+SECONDS = 900
 Stream = Union[int, IO[bytes], socket.socket]
 Env = Optional[dict[str, str]]
 
