@@ -114,7 +114,7 @@ fn answers_so(peer: &mut PeerMachine<PaxPeer>) -> Option<bool> {
 
 #[test]
 fn packets_and_keys_are_those_computed_outside(rt: HostRuntime) -> Result<(), Fail> {
-    let Some(setup) = pax_settings(Way::Machines) else {
+    let Some(setup) = pax_settings(Way::World) else {
         panic!(rt; "no settings");
     };
     let methods = pax_methods(rt.alloc(), AK, AK)?;

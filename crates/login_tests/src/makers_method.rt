@@ -4,7 +4,7 @@
 use crate::settings::{settings_of_ends, settings_of_scenario};
 use crate::ways::{WAYS, Way, both_in, by_way, no_methods};
 use eap_base::{Octets, Setup};
-use eap_method::{Methods, PeerMethod, ServerMethod};
+use eap_method::{Methods, Outcome, PeerMethod, ServerMethod};
 use eap_packet::{Cause, State};
 use eap_world::Verdict;
 use maker::{Md5Peer, Md5Server, receive_request, receive_response, response_value, value_of};
@@ -221,6 +221,14 @@ fn peer_discards_each(peer: &mut PeerMachine<Md5Peer>) -> bool {
     none && zero && short
 }
 
+/// True if the peer, which is over, refuses a packet.
+fn refuses(peer: &mut PeerMachine<Md5Peer>) -> bool {
+    match peer.deliver(b"\x03\x02\x00\x04").outcome(peer.report()) {
+        Outcome::Discarded(cause) => cause == Cause::Ended,
+        _ => false,
+    }
+}
+
 /// True if the peer discards what is malformed and stays as it was, then answers the Challenge, to which a Name may be added, and no
 /// other one; None if something else was discarded.
 fn peer_takes_one(
@@ -236,7 +244,8 @@ fn peer_takes_one(
     let again = receive_request(peer, b"\x01\x03\x00\x07\x04\x01\x09");
     let is_over = (again.cause == Some(Cause::MethodDone)) & again.sent.is_none();
     let end = receive_request(peer, b"\x03\x02\x00\x04");
-    Some(sent.as_slice() == response && is_over && end.cause.is_none() && peer.ended())
+    let has_ended = end.cause.is_none() && peer.ended() && refuses(peer);
+    Some(sent.as_slice() == response && is_over && has_ended)
 }
 
 /// True if the server is ready, and discards the Response as one that its method doesn't await.
@@ -272,16 +281,15 @@ fn server_takes_one(server: &mut ServerMachine<Md5Server>) -> Option<bool> {
     if !server_discards_each(server) || !server.ready() {
         return Some(false);
     }
-    let step = receive_response(server, RESPONSE);
-    Some(
-        step.sent?.as_slice() == b"\x03\x02\x00\x04".as_slice() && server.state() == State::Success,
-    )
+    let success = receive_response(server, RESPONSE).sent?;
+    let has_ended = server.state() == State::Success && !server.wants_timer();
+    Some(success.as_slice() == b"\x03\x02\x00\x04".as_slice() && has_ended)
 }
 
 // The ends of both machines send what was computed outside, and what is malformed changes nothing.
 #[test]
 fn malformed_packets_change_nothing(rt: HostRuntime) -> Result<(), Fail> {
-    let Some(setup) = settings(Way::Machines, &[4], &[4]) else {
+    let Some(setup) = settings(Way::World, &[4], &[4]) else {
         panic!(rt; "no settings");
     };
     let named = b"\x01\x02\x00\x19\x04\x10\"\"\"\"\"\"\"\"\"\"\"\"\"\"\"\"srv";

@@ -1,9 +1,9 @@
-//! The ways in which the packets of two ends are carried, whatever their methods, by the plain calls of each layer: in one world,
-//! between the two machines, and between two pipes. Through a pass-through the `examples` go.
+//! The ways in which the packets of two ends are carried, whatever their methods, by the plain calls: in one world, which has the
+//! machines of both, and between two pipes. Through a pass-through the `examples` go.
 
 use eap_base::{Event, Mode, Octets, Packet, Party, Setup};
-use eap_method::{Methods, Outcome, PeerMethod, Report, ServerMethod};
-use eap_packet::{Cause, State};
+use eap_method::{Methods, PeerMethod, Report, ServerMethod};
+use eap_packet::State;
 use eap_world::{TagsVerdict, Verdict, World};
 use end_pipe::{EndInput, PeerPipe, ServerPipe};
 use peer_machine::PeerMachine;
@@ -14,12 +14,11 @@ use std::alloc::Global;
 #[derive(Clone, Copy, PartialEq, Eq, Debug)]
 pub(crate) enum Way {
     World,
-    Machines,
     Pipes,
 }
 
 /// Each of them.
-pub(crate) const WAYS: [Way; 3] = [Way::World, Way::Machines, Way::Pipes];
+pub(crate) const WAYS: [Way; 2] = [Way::World, Way::Pipes];
 
 /// Both ends without an object.
 pub(crate) fn no_methods<P: PeerMethod, S: ServerMethod>(alloc: Global) -> Methods<P, S> {
@@ -193,82 +192,6 @@ fn in_world<P: PeerMethod, S: ServerMethod>(
     }
 }
 
-/// The machines of both ends; None if one doesn't take these.
-fn machines_of<P: PeerMethod, S: ServerMethod>(
-    setup: Setup,
-    methods: Methods<P, S>,
-) -> Option<(PeerMachine<P>, ServerMachine<S>)> {
-    let takes = PeerMachine::takes(&setup.peer, methods.peer.as_slice())
-        && ServerMachine::takes(&setup.server, setup.max_retrans, methods.server.as_slice());
-    if !takes {
-        return None;
-    }
-    let server = ServerMachine::new(
-        setup.server,
-        setup.first_id,
-        setup.max_retrans,
-        methods.server,
-    );
-    Some((PeerMachine::new(setup.peer, methods.peer), server))
-}
-
-/// Carries the packets between both; None if one was discarded.
-fn carry<P: PeerMethod, S: ServerMethod>(
-    peer: &mut PeerMachine<P>,
-    server: &mut ServerMachine<S>,
-    course: &mut Course,
-) -> Option<Packet> {
-    if server.started() || server.is_backend() {
-        return None;
-    }
-    let mut request = course.send(server.start().sent)?;
-    for _ in 0..8 {
-        let Some(response) = course.send(peer.deliver(request.as_slice()).sent) else {
-            break;
-        };
-        if !server.ready() {
-            return None;
-        }
-        request = course.send(server.deliver(response.as_slice()).sent)?;
-    }
-    Some(request)
-}
-
-/// True if the peer, which is over, refuses the packet.
-fn refuses<P: PeerMethod>(peer: &mut PeerMachine<P>, packet: &[u8]) -> bool {
-    match peer.deliver(packet).outcome(peer.report()) {
-        Outcome::Discarded(cause) => cause == Cause::Ended,
-        _ => false,
-    }
-}
-
-/// Takes up the states and the reports of both.
-fn take_end<P: PeerMethod, S: ServerMethod>(
-    peer: &PeerMachine<P>,
-    server: &ServerMachine<S>,
-    course: &mut Course,
-) {
-    course.report(Party::Peer, peer.report());
-    course.report(Party::Server, server.report());
-    course.end(peer.state(), server.state());
-}
-
-/// Between the peer and the stand-alone server.
-fn between_machines<P: PeerMethod, S: ServerMethod>(
-    setup: Setup,
-    methods: Methods<P, S>,
-    course: &mut Course,
-) -> Option<()> {
-    let (mut peer, mut server) = machines_of(setup, methods)?;
-    let last = carry(&mut peer, &mut server, course)?;
-    take_end(&peer, &server, course);
-    if refuses(&mut peer, last.as_slice()) && !server.wants_timer() {
-        Some(())
-    } else {
-        None
-    }
-}
-
 /// The octets of a packet, as an input of an end.
 fn input_of(packet: &Packet) -> EndInput {
     let mut octets = Octets::new();
@@ -335,7 +258,6 @@ pub(crate) fn by_way<P: PeerMethod, S: ServerMethod>(
     let mut course = Course::new();
     let is_carried = match way {
         Way::World => in_world(alloc, setup, methods, &mut course),
-        Way::Machines => between_machines(setup, methods, &mut course),
         Way::Pipes => between_pipes(setup, methods, &mut course),
     };
     match is_carried {
