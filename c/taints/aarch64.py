@@ -5,11 +5,12 @@ import re
 from .engine import Unread
 
 SP, PUSHED = "sp", 0
+WORD, RESULT = 8, "x0"
 PASSED = tuple(f"x{i}" for i in range(8))
 KEPT = tuple(f"x{i}" for i in range(19, 31))
 VECTORS = tuple(f"v{i}{half}" for i in range(8) for half in ("", "h"))
-LEFT_OUT = ()
 BRANCH = "\tldrb\tw9, [x1]\n\tcbz\tw9, .LBBplant\n.LBBplant:\n"
+LENGTH = "\tldrb\tw9, [x1]\n\tstrb\tw9, [x0, #97]\n\tret\n"
 LOOK_UP = "\tldrb\tw9, [x1]\n\tadrp\tx10, .Lstatic.0\n\tadd\tx10, x10, :lo12:.Lstatic.0\n\tldrb\tw9, [x10, x9]\n"
 EARLY_END = "\tldrb\tw9, [x0]\n\tldrb\tw10, [x2]\n\tcmp\tw9, w10\n\tb.eq\t.LBBplant\n\tmov\tw0, wzr\n\tret\n.LBBplant:\n"
 SIZES = {"b": 1, "h": 2}
@@ -175,7 +176,7 @@ def scalar(name, words, where):
     if name == "ccmp":
         return [("flags", tuple(it for it in (operand(word) for word in words[:2]) if isinstance(it, str)), size, True)]
     if name == "cset":
-        return [("gen", (to,), (), True), ("and", to, to, 1)]
+        return [("set", to, words[1])]
     if name in ("csel", "csinc"):
         a, b = operand(words[1]), operand(words[2])
         out = []

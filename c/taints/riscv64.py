@@ -5,11 +5,12 @@ import re
 from .engine import Unread
 
 SP, PUSHED = "sp", 0
+WORD, RESULT = 8, "a0"
 PASSED = tuple(f"a{i}" for i in range(8))
 KEPT = tuple(f"s{i}" for i in range(12))
 VECTORS = ()
-LEFT_OUT = ()
 BRANCH = "\tlbu\tt0, 0(a1)\n\tbeqz\tt0, .LBBplant\n.LBBplant:\n"
+LENGTH = "\tlbu\tt0, 0(a1)\n\tsb\tt0, 97(a0)\n\tret\n"
 LOOK_UP = "\tlbu\tt0, 0(a1)\n\tauipc\tt1, %pcrel_hi(.Lstatic.0)\n\tadd\tt1, t1, t0\n\tlbu\tt0, 0(t1)\n"
 EARLY_END = "\tlbu\tt0, 0(a0)\n\tlbu\tt1, 0(a2)\n\tbeq\tt0, t1, .LBBplant\n\tli\ta0, 0\n\tret\n.LBBplant:\n"
 LOADS = {"lb": 1, "lbu": 1, "lh": 2, "lhu": 2, "lw": 4, "lwu": 4, "ld": 8}

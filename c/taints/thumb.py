@@ -1,16 +1,16 @@
-"""Armv7-M, as Thumb: the ops of each instruction. None is conditional (it) in what is read."""
+"""Armv7-M, as Thumb: the ops of each instruction."""
 
 import re
 
 from .engine import Unread
 
 SP, PUSHED = "sp", 0
+WORD, RESULT = 4, "r0"
 PASSED = ("r0", "r1", "r2", "r3")
 KEPT = tuple(f"r{i}" for i in range(4, 12))
 VECTORS = ()
-# These append keys to an array on the stack at a length that isn't known, so by what is known any octet of the stack is secret.
-LEFT_OUT = ("login_keys::psk::four_blocks", "login_keys::psk::psk_session", "psk_ends::server::login::UserPsk2::keys")
-BRANCH = "\tldrb\tr3, [r1]\n\tcbz\tr3, .LBBplant\n.LBBplant:\n"
+BRANCH = "\tldrb.w\tr12, [r1]\n\tcmp.w\tr12, #0\n\tbeq\t.LBBplant\n.LBBplant:\n"
+LENGTH = "\tldrb\tr3, [r1]\n\tstrb.w\tr3, [r0, #97]\n\tbx\tlr\n"
 LOOK_UP = "\tldrb\tr3, [r1]\n\tmovw\tr2, :lower16:.Lstatic.0\n\tmovt\tr2, :upper16:.Lstatic.0\n\tldrb\tr3, [r2, r3]\n"
 EARLY_END = "\tldrb\tr1, [r0]\n\tldr\tr12, [sp]\n\tldrb\tr12, [r12]\n\tcmp\tr1, r12\n" \
     "\tbeq\t.LBBplant\n\tmovs\tr0, #0\n\tbx\tlr\n.LBBplant:\n"
@@ -18,7 +18,7 @@ CONDITIONS = ("eq", "ne", "lo", "hs", "hi", "ls", "mi", "pl", "gt", "le", "ge", 
 SIZES = {"": 4, "b": 1, "h": 2}
 CARRY = ("adc", "adcs", "sbc", "sbcs")
 COMPUTED = ("eor", "orr", "and", "bic", "orn", "mvn", "adc", "sbc", "rsb", "ror", "lsl", "lsr", "asr", "mul", "rev", "rev16", "clz",
-            "ubfx", "add", "sub")
+            "ubfx", "add", "sub", "uxtb16", "sxtb", "sxth", "mla", "mls")
 
 
 def name_of(name):
@@ -68,8 +68,21 @@ def several(kind, base, names, where):
 
 
 def decode(name, text, where):
-    """The ops of an instruction."""
-    words, name = split(text), name.removesuffix(".w")
+    """The ops of an instruction; one behind an `it` has its condition in its name."""
+    name = name.removesuffix(".w")
+    if re.fullmatch("it[te]*", name):
+        return []
+    try:
+        return plain(name, text, where)
+    except Unread:
+        if name[-2:] not in CONDITIONS:
+            raise
+    condition, ops = name[-2:], plain(name[:-2], text, where)
+    return [("retif", condition, where)] if ops[-1] == ("ret",) else [("when", condition, ops, where)]
+
+
+def plain(name, text, where):
+    words = split(text)
     if name == "bl":
         return [("call", text.strip('"'), where)]
     if name == "bx" and words == ["lr"]:
@@ -101,7 +114,7 @@ def decode(name, text, where):
 def computed(name, words, where):
     """The ops of what is computed in registers."""
     to, sets = words[0], name[-1] == "s"
-    plain = name[:-1] if sets else name
+    base = name[:-1] if sets else name
     if name in ("cmp", "cmn", "tst"):
         if name == "cmp" and len(words) == 2:
             return [("cmp", to, operand(words[1]), 4)]
@@ -110,7 +123,7 @@ def computed(name, words, where):
         return [("place", to, (None, None, 1, 0, words[1].split(":")[2]))]
     if name == "movt":
         return [("gen", (to,), (to,))]
-    if plain in ("mov", "movw") and len(words) == 2:
+    if base in ("mov", "movw") and len(words) == 2:
         return [("mov", to, operand(words[1])), *([("flags", (to,), 4)] if sets else [])]
     if name in ("uxtb", "uxth"):
         return [("cut", to, words[1], 1 if name == "uxtb" else 2)]
@@ -118,22 +131,27 @@ def computed(name, words, where):
         return [("align", to)]
     if name == "bfi":
         return [("gen", (to,), (to, words[1]))]
-    if plain not in COMPUTED:
+    if name in ("addw", "subw"):
+        return [("sum", to, words[-2], operand(words[-1]), 1 if name == "addw" else -1)]
+    if name == "umull":
+        return [("gen", tuple(words[:2]), tuple(words[2:]))]
+    if base not in COMPUTED:
         raise Unread(f"an instruction {name} {', '.join(words)}")
     shifts = [it for it in words if " " in it]
     rest = [operand(it) for it in words if " " not in it]
     a, b = (rest[0], rest[1]) if len(rest) == 2 else (rest[1], rest[2])
-    of_two = len(rest) == 2 and plain not in ("mvn", "rev", "rev16", "clz")
+    of_two = len(rest) == 2 and base not in ("mvn", "rev", "rev16", "clz")
     sources = [it for it in (rest if of_two else rest[1:]) if isinstance(it, str)]
     out = []
-    if sets and plain == "sub" and not shifts:
+    if sets and base == "sub" and not shifts:
         out.append(("cmp", a, b, 4))
-    elif sets:
+    elif sets and not (base in ("lsl", "lsr") and isinstance(b, int)):
         out.append(("flags", sources, 4, name in CARRY))
-    if plain in ("add", "sub") and not shifts:
-        return [*out, ("sum", to, a, b, 1 if plain == "add" else -1)]
-    if plain in ("lsl", "lsr") and isinstance(b, int):
-        return [*out, ("shift", to, a, b if plain == "lsl" else -b), *([("cut", to, to, 4)] if plain == "lsl" else [])]
-    if plain == "and" and isinstance(b, int) and b >= 0:
+    if base in ("add", "sub") and not shifts:
+        return [*out, ("sum", to, a, b, 1 if base == "add" else -1)]
+    if base in ("lsl", "lsr") and isinstance(b, int):
+        out += [("shift", to, a, b if base == "lsl" else -b), *([("cut", to, to, 4)] if base == "lsl" else [])]
+        return [*out, *([("zero", to, 4)] if sets else [])]
+    if base == "and" and isinstance(b, int) and b >= 0:
         return [*out, ("and", to, a, b)]
     return [*out, ("gen", (to,), sources, name in CARRY)]

@@ -5,11 +5,12 @@ import re
 from .engine import Unread
 
 SP, PUSHED = "rsp", 8
+WORD, RESULT = 8, "rax"
 PASSED = ("rdi", "rsi", "rdx", "rcx", "r8", "r9")
 KEPT = ("rbx", "rbp", "r12", "r13", "r14", "r15")
 VECTORS = tuple(f"xmm{i}{half}" for i in range(8) for half in ("", "h"))
-LEFT_OUT = ()
 BRANCH = "\tcmpb\t$0, (%rsi)\n\tje\t.LBBplant\n.LBBplant:\n"
+LENGTH = "\tmovb\t(%rsi), %al\n\tmovb\t%al, 97(%rdi)\n\tretq\n"
 LOOK_UP = "\tmovzbl\t(%rsi), %eax\n\tleaq\t.Lstatic.0(%rip), %r11\n\tmovzbl\t(%r11,%rax), %eax\n"
 EARLY_END = "\tmovzbl\t(%rdi), %eax\n\tcmpb\t(%rdx), %al\n\tje\t.LBBplant\n\txorl\t%eax, %eax\n\tretq\n.LBBplant:\n"
 REGS = {}
@@ -120,7 +121,7 @@ def decode(name, text, where):
     if "%xmm" in text:
         return vector(name, words, where)
     if name.startswith("set"):
-        return set_to(words[0], 1, [("gen8", "t1", (), True)], where)
+        return set_to(words[0], 1, [("set", "t1", CONDITIONS.get(name[3:]))], where)
     if name.startswith("cmov"):
         size = SIZES[name[-1]]
         source = value(words[0], size, out, where)
