@@ -265,7 +265,7 @@ def sums(name, to, size, words):
 def vector(name, words, where):
     to = reg(words[0])[0]
     if name == "movi":
-        return [("mov", to, 0), ("mov", to + "h", 0)]
+        return [("mov", to, 0), ("mov", to + "h", 0)] if number(words[1]) == 0 else [("gen", (to, to + "h"), ())]
     if name == "eor" and words[1] == words[2]:
         return [("mov", to, 0), ("mov", to + "h", 0)]
     if name == "fmov" or name == "mov" and words[0][0] in "xw":

@@ -177,7 +177,7 @@ def decided(state, condition):
     if state.flags or state.compared is None or not (is_known(state.compared[1]) and is_known(state.compared[2])):
         return None
     a, b = state.compared[1][2], state.compared[2][2]
-    if a < 0 or b < 0 or not state.compared[3] and condition not in ("eq", "ne"):
+    if not (0 <= a < 1 << 64 and 0 <= b < 1 << 64) or not state.compared[3] and condition not in ("eq", "ne"):
         return None
     return {"eq": a == b, "ne": a != b, "lo": a < b, "hs": a >= b, "hi": a > b, "ls": a <= b}.get(condition)
 
@@ -635,6 +635,12 @@ class Machine:
         else:
             lo = None if lo is None else lo + number + 1
             state.regs[to] = (ALL if taint else 0, kind, lo, hi)
+
+    def op_or(self, state, to, a, number):
+        """A number or'd in: to a place it is added, whose lowest bits are 0."""
+        value = state.get(a)
+        is_place = value[1] == STACK or value[1] in state.areas
+        state.regs[to] = added(value, const(number)) if is_place else (ALL if value[0] else 0, NUMBER, None, None)
 
     def op_align(self, state, to):
         """A place of the stack that becomes aligned, which moves none of what is on it; of others no more is known."""

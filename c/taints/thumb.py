@@ -118,6 +118,8 @@ def computed(name, words, where):
     if name in ("cmp", "cmn", "tst"):
         if name == "cmp" and len(words) == 2:
             return [("cmp", to, operand(words[1]), 4)]
+        if name == "tst" and words[1] == "#255":
+            return [("zero", to, 1)]
         return [("flags", [it for it in words if it[0] in "rl"], 4)]
     if name in ("movw", "movt") and words[1][0] == ":":
         return [("place", to, (None, None, 1, 0, words[1].split(":")[2]))]
@@ -152,6 +154,8 @@ def computed(name, words, where):
     if base in ("lsl", "lsr") and isinstance(b, int):
         out += [("shift", to, a, b if base == "lsl" else -b), *([("cut", to, to, 4)] if base == "lsl" else [])]
         return [*out, *([("zero", to, 4)] if sets else [])]
+    if base == "orr" and isinstance(b, int) and not shifts:
+        return [*out, ("or", to, a, b)]
     if base == "and" and isinstance(b, int) and b >= 0:
         return [*out, ("and", to, a, b)]
     return [*out, ("gen", (to,), sources, name in CARRY)]
