@@ -34,6 +34,7 @@ port() {
     try "the library for $target" build_port
     elsewhere "$target"
     secrets_of_port
+    try "the registers that stay$told" find_registers
     case $draw$target in
     whole*) try "one way through the code$told" one_way 9 ;;
     *thumbv6m* | *riscv64*) try "one way through the code$told" one_way 3 ;;
