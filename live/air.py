@@ -7,12 +7,12 @@ from __future__ import annotations
 
 import re
 from pathlib import Path
-from typing import Any, Dict, List, Mapping, Tuple
+from typing import Any, Dict, List, Mapping, Optional, Tuple
 
 import ends
 import programs
 from guest import Guest
-from ways import KEYS
+from ways import KEYS, SECRET
 
 # (hostapd takes the key of a user's first line, so each method has a user of its own; live/radius_server knows alice alone)
 USERS = {"GPSK": "alice@example.org", "PSK": "psk@example.org"}
@@ -22,7 +22,7 @@ CHANNELS = ((1, 2412), (6, 2437))
 # The key under which access points give each other keys of FT.
 BETWEEN = bytes(range(32)).hex()
 # What a key management asks of both ends beside its name.
-PMF = {"WPA-EAP": 1, "OKC": 1, "FT-EAP": 1, "WPA-EAP-SHA256": 2, "WPA-EAP-SUITE-B-192": 2}
+PMF = {"WPA-EAP": 1, "OKC": 1, "FT-EAP": 1, "WPA-EAP-SHA256": 2, "WPA-EAP-SUITE-B-192": 2, "FILS-SHA256": 1}
 # What has begun an EAP login, and what has ended it, in a log of the station's.
 EVENT = re.compile(r"^([\d.]+): wlan2: +CTRL-EVENT-(EAP-STARTED|EAP-FAILURE|DISCONNECTED|CONNECTED)", re.M)
 
@@ -82,13 +82,20 @@ class Air:
     def write(self, name: str, text: str) -> None:
         Path(self.guest.share, name).write_text(text)
 
-    def start_points(self, whose: str, management: str, count: int = 1, **more: Any) -> None:
+    def start_points(self, whose: str, management: str, count: int = 1, server: Optional[Settings] = None, **more: Any) -> None:
+        """Access points, and a RADIUS server in the same process, if there are settings of one."""
         for at in range(count):
             self.write(f"ap{at}.conf", lines_of(point_settings(at, management, more)))
         names = " ".join(f"/share/ap{at}.conf" for at in range(count))
+        if server:
+            self.write("clients", f"127.0.0.1 {SECRET}\n")
+            self.write("server.conf", lines_of(server))
+            names += " /share/server.conf"
         self.guest.run(f"rm -f /tmp/ap.log; /{whose}/hostapd -K -dd -t -B -P /run/ap.pid -f /tmp/ap.log {names}")
         for at in range(count):
             self.guest.wait(f"grep -q \"wlan{at}: AP-ENABLED\" /tmp/ap.log")
+        if server:
+            self.guest.wait(f"grep -q \"{server['interface']}: AP-ENABLED\" /tmp/ap.log")
 
     def start_station(self, whose: str, management: str, method: str, **more: Any) -> None:
         network = lines_of(station_settings(management, method, more))

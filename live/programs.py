@@ -106,11 +106,13 @@ class Cable:
         subprocess.run(["ip", "link", "del", self.NEAR], stderr=subprocess.DEVNULL)
 
 
-def answer(words: Sequence[str], environment: Optional[Mapping[str, str]] = None, given: str = "") -> Tuple[int, str]:
-    """The status with which a command ends, and what it says."""
+def answer(
+    words: Sequence[str], environment: Optional[Mapping[str, str]] = None, given: str = "", seconds: Optional[float] = MOST_SECONDS
+) -> Tuple[int, str]:
+    """The status with which a command ends, and what it says; by no `seconds` it is waited for as long as it runs."""
     pipe, errors = subprocess.PIPE, subprocess.STDOUT
     done = subprocess.run(
-        words, input=given, stdout=pipe, stderr=errors, text=True, errors="replace", env=environment, timeout=MOST_SECONDS
+        words, input=given, stdout=pipe, stderr=errors, text=True, errors="replace", env=environment, timeout=seconds
     )
     return done.returncode, done.stdout
 
