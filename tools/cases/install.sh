@@ -148,17 +148,17 @@ refuses_words() {
     holds "install $* ends with $ended" [ "$ended $(cat "$work/out")" = '1 ' ]
     has_line "tools/install: $told" "install $*"
     has_line 'usage: tools/install [--unchecked] --prefix=DIR' "install $*"
-    has_line 'usage: tools/install [--unchecked] [--modules=DIR] [--plugin=DIR] --deb=DIR' "install $*"
+    has_line 'usage: tools/install [--unchecked] [--modules=DIR] [--plugin=DIR] [--wpa=DIR] --deb=DIR' "install $*"
 }
 refuses_words "one of --prefix and --deb is wanted"
 refuses_words "the prefix here isn't a whole path: it begins with no /" --prefix=here
 refuses_words "--prefix wants a name behind it" --unchecked --prefix
 refuses_words "--other is no word of it" --other
-refuses_words "--modules and --plugin are for --deb" --modules=here --prefix=/here
-refuses_words "--modules and --plugin are for --deb" --plugin=here --prefix=/here
+for it in modules plugin wpa; do refuses_words "--modules, --plugin and --wpa are for --deb" --$it=here --prefix=/here; done
 refuses "there is no folder $work/none" tools/install --unchecked --deb="$work/none"
 refuses "$work has no rlm_eap_gpsk.so; c/freeradius/build builds it" tools/install --unchecked --modules="$work" --deb="$work"
 refuses "$work has no libstrongswan-eap-tuvaddri.so; c/strongswan/build builds it" tools/install --plugin="$work" --deb="$work"
+refuses "$work has no wpasupplicant; c/hostapd/build-packages builds it" tools/install --wpa="$work" --deb="$work"
 
 # The stand-in's program is proved: it is installed by its own name, below DESTDIR, with the library, which another
 # program finds by pkg-config. When a source has changed it isn't proved, and is refused, with nothing put in place.
