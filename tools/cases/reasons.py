@@ -279,6 +279,12 @@ def paths() -> Iterator[tuple[str, list[Item], str]]:
     hops = [(head, ip[:12] + ends + ip[20:]) for it in wire.by_radius(GOOD.whole[1:3]) for head, ip in [it] for ends in passed(ip[15])]
     yield "a proxy that is answered from another address", [*hops[:2], (hops[2][0], hops[2][1][:12] + b"\x0a\0\0\x09" + hops[2][1][16:])], (
         "address, proxy")
+    head, ip = wire.radius(11, 9, GOOD.gpsk1, (24, b"one"))
+    away = head, ip[:12] + bytes([10, 0, 0, 9, 10, 0, 0, 2]) + ip[20:]
+    asked_again = [again, hops[0], (hops[1][0], hops[1][1][:29] + b"\x09" + hops[1][1][30:]), away]
+    yield "the same, and the first Request isn't there", [away, *asked_again * 2], "address, proxy, radius silent"
+    yield "copies behind a proxy's Reject", [*hops, wire.radius(1, 2, GOOD.gpsk2), wire.radius(3, 2, b""), hops[0], hops[3]], (
+        "proxy, proxy rejects, no gpsk2, ended, twice")
     yield "an answer that a proxy keeps", [*hops[:3], again, *hops[:3]], "kept by proxy, client again, proxy"
 
 

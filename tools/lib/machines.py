@@ -90,8 +90,8 @@ Way = tuple[World, list[Token]]
 @dataclass
 class Tap:
     """What the place of capturing hides: whether a direction isn't captured, the numbers of the frames that are cut, whether
-    frames are left out; whether frames have times; the numbers of those that no packet of the server brought; and the frames
-    around, and of each that one which is like it."""
+    frames are left out; whether frames have times; the numbers of those that no packet of the server brought; the octets of what came
+    from another address than was asked; and the frames around, and of each that one which is like it."""
 
     hides_server: bool = False
     hides_peer: bool = False
@@ -99,6 +99,7 @@ class Tap:
     is_unsure: bool = False
     has_times: bool = True
     alone: frozenset[int] = frozenset()
+    elsewhere: frozenset[bytes] = frozenset()
     frames: dict[int, Frame] = field(default_factory=dict)
     alike: dict[int, Optional[Frame]] = field(default_factory=dict)
 
@@ -190,7 +191,9 @@ class Next:
         yield from self.again()
         facts, found = self.same_nonces()
         for then, tokens in self.of_server() if f.is_down else self.of_peer():
-            yield then._replace(facts=then.facts | facts) if facts else then, [*tokens, *found]
+            # (what neither end goes on by is no new message)
+            is_new = bool(facts) and then is not world
+            yield (then._replace(facts=then.facts | facts), [*tokens, *found]) if is_new else (then, tokens)
         yield from self.altered()
         # (a right MAC is made by who has the key: what is forged of it is of an earlier login)
         forged = token("forged", f.place, cost=12 if f.word == "tag-good" else None)
@@ -268,7 +271,11 @@ class Next:
         if f.radius and f.radius.request and any(self.tap.frames[at].radius is f.radius.request for at in waiting):
             return  # (a reply is behind its Request)
         if f.radius and f.radius.request is None and self.is_from_elsewhere():
-            yield self.world, [self.token("other-address")]
+            # (what was so before costs nothing)
+            yield world, [token("other-address", f.place, cost=0 if self.before else None)]
+        elif f.radius and f.radius.request is None and f.octets in self.tap.elsewhere:
+            yield world, [token("other-address", f.place, cost=0)]
+            return
         if server.octets and server.octets == f.octets and (f.radius or f.message not in ENDS):
             yield self.on, self.asked_again()
         is_reply = f.radius and f.radius.request and any(it.radius is f.radius.request for it in self.near(False, 3))
@@ -621,8 +628,8 @@ class Next:
                 on = self.anew(request)._replace(peer=on.peer)
                 if not self.server.is_idle and not self.tap.hides_server:
                     missing = [self.token("gap")]
-            elif request and (self.server.place < 0 or self.server.message in ENDS or request.message != self.server.message):
-                on = on._replace(server=request)
+            elif request and (self.server.place < 0 or self.server.message in (*ENDS, f.message) or request.message != self.server.message):
+                on = on._replace(server=request)  # (the Requests of a method that isn't read have one name)
             crossing = [self.token("crossing")] * (self.server.message in ENDS and f.at - self.server.at <= ORDERED and not request)
             for facts, found in self.forms():
                 yield on._replace(facts=on.facts | facts), [*missing, *found, *more, *crossing]

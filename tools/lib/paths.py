@@ -53,7 +53,12 @@ class Path:
         self.ranks, self.last = {EAPOL: 0}, dict[bytes, Hop]()
         self.passed: list[Passed] = []
         self.alike: dict[tuple[bytes, bool], list[Passed]] = {}
-        for it in its:
+        found = list(its)
+        # (a reply that stands before its Request doesn't say where its hop is)
+        for it in found:
+            if not it.is_to_peer:
+                self.rank(it)
+        for it in found:
             self.add(it)
 
     def rank(self, it: Packet) -> int:
@@ -128,4 +133,6 @@ class Path:
         """Whether the next packet shows that one went on, or came from there, where that isn't captured."""
         if then is None or then.is_to_peer == it.is_to_peer or self.alike[then.octets, then.is_to_peer][0] is not then:
             return False
+        if it.is_to_peer and it.octets[:1] == b"\1" and then.octets[1:2] != it.octets[1:2]:
+            return False  # (it answers another Request)
         return max(then.seen) > rank or it.is_to_peer and min(then.seen) < rank

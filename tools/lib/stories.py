@@ -36,7 +36,9 @@ class Login:
         self.capture, self.found, self.frames = capture, found, found.frames
         self.places = {**found.places, **{it.place: it for it in self.frames}}
         places = {it.number: it.place for it in self.frames}
-        found.sure += [token(name, places[number], *words) for number, name, words in capture.facts if number in places]
+        told = {it[:3] for it in found.sure}
+        facts = [token(name, places[number], *words) for number, name, words in capture.facts if number in places]
+        found.sure += [it for it in facts if it[:3] not in told]
         # (where it is told where a packet stopped, nothing more is known of its answer)
         stopped = {self.places[it.place].octets for it in found.sure if it.name in STOPPED}
         found.sure = [it for it in found.sure if it.name != "no-answer" or self.places[it.place].octets not in stopped]
@@ -68,10 +70,11 @@ class Login:
         """The Success, the Failure or the Access-Reject behind which the server doesn't go on, and whether it surely is that."""
         its = [it for it in self.frames if it.is_down and it in self.own or it.message == "Reject"]
         ends = [it for it in its if it.message in ENDS]
-        # (what is behind it at the same time may have overtaken it)
-        if ends and all(it.at - ends[-1].at <= ORDERED for it in its[its.index(ends[-1]) :]):
+        # (what is behind it at the same time may have overtaken it, and what is there again may be a copy)
+        behind = [it for it in its[its.index(ends[-1]) :] if it.at - ends[-1].at > ORDERED] if ends else []
+        if ends and all(it.place in self.unsure for it in behind):
             moved = {it.place for it in shown_tokens(self.found) if it.name == "order"}
-            return ends[-1], ends[-1].place not in self.unsure | moved
+            return ends[-1], not behind and ends[-1].place not in self.unsure | moved
         doubtful = (it for it in reversed(self.frames) if it.message in ENDS and it.place in self.unsure)
         last = next((it for it in doubtful if self.may_be_sent(it) or its and it.place > its[-1].place), None)
         if last:

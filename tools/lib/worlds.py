@@ -281,9 +281,10 @@ def of_conversation(capture: Capture, more: Iterator[Frame], part: Sequence[int]
     its = capture.packets
     ways = {its.ways[at] for at in part}
     goes_on = any(its.octets[at][:1] == b"\1" and its.octets[at][4:5] != b"\1" for at in part)
-    cut = [number for number, _, _ in capture.cut]
+    cut, away = [number for number, _, _ in capture.cut], {number for number, name, _ in capture.facts if name == "other-address"}
     tap = Tap(ways == {0}, ways == {1} and goes_on, cut, bool(capture.unsure), its[0].at is not None if len(its) else True,
-              frozenset(number for number, name, _ in capture.facts if name == "by-itself"))
+              frozenset(number for number, name, _ in capture.facts if name == "by-itself"),
+              frozenset(its.octets[at] for at in part if its.numbers[at] in away and its.octets[at]))
     # (what goes a way that isn't captured is no fault)
     search, counted = Search(more, tap), [it for it in FAULTS if it != "uncaptured" or len(ways) > 1]
     before: Optional[Found] = None
