@@ -282,7 +282,7 @@ def paths() -> Iterator[tuple[str, list[Item], str]]:
     head, ip = wire.radius(11, 9, GOOD.gpsk1, (24, b"one"))
     away = head, ip[:12] + bytes([10, 0, 0, 9, 10, 0, 0, 2]) + ip[20:]
     asked_again = [again, hops[0], (hops[1][0], hops[1][1][:29] + b"\x09" + hops[1][1][30:]), away]
-    yield "the same, and the first Request isn't there", [away, *asked_again * 2], "address, proxy, radius silent"
+    yield "the same, and the first Request isn't there", [away, *asked_again * 2], "address, proxy"
     yield "copies behind a proxy's Reject", [*hops, wire.radius(1, 2, GOOD.gpsk2), wire.radius(3, 2, b""), hops[0], hops[3]], (
         "proxy, proxy rejects, no gpsk2, ended, twice")
     yield "an answer that a proxy keeps", [*hops[:3], again, *hops[:3]], "kept by proxy, client again, proxy"

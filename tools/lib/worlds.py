@@ -224,7 +224,8 @@ def silent(w: World, tap: Tap) -> list[Token]:
     if tap.is_unsure or tap.cut or server.message in (*ENDS, *FAILS) or server == peer == NOBODY or last.place < 0:
         return []
     its = tap.frames[last.place].radius
-    if its and any(it.is_down and it.radius and it.radius.octets[1] == its.octets[1] and it.turn > last.turn for it in w.seen):
+    if its and any(it.is_down and it.radius and it.turn > last.turn and (
+            it.radius.octets[1] == its.octets[1] or it.octets in tap.elsewhere) for it in w.seen):
         return []
     return [token("no-answer", last.place)]
 
