@@ -11,8 +11,7 @@ anew='dev/dist makes it anew'
 write_dist() {
     mkdir -p "$copy/dist/${text%/*}"
     cp dist/check dist/system.c "$copy/dist"
-    echo 'int puts(const char *); int main(void) { return puts("assembled") < 0; }' >"$work/it.c"
-    cc -O1 -fPIE -S "$work/it.c" -o "$copy/dist/$text"
+    cp "$work/it.s" "$copy/dist/$text"
     {
         echo 'kit rattle-kit-0 logic 0 rattle 1 clang 2'
         echo "sources $("$copy/dist/check" sources)"
@@ -35,6 +34,8 @@ for tool in sh as awk cat cc cksum cp cut date dirname find grep head ld mkdir m
     ! command -v "$tool" >/dev/null || ln -s "$(command -v "$tool")" "$work/bare/$tool"
 done
 if command -v cc >/dev/null; then
+    echo 'int puts(const char *); int main(void) { return puts("assembled") < 0; }' >"$work/it.c"
+    cc -O1 -fPIE -S "$work/it.c" -o "$work/it.s"
     write_dist
     told="0 dist/check: 1 files are as they were made, of these sources"
     checks

@@ -44,8 +44,9 @@ def place_of(module: ModuleType) -> str:
     return getattr(module, "__file__", "") or next(iter(getattr(module, "__path__", [])), "")
 
 
-def answer_of(path: Path) -> tuple[int, str, str]:
-    """What a script says of itself. One in Python runs here, with modules of its own, as Python's start would take the longest."""
+def answer_of(path: Path, shared: dict[str, ModuleType]) -> tuple[int, str, str]:
+    """What a script says of itself. One in Python runs here, with modules of its own, as Python's start would take the longest;
+    those of tools/ share the modules of tools/lib."""
     if not path.read_text().startswith("#!/usr/bin/env -S python3 -B\n"):
         done = subprocess.run([path, "--help"], stdin=subprocess.DEVNULL, capture_output=True, text=True, timeout=600)
         return done.returncode, done.stdout, done.stderr
@@ -54,16 +55,19 @@ def answer_of(path: Path) -> tuple[int, str, str]:
     with contextlib.ExitStack() as changes:
         changes.enter_context(mock.patch.multiple(sys, argv=[str(path), "--help"], stdout=out, stderr=errors, stdin=io.StringIO(),
                                                   path=[str(path.parent), *(it for it in sys.path if not it.startswith(str(ROOT)))]))
-        changes.enter_context(mock.patch.dict(sys.modules, others, clear=True))
+        is_tool = path.parent == ROOT / "tools"
+        changes.enter_context(mock.patch.dict(sys.modules, {**others, **shared} if is_tool else others, clear=True))
         try:
             runpy.run_path(str(path), run_name="__main__")
         except SystemExit as ended:
             status = ended.code if isinstance(ended.code, int) else 0
+        if is_tool:
+            shared.update((name, it) for name, it in sys.modules.items() if place_of(it).startswith(f"{path.parent}/lib"))
     return status, out.buffer.getvalue().decode(), errors.getvalue()
 
 
 def case_help(_: Run) -> Iterator[Optional[str]]:
-    compiled = functools.lru_cache(maxsize=None)(SourceFileLoader.source_to_code)
+    compiled, shared = functools.lru_cache(maxsize=None)(SourceFileLoader.source_to_code), dict[str, ModuleType]()
     with tempfile.TemporaryDirectory() as folder, mock.patch.object(SourceFileLoader, "source_to_code", compiled), mock.patch.dict(
             os.environ, PATH=f"{folder}:{os.environ['PATH']}"):
         for name in WORK:
@@ -72,7 +76,7 @@ def case_help(_: Run) -> Iterator[Optional[str]]:
             stub.chmod(0o755)
         for path, text in scripts():
             head, begun = head_of(text), Path(folder) / "begun"
-            status, out, errors = answer_of(path)
+            status, out, errors = answer_of(path, shared)
             if (status, errors) != (0, "") or not head or head not in out or begun.exists():
                 begun.unlink(missing_ok=True)
                 yield f"{path.relative_to(ROOT)} --help ends with {status} and writes {(out + errors)[:80]!r}"

@@ -89,14 +89,33 @@ TEXT
 # aren't; they call the program beside them, and each other by the names that they have there.
 command=$there/bin/tuvaddri
 words='why page chart capture-of by-station decode-fields keys-of'
+# (what the command hands to Python is noted, and run by one interpreter, whose start takes longer than all of it)
+mkdir "$work/noting"
+printf '#!/bin/sh\necho "$*" >>%s/noted\n' "$work" >"$work/noting/python3"
+chmod +x "$work/noting/python3"
+for it in $words; do (cd "$work" && PATH=$work/noting:$PATH "$command" $it --help) || fail "tuvaddri $it fails"; done
+python3 -B - "$work/noted" >"$work/helps" <<'TEXT' || fail "no help of what is installed"
+import contextlib, io, os, runpy, sys
+for line in open(sys.argv[1]).read().splitlines():
+    _, path, *words = line.split()
+    out, ended, sys.argv, sys.path[0] = io.StringIO(), 0, [path, *words], os.path.dirname(path)
+    with contextlib.redirect_stdout(out), contextlib.redirect_stderr(out):
+        try:
+            runpy.run_path(path, run_name="__main__")
+        except SystemExit as its:
+            ended = its.code or 0
+    print(os.path.basename(path), ended, f"tuvaddri {os.path.basename(path)}" in out.getvalue())
+TEXT
+ended=0
+"$command" --help >"$work/said" 2>&1 || ended=$?
+echo " $ended $(! grep -q 'tuvaddri WORD' "$work/said" || echo True)" >>"$work/helps"
+for it in '' $words; do
+    found=$(sed -n "s/^$it //p" "$work/helps")
+    holds "tuvaddri $it --help ends with ${found% *}" [ "${found% *}" = 0 ]
+    [ "${found#* }" = True ] || fail "tuvaddri $it --help doesn't say how it is called"
+done
 # (compiled once, and not by each call)
 python3 -m compileall -q "$there/share/tuvaddri/tools/lib"
-for it in '' $words; do
-    ended=0
-    (cd "$work" && env PATH="$PATH" "$command" $it --help) >"$work/said" 2>&1 || ended=$?
-    holds "tuvaddri $it --help ends with $ended" [ "$ended" = 0 ]
-    grep -q "tuvaddri ${it:-WORD}" "$work/said" || fail "tuvaddri $it --help doesn't say how it is called"
-done
 for it in '' nothing lib ../tools/why --other; do
     ended=0
     "$command" $it >"$work/out" 2>"$work/said" || ended=$?
