@@ -115,21 +115,26 @@ def name_of(kind: str, stage: int) -> str:
 
 
 class Next:
-    """A frame that comes next in a world, and the ways in which it can."""
+    """A frame that comes next in a world, of its turn, and the ways in which it can."""
 
     def __init__(self, tap: Tap, world: World, frame: Frame) -> None:
-        self.tap, self.world = tap, world
-        self.frame = f = frame._replace(turn=world.turn)
+        self.tap, self.world, self.frame = tap, world, frame
+        self.found: dict[tuple[bool, int], list[Frame]] = {}
+        f = frame
         self.server, self.peer = world.server, world.peer
         mine = End(f.message, f.id, f.place, f.kind, f.octets, f.at, f.turn)
-        self.on = world._replace(server=mine) if f.is_down else world._replace(peer=mine)
+        # (as world._replace(..) makes it, in half of the time)
+        self.on = World(mine, *world[1:]) if f.is_down else World(world[0], mine, *world[2:])
         self.before = [it for it in self.near(f.is_down) if it.octets == f.octets] if f.octets else []
 
     # ---- What is near it.
 
     def near(self, is_down: bool, count: int = SEEN) -> list[Frame]:
         """The frames of a direction before it in this world, the last one first."""
-        return [it for it in self.world.seen[: -count - 1 : -1] if it.is_down == is_down and it.octets]
+        key = is_down, count
+        if key not in self.found:
+            self.found[key] = [it for it in self.world.seen[: -count - 1 : -1] if it.is_down == is_down and it.octets]
+        return self.found[key]
 
     def answers(self, identifier: int, behind: int) -> list[Frame]:
         return [it for it in self.near(False) if it.turn > behind and it.id == identifier]
@@ -161,6 +166,8 @@ class Next:
 
     def is_cut(self) -> bool:
         """Whether a frame of this login is cut."""
+        if not self.tap.cut:
+            return False
         begin = next((it.number for it in self.world.seen if it.turn >= self.world.begun), 0)
         return any(begin <= it <= self.frame.number for it in self.tap.cut)
 

@@ -50,6 +50,7 @@ class Search:
         self.worlds, self.turn, self.is_closed = self.bases, 0, True
         # (the ways from a world are the same in each search, and found once)
         self.known: dict[tuple[int, int], tuple[World, Ways]] = {}
+        self.turned: dict[tuple[int, int], Frame] = {}
 
     def frame(self, place: int) -> Optional[Frame]:
         while place + AHEAD + ALIKE >= self.count and (it := next(self.more, None)):
@@ -107,7 +108,7 @@ class Search:
         bases: dict[object, World] = {}
         for w in worlds:
             bases.setdefault((w.first, w.ahead, w.late), w._replace(cost=w.cost - worlds[0].cost, trail=(), begins=()))
-        self.bases, self.begin, self.limit, self.known = [*bases.values()], at, -2, {}
+        self.bases, self.begin, self.limit, self.known, self.turned = [*bases.values()], at, -2, {}, {}
         self.again()
         kept = {it.place for w in self.bases for it in (w.server, w.peer)}
         for it in [it for it in self.frames if it < at - MOST and it not in kept]:
@@ -149,13 +150,21 @@ class Search:
         """The worlds in which a frame comes next. (a world in use is another than those that are gone, by its identity)"""
         key = id(w), it.place
         if key not in self.known:
-            self.known[key] = w, [(sum(t.cost for t in way[1]), way, []) for way in Next(self.tap, w, it).ways()]
-        before = w.cost + sum(t.cost for t in more)
+            its = Next(self.tap, w, self.at_turn(it, w.turn))
+            self.known[key] = w, [(sum([t.cost for t in way[1]]), way, []) for way in its.ways()]
+        before = w.cost + sum([t.cost for t in more])
         for cost, (then, tokens), made in self.known[key][1]:
             if self.may_cost(before + cost):
                 if not made:
-                    made.append(self.advanced(w, it, (then, [*more, *tokens])))
+                    made.append(self.advanced(w, it, (then, [*more, *tokens]), before + cost))
                 yield made[0]
+
+    def at_turn(self, it: Frame, turn: int) -> Frame:
+        """A frame with its turn, which many worlds share."""
+        key = it.place, turn
+        if key not in self.turned:
+            self.turned[key] = it._replace(turn=turn)
+        return self.turned[key]
 
     def steps(self, w: World) -> Iterator[World]:
         """A world with one frame more: the next one, or one that was held back; and where the next one is out of the ordinary, it
@@ -192,8 +201,8 @@ class Search:
     def chosen(self, w: World, tokens: Sequence[Token]) -> World:
         return w._replace(cost=w.cost + sum(it.cost for it in tokens), trail=(*w.trail, *tokens))
 
-    def advanced(self, w: World, it: Frame, way: Way) -> World:
-        """The world behind a frame that came so."""
+    def advanced(self, w: World, it: Frame, way: Way, cost: int) -> World:
+        """The world behind a frame that came so, which costs so much."""
         then, tokens = way
         first, ahead, late = w.first, w.ahead, w.late
         if it.place in late:
@@ -203,8 +212,8 @@ class Search:
         else:
             ahead = (*ahead, it.place)
         # (as then._replace(..) makes it, in a third of the time)
-        new = World(then.server, then.peer, (*w.seen[1 - SEEN :], it._replace(turn=w.turn)), then.forged, then.facts, then.begun,
-                    w.turn + 1, w.cost + sum(it.cost for it in tokens), (*w.trail, *tokens), then.begins, first, ahead, late)
+        new = World(then.server, then.peer, (*w.seen[1 - SEEN :], self.at_turn(it, w.turn)), then.forged, then.facts, then.begun,
+                    w.turn + 1, cost, (*w.trail, *tokens), then.begins, first, ahead, late)
         # (what it costs to begin is told of the login before, if there was one)
         return new._replace(begins=(*w.begins[1 - BEGINS :], new._replace(begins=()))) if new.begun == w.turn != w.begun else new
 
