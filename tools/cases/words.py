@@ -3,12 +3,13 @@ and past them, which is refused with its fault; and that the program has no othe
 
 from __future__ import annotations
 
+import pty
 import re
 import subprocess
 from pathlib import Path
 from typing import Iterator, Optional
 
-from cases.lib.small import Run
+from cases.lib.small import Run, holds
 from lib import words
 from lib.cases import SETTINGS
 from lib.common import answer
@@ -227,3 +228,14 @@ def case_causes(run: Run) -> Iterator[Optional[str]]:
         ("causes of radius", said_in_cases(r"read ([A-Z]\w+)$") - set(words.RADIUS_CAUSES), set()),
     ):
         yield None if found == known else f"there are other {what}: {found ^ known}"
+
+
+def case_terminal(_: Run) -> Iterator[Optional[str]]:
+    """Alone at a terminal it says that it reads, and how that ends; Ctrl-D ends it."""
+    near, far = pty.openpty()
+    with open(near, "wb", buffering=0) as keys, open(far, "rb", buffering=0) as terminal:
+        keys.write(b"\x04")
+        done = subprocess.run(["tools/why"], stdin=terminal, capture_output=True, text=True, timeout=600)
+    said, *refused = done.stderr.splitlines()
+    yield holds(said == "why: reading standard input; Ctrl-D ends it, --help says more", f"at a terminal: {said}")
+    yield holds(done.returncode == 2 and len(refused) == 1 and "it is empty" in refused[0], f"at a terminal, Ctrl-D: {done.returncode}, {refused}")
