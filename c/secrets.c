@@ -3,7 +3,7 @@
  * Runs logins by METHOD (47 or 51) and SUITE (1 or 2; 0 for 47) in every way
  * that a key can go: alone, again by a restart, with altered packets, with other
  * keys, of unknown and barred users, after a Nak, in Expanded Types, through a
- * pass-through, by the methods alone, refused, and cut off.  Standard input has
+ * pass-through, at a port, by the methods alone, refused, and cut off.  Standard input has
  * 128 octets: the keys of EAP-PSK and of EAP-GPSK that both ends share, 16 and
  * 48, and two others.
  * Each packet is written as `packet HEX`, and after a login that succeeds both
@@ -318,6 +318,46 @@ static void through(void)
 	expect(turn.state == TUV_STATE_SUCCESS && agree(), "a login through a pass-through");
 }
 
+/* The frame of a turn; the packet in it is printed. */
+static size_t framed(struct tuv_end *end, uint8_t frame[TUV_FRAME_MAX])
+{
+	size_t len = tuv_end_packet(end, frame, TUV_FRAME_MAX);
+
+	VALGRIND_MAKE_MEM_DEFINED(frame, len);
+	print("packet", frame + 4, len - 4);
+	return len;
+}
+
+/* A login of a supplicant at a port, whose server is a backend. */
+static void at_port(void)
+{
+	struct tuv_supplicant_limits limits = TUV_SUPPLICANT_LIMITS;
+	struct tuv_port_limits times = TUV_PORT_LIMITS;
+	struct tuv_supplicant_turn turn = { 0 };
+	static uint8_t frame[TUV_FRAME_MAX];
+	struct tuv_port_turn came;
+	unsigned int round;
+
+	set_up();
+	expect(!tuv_supplicant_begin(&peer, &of_peer, &limits), "a supplicant begins");
+	expect(!tuv_backend_begin(&server, &of_server, fresh()), "a backend begins");
+	expect(!tuv_port_begin(&pass, 0, 4, &times), "a port begins");
+	tuv_supplicant_link(&peer, 1);
+	came = tuv_port_link(&pass, 1);
+	for (round = 0; round < 20 && came.to_station; round++) {
+		uint8_t code = TUV_ACCESS_CHALLENGE;
+
+		turn = tuv_supplicant_frame(&peer, frame, framed(&pass, frame), fresh());
+		if (!turn.sends)
+			break;
+		tuv_port_frame(&pass, frame, framed(&peer, frame));
+		if (tuv_end_deliver(&server, octets, take(&pass, octets)).state == TUV_STATE_SUCCESS)
+			code = TUV_ACCESS_ACCEPT;
+		came = tuv_port_answer(&pass, code, octets, take(&server, octets));
+	}
+	expect(turn.authorized && came.authorized && agree(), "a login at a port");
+}
+
 /* Begins that are refused, and logins that are cut off. */
 static void ends(void)
 {
@@ -363,6 +403,7 @@ static void run(void)
 	failures();
 	users();
 	through();
+	at_port();
 	ends();
 	drop(&peer);
 	drop(&server);
