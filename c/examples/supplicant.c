@@ -79,7 +79,7 @@ int main(int argc, char *argv[])
 		if (ioctl(port, SIOCGIFFLAGS, &interface) == 0 && (interface.ifr_flags & IFF_RUNNING) != up)
 			serve(tuv_supplicant_link(&end, (up ^= IFF_RUNNING) != 0));
 		poll(&(struct pollfd) { port, POLLIN, 0 }, 1, 100);
-		ssize_t len = recvfrom(port, frame, sizeof(frame), MSG_DONTWAIT, (struct sockaddr *) &from, &(socklen_t) { sizeof(from) });
+		ssize_t len = recvfrom(port, frame, sizeof(frame), MSG_DONTWAIT, (void *) &from, &(socklen_t) { sizeof(from) });
 		if (len > 0 && from.sll_pkttype != PACKET_OUTGOING && getrandom(nonce, sizeof(nonce), 0) == sizeof(nonce))
 			serve(tuv_supplicant_frame(&end, frame, (size_t) len, nonce));
 		for (; now < time(NULL); now++)
