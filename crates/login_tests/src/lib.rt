@@ -11,6 +11,8 @@ mod makers_method;
 #[cfg(test)]
 mod reflected;
 #[cfg(test)]
+mod sessions;
+#[cfg(test)]
 mod settings;
 #[cfg(test)]
 mod ways;
