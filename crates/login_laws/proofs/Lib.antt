@@ -23,6 +23,8 @@ pub mod PskMatching
 -- No end takes its own tags for the other's, in whichever conversation it made them, where the peer
 -- succeeds by EAP-PSK.
 pub mod PskReflected
+-- Nor where it succeeds by EAP-GPSK, if its nonce can't be read as the beginning of its name.
+pub mod GpskReflected
 -- A tag that the server accepted and can't have made is the peer's.
 pub mod Reflected
 -- Two conversations of which one rests on the other are of one method, and their logins lead to the

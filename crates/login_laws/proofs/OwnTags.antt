@@ -67,7 +67,7 @@ module _ (setup : PeerSetup) (login : gpsk_peer.Login) (pd : List ℕ) (size : l
   named nonce theirs list facts =
       own_name (record setup { nonce = nonce }) gpsk_kind theirs.cred facts.cred
 
-  alien : (nonce : List ℕ) (view : gpsk_peer.View) (accepted made : List TagRecord)
+  pub alien : (nonce : List ℕ) (view : gpsk_peer.View) (accepted made : List TagRecord)
       → GpskPeerTags (record setup { nonce = nonce }) view accepted made → IsIn tag made → ⊥
   alien nonce _ _ _ gpsk_unset is = elim is [ ]
   alien nonce _ _ _ (gpsk_fresh allowed) is = elim is [ ]

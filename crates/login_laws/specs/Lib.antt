@@ -1,6 +1,7 @@
 pub mod Agreement
 pub mod Alone
 pub mod PskReflected
+pub mod GpskReflected
 pub mod Matching
 pub mod UnderKey
 pub mod PresentUnderKey

@@ -5,6 +5,7 @@ ghost use Rattle.login_laws.specs.Alone.{OneEndImplies};
 ghost use Rattle.login_laws.specs.AnyEnds.{AnyEndsMatch, AnyServerMatches};
 ghost use Rattle.login_laws.specs.Confirmed.{GpskServersConfirmed, GpskServersConfirmedOrCollide};
 ghost use Rattle.login_laws.specs.Forgery.{AgreeOrForged, EachTagIsRight};
+ghost use Rattle.login_laws.specs.GpskReflected.{ReflectedGpskEndsAgree};
 ghost use Rattle.login_laws.specs.Identity.{ServersReportTheirUser};
 ghost use Rattle.login_laws.specs.Matching.{ConversationsAreAll, ConversationsMatch};
 ghost use Rattle.login_laws.specs.OwnTags.{GpskPeersAcceptNoOwnTags};
@@ -59,9 +60,15 @@ pub fn one_end_implies()
 /// Tags may come back to their maker, and ends may begin new conversations: if each accepted tag was made earlier by
 /// either end, in whichever of its conversations, and each conversation has begun with a fresh nonce, two ends that are
 /// both in SUCCESS, the peer by EAP-PSK, agree on names, key and suite that are their own, and each has the nonce of
-/// the other's present conversation. Of a peer by EAP-GPSK this isn't proved.
+/// the other's present conversation. Of a peer by EAP-GPSK [`reflected_gpsk_ends_agree`] tells.
 pub fn reflected_ends_agree()
     ensures { ReflectedEndsAgree }
+{}
+
+/// The same of a peer by EAP-GPSK whose present nonce doesn't begin with the length of its own name in two octets, as a random one does
+/// once in 65,536. Of one that does it is false: both ends may be in SUCCESS and apart.
+pub fn reflected_gpsk_ends_agree()
+    ensures { ReflectedGpskEndsAgree }
 {}
 
 /// Matching conversations, in every run and in both modes: what is said of two present ones holds of all, past and

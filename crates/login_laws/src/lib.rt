@@ -10,6 +10,6 @@ pub use laws::{
     ends_agree_under_a_key, gpsk_peers_accept_no_own_tags, gpsk_servers_confirmed,
     gpsk_servers_confirmed_or_collide, honest_ends_agree, honest_names_are_theirs,
     honest_under_a_key, keys_are_new, one_end_implies, one_end_implies_under_a_key,
-    psk_success_is_unconditional, reflected_ends_agree, servers_report_their_user,
-    session_ids_match,
+    psk_success_is_unconditional, reflected_ends_agree, reflected_gpsk_ends_agree,
+    servers_report_their_user, session_ids_match,
 };
