@@ -11,6 +11,7 @@
 #include <poll.h>
 #include <signal.h>
 #include <stdio.h>
+#include <stdlib.h>
 #include <string.h>
 #include <sys/ioctl.h>
 #include <sys/random.h>
@@ -63,12 +64,15 @@ int main(int argc, char *argv[])
 	uint8_t key[TUV_KEY_MAX + 1], nonce[TUV_NONCE_LEN], frame[TUV_FRAME_MAX], answer = TUV_NO_MEMORY;
 	struct tuv_octets octets = { key, 0 };
 	struct sockaddr_ll from = { 0 };
+	char digits[3] = "";
 
 	if (argc != 3 || !open_port(argv[1]))
 		return 2;
 	setvbuf(stdin, NULL, _IONBF, 0);
-	while (octets.len < sizeof(key) && scanf("%2hhx", key + octets.len) == 1)
-		octets.len++;
+	while (octets.len < sizeof(key) && fgets(digits, 3, stdin) && strspn(digits, "0123456789abcdefABCDEF") == 2)
+		key[octets.len++] = (uint8_t) strtoul(digits, NULL, 16);
+	if (digits[0] != '\n' && !feof(stdin))
+		octets.len = 0;
 	settings.name = (struct tuv_octets) { (const uint8_t *) argv[2], strlen(argv[2]) };
 	*(octets.len == 16 ? &settings.psk_key : &settings.gpsk_key) = octets;
 	signal(SIGTERM, stop);
