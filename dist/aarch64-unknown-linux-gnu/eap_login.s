@@ -5619,7 +5619,7 @@
 	stp	x20, x19, [sp, #80]
 	sub	sp, sp, #576
 	ldrb	w8, [x4]
-	ldrb	w20, [x5, #1]
+	ldrb	w21, [x5, #1]
 	mov	x19, x0
 	stp	x1, x2, [sp, #40]
 	sub	x26, x29, #192
@@ -5642,21 +5642,21 @@
 	stp	q0, q0, [x26, #96]
 	stp	q0, q0, [x26, #128]
 	bl	"gpsk_messages::reading::read_gpsk_message"
-	ldurb	w8, [x29, #-192]
-	ldurb	w9, [x29, #-191]
-	mov	w28, wzr
-	mov	w23, wzr
-	cmp	w8, #1
-	mov	w8, #22
-	csel	w8, w9, w8, eq
-	b	.LBBfa406_16
+	ldurb	w9, [x29, #-192]
+	ldurb	w10, [x29, #-191]
+	mov	w27, wzr
+	mov	w8, wzr
+	cmp	w9, #1
+	mov	w9, #22
+	csel	w9, w10, w9, eq
+	b	.LBBfa406_18
 .LBBfa406_2:
-	mov	x22, x3
+	mov	x23, x3
 	movi	v0.2d, #0000000000000000
 	mov	w9, #16
-	ldrb	w8, [x22, #32]!
+	ldrb	w8, [x23, #32]!
 	stp	x4, x7, [sp, #24]
-	add	x27, sp, #224
+	add	x28, sp, #224
 	mov	x25, x3
 	sub	x0, x29, #192
 	cmp	w8, #0
@@ -5665,170 +5665,145 @@
 	csel	w4, w9, w8, eq
 	mov	w3, #1
 	stur	xzr, [x29, #-32]
-	stp	q0, q0, [x27, #160]
-	add	x28, sp, #64
-	mov	x21, x5
-	stp	q0, q0, [x27, #192]
-	stp	q0, q0, [x27, #224]
-	stp	q0, q0, [x27, #256]
-	stp	q0, q0, [x27, #288]
-	str	x2, [sp, #16]
+	stp	q0, q0, [x28, #160]
+	add	x27, sp, #64
+	mov	x20, x5
+	stp	q0, q0, [x28, #192]
+	mov	x24, x2
+	stp	q0, q0, [x28, #224]
+	stp	q0, q0, [x28, #256]
+	stp	q0, q0, [x28, #288]
 	bl	"gpsk_messages::reading::read_gpsk_message"
-	ldp	q0, q1, [x27, #272]
-	mov	w23, wzr
-	ldr	q2, [x27, #304]
+	ldp	q0, q1, [x28, #272]
+	ldr	q2, [x28, #304]
 	ldur	x8, [x29, #-32]
-	ldurb	w9, [x29, #-192]
-	ldur	w24, [x29, #-180]
+	ldurb	w9, [x29, #-191]
+	ldurb	w10, [x29, #-184]
+	ldur	w22, [x29, #-180]
 	str	q0, [sp, #160]
-	cmp	w9, #1
-	ldurb	w9, [x29, #-184]
-	stp	q1, q2, [x28, #112]
-	ldp	q0, q1, [x27, #208]
+	stp	q1, q2, [x27, #112]
+	ldp	q0, q1, [x28, #208]
 	str	x8, [sp, #208]
-	ldurb	w8, [x29, #-191]
+	ldurb	w8, [x29, #-192]
 	stp	q0, q1, [sp, #96]
-	ldp	q0, q1, [x27, #240]
+	ldp	q0, q1, [x28, #240]
+	cmp	w8, #1
+	mov	w8, wzr
 	stp	q0, q1, [sp, #128]
-	ldp	q2, q0, [x27, #176]
+	ldp	q2, q0, [x28, #176]
 	stp	q2, q0, [sp, #64]
 	b.ne	.LBBfa406_4
-	mov	w28, wzr
-	b	.LBBfa406_16
+	mov	w27, wzr
+	b	.LBBfa406_18
 .LBBfa406_4:
 	ldr	q0, [sp, #160]
-	ldr	x8, [sp, #208]
-	cmp	w9, #2
-	ldr	x10, [x29, #96]
-	stp	w9, w24, [sp, #224]
-	stur	q0, [x27, #104]
-	ldp	q1, q0, [x28, #112]
-	str	x8, [sp, #376]
-	mov	w8, #22
-	stur	q1, [x27, #120]
-	stur	q0, [x27, #136]
+	ldr	x9, [sp, #208]
+	cmp	w10, #2
+	ldr	x11, [x29, #96]
+	stp	w10, w22, [sp, #224]
+	stur	q0, [x28, #104]
+	ldp	q1, q0, [x27, #112]
+	str	x9, [sp, #376]
+	mov	w9, #22
+	stur	q1, [x28, #120]
+	stur	q0, [x28, #136]
 	ldp	q1, q0, [sp, #96]
-	stur	q1, [x27, #40]
-	stur	q0, [x27, #56]
+	stur	q1, [x28, #40]
+	stur	q0, [x28, #56]
 	ldp	q1, q0, [sp, #128]
-	stur	q1, [x27, #72]
-	stur	q0, [x27, #88]
+	stur	q1, [x28, #72]
+	stur	q0, [x28, #88]
 	ldp	q1, q0, [sp, #64]
-	stur	q1, [x27, #8]
-	stur	q0, [x27, #24]
+	stur	q1, [x28, #8]
+	stur	q0, [x28, #24]
 	b.gt	.LBBfa406_9
-	cmp	w9, #2
-	mov	w28, w23
-	b.lo	.LBBfa406_16
+	cmp	w10, #2
+	mov	w27, w8
+	b.lo	.LBBfa406_18
 	add	x8, sp, #224
 	add	x0, sp, #40
-	mov	x24, x10
+	mov	x22, x11
 	add	x1, x8, #8
 	bl	"gpsk_ends::peer::login::Login::repeats"
-	cbz	w0, .LBBfa406_15
-	ldr	x3, [sp, #16]
+	cbz	w0, .LBBfa406_14
 	add	x0, x25, #272
 	add	x1, sp, #224
-	add	x2, x21, #5
+	add	x2, x20, #5
+	mov	x3, x24
 	bl	"gpsk_ends::keys::is_tagged"
-	cbz	w0, .LBBfa406_14
-	mov	w23, #1
-	mov	x5, x24
-	movi	v0.2d, #0000000000000000
-	str	x23, [x5], #8
-	adrp	x9, .Lstatic.6
-	add	x9, x9, :lo12:.Lstatic.6
-	ldrb	w8, [x22]
-	mov	w10, #32
-	ldr	x4, [sp, #32]
-	sub	x1, x29, #192
-	mov	x0, x22
-	cmp	w8, #0
-	adrp	x8, .Lstatic.10
-	add	x8, x8, :lo12:.Lstatic.10
-	csel	x8, x9, x8, eq
-	mov	w9, #3
-	stp	q0, q0, [x27, #160]
-	stur	w9, [x29, #-192]
-	adrp	x9, .Lstatic.54
-	add	x9, x9, :lo12:.Lstatic.54
-	stp	q0, q0, [x27, #192]
-	mov	w2, #1
-	mov	w3, w20
-	stp	q0, q0, [x27, #224]
-	stp	q0, q0, [x27, #256]
-	stp	q0, q0, [x27, #288]
-	stur	x9, [x29, #-184]
-	mov	w9, #16
-	csel	x9, x9, x10, eq
-	stp	x8, x9, [x29, #-168]
-	bl	"gpsk_ends::keys::Keys::seal::<#e0641de541981142>"
-	ldr	x8, [sp, #24]
-	mov	w9, #257
-	mov	w28, #1
-	strh	w9, [x8]
-	mov	w8, #4
-	b	.LBBfa406_16
+	cbz	w0, .LBBfa406_16
+	ldp	x2, x7, [sp, #24]
+	sub	x0, x29, #192
+	add	x1, sp, #40
+	add	x4, sp, #224
+	add	x5, x20, #5
+	mov	w3, w21
+	mov	x6, x24
+	str	x22, [sp]
+	bl	"gpsk_ends::peer::turns::confirm_again::<#e0641de541981142>"
+	ldurb	w27, [x29, #-192]
+	ldurb	w9, [x29, #-191]
+	ldurb	w8, [x29, #-190]
+	b	.LBBfa406_18
 .LBBfa406_9:
 	ldr	x0, [sp, #32]
-	cmp	w9, #3
-	mov	w28, w23
-	b.eq	.LBBfa406_16
-	cmp	w9, #4
-	str	x10, [sp, #8]
+	cmp	w10, #3
+	mov	w27, w8
+	b.eq	.LBBfa406_18
+	cmp	w10, #4
+	str	x11, [sp, #16]
 	b.ne	.LBBfa406_12
 	movi	v0.2d, #0000000000000000
 	mov	w8, #4
 	sub	x1, x29, #192
 	mov	w2, #1
-	mov	w3, w20
-	stp	w8, w24, [x29, #-192]
+	mov	w3, w21
+	stp	w8, w22, [x29, #-192]
 	stur	xzr, [x29, #-40]
-	mov	w28, #1
-	stur	q0, [x27, #168]
-	stur	q0, [x27, #184]
-	stur	q0, [x27, #200]
-	stur	q0, [x27, #216]
-	stur	q0, [x27, #232]
-	stur	q0, [x27, #248]
+	mov	w27, #1
+	stur	q0, [x28, #168]
+	stur	q0, [x28, #184]
+	stur	q0, [x28, #200]
+	stur	q0, [x28, #216]
+	stur	q0, [x28, #232]
+	stur	q0, [x28, #248]
 	stur	q0, [x26, #104]
 	stur	q0, [x26, #120]
 	stur	q0, [x26, #136]
 	bl	"gpsk_messages::writing::write_gpsk_into"
-	ldr	x8, [sp, #8]
-	ldr	x9, [sp, #24]
-	mov	w23, wzr
-	stp	xzr, xzr, [x8]
-	mov	w8, #3
-	strh	w28, [x9]
-	b	.LBBfa406_16
+	ldp	x9, x10, [sp, #16]
+	mov	w8, wzr
+	stp	xzr, xzr, [x9]
+	mov	w9, #3
+	strh	w27, [x10]
+	b	.LBBfa406_18
 .LBBfa406_12:
-	ldr	x3, [sp, #16]
 	add	x0, x25, #272
 	add	x1, sp, #224
-	add	x2, x21, #5
+	add	x2, x20, #5
+	mov	x3, x24
 	bl	"gpsk_ends::keys::is_tagged"
-	cbz	w0, .LBBfa406_14
-	ldr	x5, [sp, #8]
-	mov	w28, #1
+	cbz	w0, .LBBfa406_15
+	ldr	x5, [sp, #16]
+	mov	w27, #1
 	movi	v0.2d, #0000000000000000
 	mov	w10, #5
 	adrp	x9, .Lstatic.10
 	add	x9, x9, :lo12:.Lstatic.10
-	str	x28, [x5], #8
+	str	x27, [x5], #8
 	ldr	x4, [sp, #32]
-	ldrb	w8, [x22]
-	stp	w10, w24, [x29, #-192]
+	ldrb	w8, [x23]
+	stp	w10, w22, [x29, #-192]
 	adrp	x10, .Lstatic.6
 	add	x10, x10, :lo12:.Lstatic.6
 	sub	x1, x29, #192
-	mov	x0, x22
+	mov	x0, x23
 	cmp	w8, #0
 	mov	w8, #32
 	mov	w2, #1
 	csel	x9, x10, x9, eq
 	mov	w10, #16
-	mov	w3, w20
+	mov	w3, w21
 	csel	x8, x10, x8, eq
 	stur	xzr, [x29, #-40]
 	stur	q0, [x26, #136]
@@ -5841,24 +5816,29 @@
 	stur	q0, [x26, #24]
 	stp	x9, x8, [x29, #-184]
 	bl	"gpsk_ends::keys::Keys::seal::<#e0641de541981142>"
-	ldr	x8, [sp, #24]
-	mov	w23, wzr
-	strh	w28, [x8]
-	mov	w8, #3
-	b	.LBBfa406_16
+	ldr	x9, [sp, #24]
+	mov	w8, wzr
+	strh	w27, [x9]
+	mov	w9, #3
+	b	.LBBfa406_18
 .LBBfa406_14:
-	mov	w23, wzr
-	mov	w28, wzr
-	mov	w8, #28
-	b	.LBBfa406_16
+	mov	w8, wzr
+	mov	w27, wzr
+	mov	w9, #25
+	b	.LBBfa406_18
 .LBBfa406_15:
-	mov	w23, wzr
-	mov	w28, wzr
-	mov	w8, #25
+	mov	w8, wzr
+	mov	w27, wzr
+	b	.LBBfa406_17
 .LBBfa406_16:
-	strb	w28, [x19]
-	strb	w8, [x19, #1]
-	strb	w23, [x19, #2]
+	mov	w27, wzr
+	mov	w8, wzr
+.LBBfa406_17:
+	mov	w9, #28
+.LBBfa406_18:
+	strb	w27, [x19]
+	strb	w9, [x19, #1]
+	strb	w8, [x19, #2]
 	add	sp, sp, #576
 	ldp	x20, x19, [sp, #80]
 	ldp	x22, x21, [sp, #64]
@@ -6184,6 +6164,79 @@
 	ret
 .Lfunc_end48f2f:
 	.size	"octet_lists::comparison::equal_in_full", .Lfunc_end48f2f-"octet_lists::comparison::equal_in_full"
+
+	.section	".text.gpsk_ends::peer::turns::confirm_again::<#e0641de541981142>","ax",@progbits
+	.p2align	2
+	.type	"gpsk_ends::peer::turns::confirm_again::<#e0641de541981142>",@function
+"gpsk_ends::peer::turns::confirm_again::<#e0641de541981142>":
+	sub	sp, sp, #224
+	stp	x24, x23, [sp, #176]
+	mov	x23, x1
+	mov	x1, x4
+	ldr	x8, [x23, #16]
+	stp	x22, x21, [sp, #192]
+	mov	w22, w3
+	stp	x20, x19, [sp, #208]
+	mov	x21, x2
+	mov	x19, x0
+	add	x0, x8, #272
+	mov	x2, x5
+	mov	x3, x6
+	stp	x29, x30, [sp, #160]
+	add	x29, sp, #160
+	mov	x20, x7
+	bl	"gpsk_ends::keys::is_tagged"
+	cbz	w0, .LBB22a18_2
+	ldr	x5, [x29, #64]
+	mov	w24, #1
+	movi	v0.2d, #0000000000000000
+	adrp	x9, .Lstatic.6
+	add	x9, x9, :lo12:.Lstatic.6
+	mov	w10, #32
+	str	x24, [x5], #8
+	mov	x1, sp
+	ldr	x0, [x23, #16]
+	mov	w2, #1
+	mov	w3, w22
+	stp	q0, q0, [sp]
+	mov	x4, x20
+	ldrb	w8, [x0, #32]!
+	stp	q0, q0, [sp, #32]
+	stp	q0, q0, [sp, #64]
+	cmp	w8, #0
+	adrp	x8, .Lstatic.10
+	add	x8, x8, :lo12:.Lstatic.10
+	csel	x8, x9, x8, eq
+	mov	w9, #3
+	stp	q0, q0, [sp, #96]
+	str	w9, [sp]
+	adrp	x9, .Lstatic.54
+	add	x9, x9, :lo12:.Lstatic.54
+	str	x9, [sp, #8]
+	mov	w9, #16
+	csel	x9, x9, x10, eq
+	stp	q0, q0, [sp, #128]
+	stp	x8, x9, [sp, #24]
+	bl	"gpsk_ends::keys::Keys::seal::<#e0641de541981142>"
+	mov	w8, #257
+	strh	w8, [x21]
+	mov	w8, #4
+	b	.LBB22a18_3
+.LBB22a18_2:
+	mov	w24, wzr
+	mov	w8, #28
+.LBB22a18_3:
+	strb	w24, [x19]
+	ldp	x22, x21, [sp, #192]
+	strb	w8, [x19, #1]
+	ldp	x29, x30, [sp, #160]
+	strb	w24, [x19, #2]
+	ldp	x20, x19, [sp, #208]
+	ldp	x24, x23, [sp, #176]
+	add	sp, sp, #224
+	ret
+.Lfunc_end22a18:
+	.size	"gpsk_ends::peer::turns::confirm_again::<#e0641de541981142>", .Lfunc_end22a18-"gpsk_ends::peer::turns::confirm_again::<#e0641de541981142>"
 
 	.section	".text.gpsk_ends::peer::GpskPeerPeerMethod::handle_into","ax",@progbits
 	.p2align	2
@@ -7135,7 +7188,7 @@
 	stp	x20, x19, [sp, #80]
 	sub	sp, sp, #576
 	ldrb	w8, [x4]
-	ldrb	w20, [x5, #1]
+	ldrb	w21, [x5, #1]
 	mov	x19, x0
 	sub	x26, x29, #192
 	sub	x23, x6, #5
@@ -7159,22 +7212,22 @@
 	stp	q0, q0, [x26, #96]
 	stp	q0, q0, [x26, #128]
 	bl	"gpsk_messages::reading::read_gpsk_message"
-	ldurb	w8, [x29, #-192]
-	ldurb	w9, [x29, #-191]
-	mov	w25, wzr
-	mov	w24, wzr
-	cmp	w8, #1
-	mov	w8, #22
-	csel	w8, w9, w8, eq
-	b	.LBB48011_16
+	ldurb	w9, [x29, #-192]
+	ldurb	w10, [x29, #-191]
+	mov	w28, wzr
+	mov	w8, wzr
+	cmp	w9, #1
+	mov	w9, #22
+	csel	w9, w10, w9, eq
+	b	.LBB48011_18
 .LBB48011_2:
-	mov	x22, x3
+	mov	x24, x3
 	movi	v0.2d, #0000000000000000
 	mov	w9, #16
-	ldrb	w8, [x22, #32]!
-	stp	x1, x4, [sp, #8]
-	add	x27, sp, #224
-	mov	x21, x3
+	ldrb	w8, [x24, #32]!
+	stp	x1, x4, [sp, #16]
+	add	x20, sp, #224
+	mov	x25, x3
 	sub	x0, x29, #192
 	cmp	w8, #0
 	mov	w8, #32
@@ -7182,192 +7235,159 @@
 	csel	w4, w9, w8, eq
 	mov	x2, x23
 	mov	w3, #1
-	stp	x7, x5, [sp, #24]
-	add	x25, sp, #64
+	str	x7, [sp, #32]
+	add	x28, sp, #64
+	mov	x27, x5
 	stur	xzr, [x29, #-32]
-	stp	q0, q0, [x27, #160]
-	stp	q0, q0, [x27, #192]
-	stp	q0, q0, [x27, #224]
-	stp	q0, q0, [x27, #256]
-	stp	q0, q0, [x27, #288]
+	stp	q0, q0, [x20, #160]
+	stp	q0, q0, [x20, #192]
+	stp	q0, q0, [x20, #224]
+	stp	q0, q0, [x20, #256]
+	stp	q0, q0, [x20, #288]
 	bl	"gpsk_messages::reading::read_gpsk_message"
-	ldp	q0, q1, [x27, #272]
-	mov	w24, wzr
-	ldr	q2, [x27, #304]
+	ldp	q0, q1, [x20, #272]
+	ldr	q2, [x20, #304]
 	ldur	x8, [x29, #-32]
-	ldurb	w9, [x29, #-192]
-	ldur	w28, [x29, #-180]
+	ldurb	w9, [x29, #-191]
+	ldurb	w10, [x29, #-184]
+	ldur	w22, [x29, #-180]
 	str	q0, [sp, #160]
-	cmp	w9, #1
-	ldurb	w9, [x29, #-184]
-	stp	q1, q2, [x25, #112]
-	ldp	q0, q1, [x27, #208]
+	stp	q1, q2, [x28, #112]
+	ldp	q0, q1, [x20, #208]
 	str	x8, [sp, #208]
-	ldurb	w8, [x29, #-191]
+	ldurb	w8, [x29, #-192]
 	stp	q0, q1, [sp, #96]
-	ldp	q0, q1, [x27, #240]
+	ldp	q0, q1, [x20, #240]
+	cmp	w8, #1
+	mov	w8, wzr
 	stp	q0, q1, [sp, #128]
-	ldp	q2, q0, [x27, #176]
+	ldp	q2, q0, [x20, #176]
 	stp	q2, q0, [sp, #64]
 	b.ne	.LBB48011_4
-	mov	w25, wzr
-	b	.LBB48011_16
+	mov	w28, wzr
+	b	.LBB48011_18
 .LBB48011_4:
 	ldr	q0, [sp, #160]
-	ldr	x8, [sp, #208]
-	cmp	w9, #2
-	ldr	x11, [x29, #96]
-	stp	w9, w28, [sp, #224]
-	stur	q0, [x27, #104]
-	ldp	q1, q0, [x25, #112]
-	str	x8, [sp, #376]
-	mov	w8, #22
-	stur	q1, [x27, #120]
-	stur	q0, [x27, #136]
+	ldr	x9, [sp, #208]
+	cmp	w10, #2
+	ldr	x12, [x29, #96]
+	stp	w10, w22, [sp, #224]
+	stur	q0, [x20, #104]
+	ldp	q1, q0, [x28, #112]
+	str	x9, [sp, #376]
+	mov	w9, #22
+	stur	q1, [x20, #120]
+	stur	q0, [x20, #136]
 	ldp	q1, q0, [sp, #96]
-	stur	q1, [x27, #40]
-	stur	q0, [x27, #56]
+	stur	q1, [x20, #40]
+	stur	q0, [x20, #56]
 	ldp	q1, q0, [sp, #128]
-	stur	q1, [x27, #72]
-	stur	q0, [x27, #88]
+	stur	q1, [x20, #72]
+	stur	q0, [x20, #88]
 	ldp	q1, q0, [sp, #64]
-	stur	q1, [x27, #8]
-	stur	q0, [x27, #24]
+	stur	q1, [x20, #8]
+	stur	q0, [x20, #24]
 	b.gt	.LBB48011_9
-	cmp	w9, #2
-	mov	w25, w24
-	b.lo	.LBB48011_16
+	cmp	w10, #2
+	mov	w28, w8
+	b.lo	.LBB48011_18
 	add	x8, sp, #224
 	add	x0, sp, #40
-	mov	x24, x11
+	mov	x20, x12
 	add	x1, x8, #8
 	bl	"gpsk_ends::peer::login::Login::repeats"
-	cbz	w0, .LBB48011_15
-	ldr	x8, [sp, #32]
-	add	x0, x21, #272
-	add	x1, sp, #224
-	mov	x3, x23
-	add	x2, x8, #5
-	bl	"gpsk_ends::keys::is_tagged"
 	cbz	w0, .LBB48011_14
-	ldr	x8, [sp, #32]
-	ldr	x21, [sp, #8]
+	add	x0, x25, #272
 	add	x1, sp, #224
-	mov	x0, x24
+	add	x2, x27, #5
 	mov	x3, x23
-	add	x2, x8, #5
-	add	x4, x21, #552
-	bl	"gpsk_ends::records::record::<#feaa62f0055f02db>"
-	movi	v0.2d, #0000000000000000
-	ldrb	w8, [x22]
-	adrp	x9, .Lstatic.6
-	add	x9, x9, :lo12:.Lstatic.6
-	mov	w10, #32
-	ldr	x5, [sp, #24]
-	cmp	w8, #0
-	adrp	x8, .Lstatic.10
-	add	x8, x8, :lo12:.Lstatic.10
-	csel	x8, x9, x8, eq
-	mov	w9, #3
-	sub	x1, x29, #192
-	stp	q0, q0, [x27, #160]
-	add	x4, x21, #552
-	add	x6, x24, #3280
-	stur	w9, [x29, #-192]
-	adrp	x9, .Lstatic.54
-	add	x9, x9, :lo12:.Lstatic.54
-	stp	q0, q0, [x27, #192]
-	mov	x0, x22
-	mov	w2, #1
-	stp	q0, q0, [x27, #224]
-	mov	w3, w20
-	mov	w24, #1
-	stp	q0, q0, [x27, #256]
-	stp	q0, q0, [x27, #288]
-	stur	x9, [x29, #-184]
-	mov	w9, #16
-	csel	x9, x9, x10, eq
-	stp	x8, x9, [x29, #-168]
-	bl	"gpsk_ends::keys::Keys::seal::<#feaa62f0055f02db>"
-	ldr	x8, [sp, #16]
-	mov	w9, #257
-	mov	w25, #1
-	strh	w9, [x8]
-	mov	w8, #4
-	b	.LBB48011_16
+	bl	"gpsk_ends::keys::is_tagged"
+	cbz	w0, .LBB48011_16
+	ldp	x2, x7, [sp, #24]
+	sub	x0, x29, #192
+	add	x1, sp, #40
+	add	x4, sp, #224
+	add	x5, x27, #5
+	mov	w3, w21
+	mov	x6, x23
+	str	x20, [sp]
+	bl	"gpsk_ends::peer::turns::confirm_again::<#feaa62f0055f02db>"
+	ldurb	w28, [x29, #-192]
+	ldurb	w9, [x29, #-191]
+	ldurb	w8, [x29, #-190]
+	b	.LBB48011_18
 .LBB48011_9:
-	ldp	x0, x10, [sp, #24]
-	cmp	w9, #3
-	mov	w25, w24
-	b.eq	.LBB48011_16
-	cmp	w9, #4
-	str	x11, [sp]
+	ldr	x0, [sp, #32]
+	cmp	w10, #3
+	mov	w28, w8
+	b.eq	.LBB48011_18
+	cmp	w10, #4
+	str	x12, [sp, #8]
 	b.ne	.LBB48011_12
 	movi	v0.2d, #0000000000000000
 	mov	w8, #4
 	sub	x1, x29, #192
 	mov	w2, #1
-	mov	w3, w20
-	stp	w8, w28, [x29, #-192]
+	mov	w3, w21
+	stp	w8, w22, [x29, #-192]
 	stur	xzr, [x29, #-40]
-	mov	w25, #1
-	stur	q0, [x27, #168]
-	stur	q0, [x27, #184]
-	stur	q0, [x27, #200]
-	stur	q0, [x27, #216]
-	stur	q0, [x27, #232]
-	stur	q0, [x27, #248]
+	mov	w28, #1
+	stur	q0, [x20, #168]
+	stur	q0, [x20, #184]
+	stur	q0, [x20, #200]
+	stur	q0, [x20, #216]
+	stur	q0, [x20, #232]
+	stur	q0, [x20, #248]
 	stur	q0, [x26, #104]
 	stur	q0, [x26, #120]
 	stur	q0, [x26, #136]
 	bl	"gpsk_messages::writing::write_gpsk_into"
 	movi	v0.2d, #0000000000000000
-	ldr	x8, [sp]
-	ldr	x9, [sp, #16]
-	mov	w24, wzr
-	str	q0, [x8, #3264]
-	str	q0, [x8, #6544]
-	mov	w8, #3
-	strh	w25, [x9]
-	b	.LBB48011_16
+	ldr	x9, [sp, #8]
+	ldr	x10, [sp, #24]
+	mov	w8, wzr
+	str	q0, [x9, #3264]
+	str	q0, [x9, #6544]
+	mov	w9, #3
+	strh	w28, [x10]
+	b	.LBB48011_18
 .LBB48011_12:
-	add	x0, x21, #272
+	add	x0, x25, #272
 	add	x1, sp, #224
-	add	x2, x10, #5
+	add	x2, x27, #5
 	mov	x3, x23
 	bl	"gpsk_ends::keys::is_tagged"
-	cbz	w0, .LBB48011_14
-	ldp	x24, x21, [sp]
+	cbz	w0, .LBB48011_15
+	ldp	x25, x20, [sp, #8]
 	add	x1, sp, #224
-	ldr	x8, [sp, #32]
+	add	x2, x27, #5
 	mov	x3, x23
-	add	x2, x8, #5
-	add	x4, x21, #552
-	mov	x0, x24
+	add	x4, x20, #552
+	mov	x0, x25
 	bl	"gpsk_ends::records::record::<#feaa62f0055f02db>"
-	ldrb	w8, [x22]
+	ldrb	w8, [x24]
 	movi	v0.2d, #0000000000000000
 	mov	w10, #5
 	adrp	x9, .Lstatic.10
 	add	x9, x9, :lo12:.Lstatic.10
-	stp	w10, w28, [x29, #-192]
+	stp	w10, w22, [x29, #-192]
 	cmp	w8, #0
 	adrp	x10, .Lstatic.6
 	add	x10, x10, :lo12:.Lstatic.6
 	mov	w8, #32
 	csel	x9, x10, x9, eq
 	mov	w10, #16
-	ldr	x5, [sp, #24]
+	ldr	x5, [sp, #32]
 	csel	x8, x10, x8, eq
 	sub	x1, x29, #192
-	add	x4, x21, #552
-	add	x6, x24, #3280
-	mov	x0, x22
+	add	x4, x20, #552
+	add	x6, x25, #3280
+	mov	x0, x24
 	mov	w2, #1
-	mov	w3, w20
+	mov	w3, w21
 	stur	xzr, [x29, #-40]
 	stur	q0, [x26, #136]
-	mov	w25, #1
+	mov	w28, #1
 	stur	q0, [x26, #120]
 	stur	q0, [x26, #104]
 	stur	q0, [x26, #88]
@@ -7377,24 +7397,29 @@
 	stur	q0, [x26, #24]
 	stp	x9, x8, [x29, #-184]
 	bl	"gpsk_ends::keys::Keys::seal::<#feaa62f0055f02db>"
-	ldr	x8, [sp, #16]
-	mov	w24, wzr
-	strh	w25, [x8]
-	mov	w8, #3
-	b	.LBB48011_16
+	ldr	x9, [sp, #24]
+	mov	w8, wzr
+	strh	w28, [x9]
+	mov	w9, #3
+	b	.LBB48011_18
 .LBB48011_14:
-	mov	w24, wzr
-	mov	w25, wzr
-	mov	w8, #28
-	b	.LBB48011_16
+	mov	w8, wzr
+	mov	w28, wzr
+	mov	w9, #25
+	b	.LBB48011_18
 .LBB48011_15:
-	mov	w24, wzr
-	mov	w25, wzr
-	mov	w8, #25
+	mov	w8, wzr
+	mov	w28, wzr
+	b	.LBB48011_17
 .LBB48011_16:
-	strb	w25, [x19]
-	strb	w8, [x19, #1]
-	strb	w24, [x19, #2]
+	mov	w28, wzr
+	mov	w8, wzr
+.LBB48011_17:
+	mov	w9, #28
+.LBB48011_18:
+	strb	w28, [x19]
+	strb	w9, [x19, #1]
+	strb	w8, [x19, #2]
 	add	sp, sp, #576
 	ldp	x20, x19, [sp, #80]
 	ldp	x22, x21, [sp, #64]
@@ -7405,6 +7430,95 @@
 	ret
 .Lfunc_end48011:
 	.size	"gpsk_ends::peer::turns::known_reads::<#feaa62f0055f02db>", .Lfunc_end48011-"gpsk_ends::peer::turns::known_reads::<#feaa62f0055f02db>"
+
+	.section	".text.gpsk_ends::peer::turns::confirm_again::<#feaa62f0055f02db>","ax",@progbits
+	.p2align	2
+	.type	"gpsk_ends::peer::turns::confirm_again::<#feaa62f0055f02db>",@function
+"gpsk_ends::peer::turns::confirm_again::<#feaa62f0055f02db>":
+	sub	sp, sp, #256
+	ldr	x8, [x1, #16]
+	stp	x24, x23, [sp, #208]
+	mov	x23, x1
+	stp	x22, x21, [sp, #224]
+	mov	w22, w3
+	mov	x21, x2
+	stp	x20, x19, [sp, #240]
+	mov	x19, x0
+	add	x0, x8, #272
+	mov	x1, x4
+	mov	x2, x5
+	mov	x3, x6
+	stp	x29, x30, [sp, #160]
+	add	x29, sp, #160
+	mov	x20, x7
+	str	x27, [sp, #176]
+	mov	x27, x4
+	stp	x26, x25, [sp, #192]
+	mov	x25, x6
+	mov	x26, x5
+	bl	"gpsk_ends::keys::is_tagged"
+	cbz	w0, .LBB4552c_2
+	ldr	x24, [x29, #96]
+	ldr	x8, [x23]
+	mov	x1, x27
+	mov	x2, x26
+	mov	x3, x25
+	add	x4, x8, #552
+	mov	x0, x24
+	bl	"gpsk_ends::records::record::<#feaa62f0055f02db>"
+	ldr	x0, [x23, #16]
+	movi	v0.2d, #0000000000000000
+	adrp	x9, .Lstatic.6
+	add	x9, x9, :lo12:.Lstatic.6
+	ldr	x11, [x23]
+	mov	w10, #32
+	ldrb	w8, [x0, #32]!
+	mov	x1, sp
+	add	x4, x11, #552
+	add	x6, x24, #3280
+	mov	w2, #1
+	cmp	w8, #0
+	adrp	x8, .Lstatic.10
+	add	x8, x8, :lo12:.Lstatic.10
+	csel	x8, x9, x8, eq
+	mov	w9, #3
+	stp	q0, q0, [sp]
+	str	w9, [sp]
+	adrp	x9, .Lstatic.54
+	add	x9, x9, :lo12:.Lstatic.54
+	str	x9, [sp, #8]
+	mov	w9, #16
+	mov	w3, w22
+	csel	x9, x9, x10, eq
+	mov	x5, x20
+	stp	q0, q0, [sp, #32]
+	stp	q0, q0, [sp, #64]
+	mov	w20, #1
+	stp	q0, q0, [sp, #96]
+	stp	q0, q0, [sp, #128]
+	stp	x8, x9, [sp, #24]
+	bl	"gpsk_ends::keys::Keys::seal::<#feaa62f0055f02db>"
+	mov	w8, #257
+	strh	w8, [x21]
+	mov	w8, #4
+	b	.LBB4552c_3
+.LBB4552c_2:
+	mov	w20, wzr
+	mov	w8, #28
+.LBB4552c_3:
+	strb	w20, [x19]
+	ldp	x22, x21, [sp, #224]
+	strb	w8, [x19, #1]
+	ldr	x27, [sp, #176]
+	strb	w20, [x19, #2]
+	ldp	x20, x19, [sp, #240]
+	ldp	x24, x23, [sp, #208]
+	ldp	x26, x25, [sp, #192]
+	ldp	x29, x30, [sp, #160]
+	add	sp, sp, #256
+	ret
+.Lfunc_end4552c:
+	.size	"gpsk_ends::peer::turns::confirm_again::<#feaa62f0055f02db>", .Lfunc_end4552c-"gpsk_ends::peer::turns::confirm_again::<#feaa62f0055f02db>"
 
 	.section	".text.gpsk_ends::records::record::<#feaa62f0055f02db>","ax",@progbits
 	.p2align	2
