@@ -15,7 +15,7 @@ def case_site(run: Run) -> Iterator[Optional[str]]:
         small = Small(f"{folder}/small", texts_of("dev/cases/small.texts"))
         made = Path(folder, "site")
         status, out, errors = run(["site", str(made)], root=small.root)
-        yield holds((status, out, errors) == (0, "site: 12 pages, 0 links lead nowhere\n", ""), f"site ends with {status}: {out}{errors}")
+        yield holds((status, out, errors) == (0, "site: 13 pages, 0 links lead nowhere\n", ""), f"site ends with {status}: {out}{errors}")
         low, top, limits = ((made / f"{it}.html").read_text() for it in ("crates/small", "crates/top", "docs/LIMITS"))
         for name in ("Even.IsEven", "Even.DoublesAreEven", "Rest.rest", "Rest.other"):
             yield holds(f'id="specs.{name}"' in low, f"{name} has no place")

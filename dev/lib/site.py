@@ -12,10 +12,10 @@ from pathlib import Path
 from typing import Callable, Iterator, NamedTuple, Optional
 from urllib.parse import quote, unquote
 
-from lib import common, pages
+from lib import common
 from lib.crate_pages import calls_of, declaration_of, is_declared, signature_of, without_links
 from lib.crates import files_of, layers_of, text_here
-from lib.sources import USE, Call, Repository, Source
+from lib.sources import Call, Repository, Source
 
 # The head of a definition or a lemma; a module's stand further in.
 HEAD = re.compile(r"( *)(?:(?:pub|abbrev|unfoldable|opaque|record|data) +)*(?!where\b|use\b)([^\s:({]+)(?= *[:({])")

@@ -217,7 +217,8 @@ def said_in_cases(pattern: str) -> set[str]:
 
 def case_causes(run: Run) -> Iterator[Optional[str]]:
     """The causes are those of the border; a case has each, and each skip."""
-    header = re.findall(r"TUV_CAUSE_(\w+) = \d+", Path("c/tuvaddri.h").read_text())
+    # (those of frames, from 64 on, no text has)
+    header = [it for it, number in re.findall(r"TUV_CAUSE_(\w+) = (\d+)", Path("c/tuvaddri.h").read_text()) if int(number) < 64]
     causes = said_in_cases(r"\d+ (?:cause|malformed) (\w+)$") | said_in_cases(r"\d+ cause (\w+)")
     for what, found, known in (
         ("causes in c/tuvaddri.h", set(header), {re.sub(r"(?<=[a-z])(?=[A-Z])", "_", it.word).upper() for it in words.CAUSES}),
